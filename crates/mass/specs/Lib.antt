@@ -1,0 +1,4 @@
+-- What the contracts of the crate `mass` cite.
+pub mod Refusal
+pub mod Split
+pub mod Laws

@@ -1,0 +1,2 @@
+-- What the contracts of the crate `plan` cite.
+pub mod Plan

@@ -1,0 +1,2 @@
+// The plan file: document 01, section "Plan file".
+// Assumes nothing.

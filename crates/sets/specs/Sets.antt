@@ -1,0 +1,13 @@
+-- Sets as numbers. Document 01, section "Plan file": "Element i is bit i of a set, of value 2^i."
+-- Assumes nothing.
+use mathlib.Core.Bool.{Bool}
+use Prim.Native.Nat.{ℕ, _+_, _*_, _/_, _%_, _^_}
+use lib.Dec.{eqb}
+
+-- whether i is an element of the set s
+unfoldable pub bit : ℕ → ℕ → Bool
+bit s i = eqb (s / 2 ^ i % 2) 1
+
+-- the set of up to 128 elements that two words hold, elements 64 to 127 in the high one
+abbrev pub joined : ℕ → ℕ → ℕ
+joined low high = high * 2 ^ 64 + low
