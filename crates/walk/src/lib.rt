@@ -1,0 +1,2 @@
+// Scenarios and the walk over them: document 01, section "Scenarios".
+// Assumes nothing.
