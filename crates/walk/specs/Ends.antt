@@ -7,9 +7,9 @@ use Prim.Native.Nat.{ℕ, zero, suc, _+_, _-_, _*_, _≤_, _<_}
 use native.Mathlib.Nat.{sub-zero, zero-sub, suc-sub-suc}
 use native.Mathlib.Omega.{arith}
 use lib.Dec.{ltb}
-use lib.ListN.{length, take, drop}
+use lib.ListN.{length, take, drop, length-map}
 use lib.Seq.{take-nil, drop-nil}
-use borrow.Author.Tests.{lt-ltb, le-ltb}
+use borrow.Author.Tests.{lt-ltb, le-ltb, ltb-true, ltb-false}
 use Rattle.mass.specs.Split.{failing, working}
 use Rattle.plan.specs.Plan.{Event}
 use Rattle.walk.specs.Scenario.{Scenario}
@@ -24,6 +24,10 @@ abbrev pub after : Scenario → End → End
 after path dropped = dropped
 after path (relevant s m) = relevant (path ++ s) m
 
+-- the ends of two branches in turn: those where the next event works, then those where it fails
+abbrev pub both : List End → List End → List End
+both works fails = map (after (false ∷ [])) works ++ map (after (true ∷ [])) fails
+
 -- the ends of the walk over the events from the mass m, in order: a scenario is dropped where its mass is below the threshold t;
 -- each event is decided in turn, "works" before "fails"
 unfoldable pub ends : ℕ → ℕ → List Event → List End
@@ -32,8 +36,7 @@ ends t m (e ∷ events) =
     elim (ltb m t) [
       | true ↦ dropped ∷ []
       | false ↦
-          map (after (false ∷ [])) (ends t (working m (e .probability)) events)
-          ++ map (after (true ∷ [])) (ends t (failing m (e .probability)) events)
+          both (ends t (working m (e .probability)) events) (ends t (failing m (e .probability)) events)
     ]
 
 -- the ends that follow a path: m is the mass that the path left, and the events are those not yet decided
@@ -146,3 +149,63 @@ module _ {A : Type 0} where
   take-map f zero xs = refl
   take-map f (suc k) [] = refl
   take-map {B} f (suc k) (x ∷ xs) = ap {B = List B} (λ l. f x ∷ l) (take-map f k xs)
+
+-- law: the first k ends of two branches are first ends of each
+pub take-both : (k : ℕ) (xs ys : List End) → take k (both xs ys) ≡ both (take k xs) (take (k - length xs) ys)
+take-both k xs ys =
+    rw (
+      take-append k (map (after (false ∷ [])) xs) (map (after (true ∷ [])) ys),
+      length-map xs (after (false ∷ [])),
+      take-map (after (false ∷ [])) k xs,
+      take-map (after (true ∷ [])) (k - length xs) ys,
+    )
+
+-- law: sums over the ends of two branches
+pub sumEnds-both : (f : Scenario → ℕ → ℕ) (xs ys : List End)
+    → sumEnds f (both xs ys) ≡ sumEnds (λ s m. f (false ∷ s) m) xs + sumEnds (λ s m. f (true ∷ s) m) ys
+sumEnds-both f xs ys =
+    rw (sumEnds-append f (map (after (false ∷ [])) xs) (map (after (true ∷ [])) ys), sumEnds-after f (false ∷ []) xs, sumEnds-after f (true ∷ []) ys)
+
+-- law: the scenarios of two branches
+pub scenarios-both : (xs ys : List End)
+    → scenarios (both xs ys) ≡ map (λ s. (false ∷ []) ++ s) (scenarios xs) ++ map (λ s. (true ∷ []) ++ s) (scenarios ys)
+scenarios-both xs ys =
+    rw (scenarios-append (map (after (false ∷ [])) xs) (map (after (true ∷ [])) ys), scenarios-after (false ∷ []) xs, scenarios-after (true ∷ []) ys)
+
+-- induction over the first k ends of a walk, k any number: what holds of no end, of a dropped one, of a relevant one with no event left,
+-- and of two branches where it holds of each, holds of the first k ends
+module _ (t : ℕ) (P : ℕ → List Event → List End → Type 0)
+    (none : (m : ℕ) (events : List Event) → P m events [])
+    (cut : (m : ℕ) (events : List Event) → m < t → P m events (dropped ∷ []))
+    (leaf : (m : ℕ) → t ≤ m → P m [] (relevant [] m ∷ []))
+    (node : (m : ℕ) (e : Event) (events : List Event) (xs ys : List End) → t ≤ m
+    → P (working m (e .probability)) events xs → P (failing m (e .probability)) events ys → P m (e ∷ events) (both xs ys)) where
+  one : (k m : ℕ) (events : List Event) (x : End) → P m events (x ∷ []) → P m events (take k (x ∷ []))
+  one zero m events x h = none m events
+  one (suc k) m events x h = rw (take-nil {A = End} k) h
+
+  pub first-ends : (k m : ℕ) (events : List Event) → P m events (take k (ends t m events))
+  first-ends k m [] = step (ltb m t) refl
+    where
+      step : (b : Bool) → ltb m t ≡ b → P m [] (take k (ends t m []))
+      step true c = rw (ends-cut t m [] (ltb-true m t c)) (one k m [] dropped (cut m [] (ltb-true m t c)))
+      step false c = rw (ends-leaf t m (ltb-false m t c)) (one k m [] (relevant [] m) (leaf m (ltb-false m t c)))
+  first-ends k m (e ∷ events) =
+      step
+      (first-ends k (working m (e .probability)) events)
+      (first-ends (k - length (ends t (working m (e .probability)) events)) (failing m (e .probability)) events)
+      (ltb m t)
+      refl
+    where
+      works : List End
+      works = ends t (working m (e .probability)) events
+
+      fails : List End
+      fails = ends t (failing m (e .probability)) events
+
+      step : P (working m (e .probability)) events (take k works) → P (failing m (e .probability)) events (take (k - length works) fails)
+          → (b : Bool) → ltb m t ≡ b → P m (e ∷ events) (take k (ends t m (e ∷ events)))
+      step ihWorks ihFails true c = rw (ends-cut t m (e ∷ events) (ltb-true m t c)) (one k m (e ∷ events) dropped (cut m (e ∷ events) (ltb-true m t c)))
+      step ihWorks ihFails false c =
+          rw (ends-node t m e events (ltb-false m t c), take-both k works fails)
+          (node m e events (take k works) (take (k - length works) fails) (ltb-false m t c) ihWorks ihFails)

@@ -4,3 +4,4 @@ pub mod Ends
 pub mod Member
 pub mod Pending
 pub mod Walk
+pub mod Laws
