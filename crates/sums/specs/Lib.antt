@@ -1,0 +1,3 @@
+-- What the contracts of the crates above `sums` cite.
+pub mod Exact
+pub mod Enclosure
