@@ -118,7 +118,7 @@ module _ (t : ℕ) where
 
 -- the sums of two weights that add up to B, and of a weight that is at most B
 module _ (B : ℕ) where
-  weighed-split : (v w : Scenario → ℕ) → ((s : Scenario) → v s + w s ≡ B) → (list : List End)
+  pub weighed-split : (v w : Scenario → ℕ) → ((s : Scenario) → v s + w s ≡ B) → (list : List End)
       → weighed v list + weighed w list ≡ B * sumEnds (λ s x. x) list
   weighed-split v w h [] = omega arith
   weighed-split v w h (dropped ∷ list) = weighed-split v w h list
@@ -144,7 +144,7 @@ high-step m S U W E B X Y h e₁ e₂ = omega (arith, ap (λ (x : ℕ). x * S) e
 gap-step : (m S E c X R : ℕ) → m * X ≤ (E + c) * S → R + X ≡ 1 * S → m * S ≤ (E + c) * S + m * R
 gap-step m S E c X R h e = omega (arith, ap (λ (x : ℕ). m * x) e)
 
-one-or-other : (b : Bool) → digit (not b) + digit b ≡ 1
+pub one-or-other : (b : Bool) → digit (not b) + digit b ≡ 1
 one-or-other true = refl
 one-or-other false = refl
 

@@ -1,3 +1,4 @@
 -- What the contracts of the crates above `sums` cite.
 pub mod Exact
 pub mod Enclosure
+pub mod Bounds
