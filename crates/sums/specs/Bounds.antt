@@ -1,18 +1,18 @@
 -- The bounds of a pair, and demand 3: document 01, section "Bounds of a pair". The pair stands here for any test `cut` of a scenario,
 -- "its topology disconnects the pair".
 -- Assumes nothing.
-use mathlib.Core.Path.{_≡_, refl, ap, sym, _∙_}
+use mathlib.Core.Path.{_≡_, refl, ap}
 use mathlib.Core.Bool.{Bool, true, false, not}
-use mathlib.Core.List.{List}
+use mathlib.Core.List.{List, [], _∷_}
 use Prim.Native.Nat.{ℕ, _+_, _-_, _*_, _≤_}
 use native.Mathlib.Nat.{mul-le-mul-right}
 use native.Mathlib.Omega.{arith}
-use lib.ListN.{length}
+use lib.ListN.{length, getD}
 use Rattle.mass.specs.Split.{whole}
 use Rattle.plan.specs.Plan.{Plan}
 use Rattle.walk.specs.Scenario.{Scenario, Probabilities, digit}
-use Rattle.walk.specs.Ends.{sumEnds, weighed}
-use Rattle.walk.specs.Walk.{firstEnds, isExamined, massExamined, count, count-sum}
+use Rattle.walk.specs.Ends.{ends, weighed}
+use Rattle.walk.specs.Walk.{firstEnds, massExamined, count, count-sum}
 use Rattle.walk.specs.Laws.{massExamined-le}
 use Rattle.sums.specs.Exact.{exactSum, scale, exactCut, exactMissed}
 use Rattle.sums.specs.Enclosure.{Enclosed, enclosure, weighed-split, one-or-other}
@@ -88,3 +88,22 @@ module _ (p : Plan) (q : Probabilities (p .events)) (cut : Scenario → Bool) wh
 
       held : Enclosed whole (p .events) (firstEnds p) 1 (λ s. digit (cut s))
       held = enclosure (p .threshold) (p .limit) whole (p .events) q 1 (λ s. digit (cut s)) (λ s. at-most (cut s))
+
+-- examples: one event of probability 1/10 that cuts the pair, with room for both ends of the walk and for one
+abbrev example : ℕ → Plan
+example limit = record { nodes = 2; links = []; events = record { probability = 100000000; nodes = 0; links = 1 } ∷ []; threshold = 1; limit = limit }
+
+abbrev cuts : Scenario → Bool
+cuts s = getD s 0 false
+
+example-both : (lower (example 2) cuts ≡ 100000000000000000) × (upper (example 2) cuts ≡ 100000000000000000)
+unfolding ends
+example-both = (refl, refl)
+
+example-one : (lower (example 1) cuts ≡ 0) × (upper (example 1) cuts ≡ 100000000000000000)
+unfolding ends
+example-one = (refl, refl)
+
+example-exact : (exactCut (example 2) cuts ≡ 100000000) × (exactMissed (example 2) ≡ 0) × (exactMissed (example 1) ≡ 100000000)
+unfolding ends exactSum
+example-exact = (refl, refl, refl)

@@ -2,3 +2,4 @@
 pub mod Exact
 pub mod Enclosure
 pub mod Bounds
+pub mod Laws

@@ -2,7 +2,8 @@
 -- Assumes nothing.
 use mathlib.Core.Path.{_≡_, refl, ap, sym, subst₂}
 use mathlib.Core.Bool.{Bool, true, false}
-use mathlib.Core.Logic.{_↔_, ⊎-elim}
+use mathlib.Core.Logic.{_≢_, _↔_, ⊎-elim}
+use mathlib.Core.List.{List·Nodup, Pairwise·nil, pairwise-singleton}
 use mathlib.Core.List.{List, [], _∷_, _++_, map, List·Memᴰ, List·Memᴰ·head, List·Memᴰ·tail, List·Memᴰ·not-nil, List·Memᴰ·cases-cons}
 use mathlib.Core.List.{List·Memᴰ·append-cases, Memᴰ·of-map, Memᴰ·map, Memᴰ·append-left, Memᴰ·append-right, Memᴰ·cast}
 use Prim.Native.Nat.{ℕ, zero, suc, _+_, _*_, _≤_, _<_}
@@ -16,8 +17,8 @@ use Rattle.mass.specs.Laws.{parts-le}
 use Rattle.plan.specs.Plan.{Plan, Event}
 use Rattle.walk.specs.Scenario.{Scenario, digit, Probabilities, part, finalMass, finalMass-le}
 use Rattle.walk.specs.Ends.{End, dropped, relevant, after, ends, endsAfter, sumEnds, scenarios, ends-leaf, ends-node}
-use Rattle.walk.specs.Ends.{both, sumEnds-both, first-ends}
-use Rattle.walk.specs.Member.{among, among-member, member-among}
+use Rattle.walk.specs.Ends.{both, sumEnds-both, scenarios-both, first-ends}
+use Rattle.walk.specs.Member.{among, among-member, member-among, distinct-both}
 use Rattle.walk.specs.Walk.{planEnds, firstEnds, examined, isExamined, complete, massExamined, count, count-sum}
 
 -- a scenario that the walk from the mass m finds relevant: one entry for each event, and a final mass of at least t
@@ -209,3 +210,17 @@ count-le p q =
       masses-enough (p .threshold) (p .limit) whole (p .events),
       massExamined-le p q,
     )
+
+-- law: no scenario is examined twice
+pub ends-distinct : (t k m : ℕ) (events : List Event) → List·Nodup (scenarios (take k (ends t m events)))
+ends-distinct t =
+    first-ends
+    t
+    (λ m events list. List·Nodup (scenarios list))
+    (λ m events. Pairwise·nil)
+    (λ m events h. Pairwise·nil)
+    (λ m h. pairwise-singleton (λ (a b : Scenario). a ≢ b) [])
+    (λ m e events xs ys h works fails. rw (scenarios-both xs ys) (distinct-both (scenarios xs) (scenarios ys) works fails))
+
+pub examined-distinct : (p : Plan) → List·Nodup (examined p)
+examined-distinct p = ends-distinct (p .threshold) (p .limit) whole (p .events)
