@@ -3,9 +3,8 @@
 -- Assumes nothing.
 use mathlib.Core.Path.{_≡_, refl, ap}
 use mathlib.Core.Bool.{Bool, true, false, not}
-use mathlib.Core.List.{List, [], _∷_}
+use mathlib.Core.List.{[], _∷_}
 use Prim.Native.Nat.{ℕ, _+_, _-_, _*_, _≤_}
-use native.Mathlib.Nat.{mul-le-mul-right}
 use native.Mathlib.Omega.{arith}
 use lib.ListN.{length, getD}
 use Rattle.mass.specs.Split.{whole}
@@ -42,6 +41,12 @@ above-step h S L U E X a e = omega (arith, ap (λ (x : ℕ). x * S) e)
 
 gap-step : (h S L U E n c R : ℕ) → h * S ≤ (E + n * c) * S + h * R → U + E ≡ L + h → U * S ≤ L * S + (R * h + n * c * S)
 gap-step h S L U E n c R a e = omega (arith, ap (λ (x : ℕ). x * S) e)
+
+difference-step : (S L U X : ℕ) → L ≤ U → U * S ≤ L * S + X → (U - L) * S ≤ X
+difference-step S L U X h a = omega (arith, ap (λ (x : ℕ). x * S) restores)
+  where
+    restores : L + (U - L) ≡ U
+    restores = omega arith
 
 module _ (p : Plan) (q : Probabilities (p .events)) (cut : Scenario → Bool) where
   -- law: every examined mass is in one of the two sums
@@ -88,6 +93,11 @@ module _ (p : Plan) (q : Probabilities (p .events)) (cut : Scenario → Bool) wh
 
       held : Enclosed whole (p .events) (firstEnds p) 1 (λ s. digit (cut s))
       held = enclosure (p .threshold) (p .limit) whole (p .events) q 1 (λ s. digit (cut s)) (λ s. at-most (cut s))
+
+  -- law: its gap as a difference, which loses nothing since lower is at most upper
+  pub demand3-gap : (upper p cut - lower p cut) * scale (length (p .events))
+      ≤ exactMissed p * whole + length (p .events) * count p * scale (length (p .events))
+  demand3-gap = difference-step (scale (length (p .events))) (lower p cut) (upper p cut) _ lower-upper (demand3 .gap)
 
 -- examples: one event of probability 1/10 that cuts the pair, with room for both ends of the walk and for one
 abbrev example : ℕ → Plan

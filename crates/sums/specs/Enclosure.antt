@@ -4,12 +4,11 @@
 use mathlib.Core.Path.{_≡_, refl, ap, fun-ext}
 use mathlib.Core.Bool.{Bool, true, false, not}
 use mathlib.Core.List.{List, [], _∷_}
-use Prim.Native.Nat.{ℕ, zero, suc, _+_, _-_, _*_, _/_, _≤_, _<_}
+use Prim.Native.Nat.{ℕ, suc, _+_, _-_, _*_, _≤_}
 use native.Mathlib.Nat.{mul-le-mul-left, mul-le-mul-right, mul-one}
 use native.Mathlib.Omega.{arith}
 use lib.ListN.{length, take}
 use Rattle.mass.specs.Split.{certain, failing, working}
-use Rattle.mass.specs.Laws.{products}
 use Rattle.plan.specs.Plan.{Event}
 use Rattle.walk.specs.Scenario.{Scenario, Probabilities, digit}
 use Rattle.walk.specs.Ends.{End, dropped, relevant, ends, both, sumEnds, weighed, scenarios, sumEnds-both, scenarios-both, first-ends}

@@ -4,9 +4,9 @@ use mathlib.Core.Path.{_≡_, refl, ap, sym, subst₂}
 use mathlib.Core.Bool.{Bool, true, false}
 use mathlib.Core.Logic.{_≢_, _↔_, ⊎-elim}
 use mathlib.Core.List.{List·Nodup, Pairwise·nil, pairwise-singleton}
-use mathlib.Core.List.{List, [], _∷_, _++_, map, List·Memᴰ, List·Memᴰ·head, List·Memᴰ·tail, List·Memᴰ·not-nil, List·Memᴰ·cases-cons}
-use mathlib.Core.List.{List·Memᴰ·append-cases, Memᴰ·of-map, Memᴰ·map, Memᴰ·append-left, Memᴰ·append-right, Memᴰ·cast}
-use Prim.Native.Nat.{ℕ, zero, suc, _+_, _*_, _≤_, _<_}
+use mathlib.Core.List.{List, [], _∷_, map, List·Memᴰ, List·Memᴰ·head, List·Memᴰ·tail, List·Memᴰ·not-nil, List·Memᴰ·cases-cons}
+use mathlib.Core.List.{List·Memᴰ·append-cases, Memᴰ·of-map, Memᴰ·map, Memᴰ·append-left, Memᴰ·append-right}
+use Prim.Native.Nat.{ℕ, suc, _*_, _≤_}
 use native.Mathlib.Omega.{arith}
 use lib.Dec.{leb}
 use lib.ListN.{length, take}
@@ -18,7 +18,7 @@ use Rattle.plan.specs.Plan.{Plan, Event}
 use Rattle.walk.specs.Scenario.{Scenario, digit, Probabilities, part, finalMass, finalMass-le}
 use Rattle.walk.specs.Ends.{End, dropped, relevant, after, ends, endsAfter, sumEnds, scenarios, ends-leaf, ends-node}
 use Rattle.walk.specs.Ends.{both, sumEnds-both, scenarios-both, first-ends}
-use Rattle.walk.specs.Member.{among, among-member, member-among, distinct-both}
+use Rattle.walk.specs.Member.{among-member, member-among, distinct-both}
 use Rattle.walk.specs.Walk.{planEnds, firstEnds, examined, isExamined, complete, massExamined, count, count-sum}
 
 -- a scenario that the walk from the mass m finds relevant: one entry for each event, and a final mass of at least t

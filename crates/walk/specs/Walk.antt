@@ -3,12 +3,12 @@
 use mathlib.Core.Path.{_≡_, refl}
 use mathlib.Core.Bool.{Bool, true, false}
 use mathlib.Core.List.{List, [], _∷_}
-use Prim.Native.Nat.{ℕ, _≤_}
+use Prim.Native.Nat.{ℕ}
 use lib.Dec.{leb}
 use lib.ListN.{length, take}
 use Rattle.mass.specs.Split.{whole}
-use Rattle.plan.specs.Plan.{Plan, Event}
-use Rattle.walk.specs.Scenario.{Scenario, digit, finalMass}
+use Rattle.plan.specs.Plan.{Plan}
+use Rattle.walk.specs.Scenario.{Scenario, digit}
 use Rattle.walk.specs.Ends.{End, dropped, relevant, ends, sumEnds, scenarios, scenarios-count}
 use Rattle.walk.specs.Member.{among}
 
