@@ -5,3 +5,4 @@ pub mod Member
 pub mod Pending
 pub mod Walk
 pub mod Laws
+pub mod Stack

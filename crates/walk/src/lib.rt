@@ -1,2 +1,77 @@
 // Scenarios and the walk over them: document 01, section "Scenarios".
 // Assumes nothing.
+ghost use mathlib.Core.Path.{_≡_};
+ghost use mathlib.Core.List.{[], _∷_};
+ghost use Prim.Native.Nat.{_+_, _*_, _^_, _≤_, _<_};
+ghost use lib.ListN.{length, getD, drop};
+ghost use Rattle.sets.specs.Sets.{joined};
+ghost use Rattle.plan.specs.Lists.{eventsOf};
+ghost use Rattle.walk.specs.Scenario.{Probabilities};
+ghost use Rattle.walk.specs.Stack.{Stack, Stepped, Deciding, Decided};
+
+// A set of events in two words, events 64 to 127 in the high one.
+pub struct Failing {
+    pub low: u64,
+    pub high: u64,
+}
+
+// What a step of the walk hands out: where the stack now begins, and the end: whether it is relevant, its mass and its failing events
+// (0 where it is dropped).
+pub struct Next {
+    pub at: usize,
+    pub relevant: bool,
+    pub mass: u64,
+    pub low: u64,
+    pub high: u64,
+}
+
+// The set of failing events with one event more, that comes after all of them.
+fn with_event(low: u64, high: u64, event: u64) -> Failing
+    requires { ⌜ (low < 2 ^ 64) × (event < 128) × (joined low high < 2 ^ event) ⌝ }
+    ensures { λ r. ⌜ joined (r .low) (r .high) ≡ joined low high + 2 ^ event ⌝ }
+{
+    if event < 64 {
+        return Failing {
+            low: low + (1 << event),
+            high,
+        };
+    }
+    Failing {
+        low,
+        high: high + (1 << (event - 64)),
+    }
+}
+
+// Lays a pending branch down in four words of the stack.
+fn put(stack: &mut [u64; 512], at: usize, depth: u64, mass: u64, failing: Failing)
+    requires { ⌜ (at + 4 ≤ 512) × (length (now stack) ≡ 512) ⌝ }
+    ensures { λ r. ⌜ drop at (now (stack .exit)) ≡ depth ∷ mass ∷ failing .low ∷ failing .high ∷ drop (at + 4) (now (stack .entry)) ⌝ }
+    ensures { λ r. ⌜ length (now (stack .exit)) ≡ 512 ⌝ }
+{
+    stack[at] = depth;
+    stack[at + 1] = mass;
+    stack[at + 2] = failing.low;
+    stack[at + 3] = failing.high;
+}
+
+// Decides the event at a depth: the branch where it fails goes to the stack, and the mass where it works is returned.
+fn decide(
+    events: &[u64; 512],
+    stack: &mut [u64; 512],
+    at: usize,
+    depth: u64,
+    mass: u64,
+    low: u64,
+    high: u64,
+) -> u64
+    requires { ⌜ Deciding (getD (now events) (depth * 4) 0) depth mass low high at (now stack) ⌝ }
+    ensures { λ r. ⌜ Decided (getD (now (events .entry)) (depth * 4) 0) depth mass low high at (now (stack .entry)) (now (stack .exit)) r ⌝ }
+{
+    let q = events[depth as usize * 4];
+    let failing = with_event(low, high, depth);
+    let whole = mass::Mass { units: mass };
+    let fails = whole.share(q);
+    put(stack, at, depth + 1, fails.units, failing);
+    let works = whole.share(mass::CERTAIN - q);
+    works.units
+}
