@@ -1,2 +1,3 @@
 -- Laws that the proofs of the crate `walk` share.
 pub mod Words
+pub mod Step

@@ -75,3 +75,44 @@ fn decide(
     let works = whole.share(mass::CERTAIN - q);
     works.units
 }
+
+// The next end of the walk: takes the next pending branch off the stack and goes down its "works" side, leaving each "fails" side pending.
+pub fn next_end(
+    count: u64,
+    threshold: u64,
+    events: &[u64; 512],
+    stack: &mut [u64; 512],
+    at: usize,
+) -> Next
+    requires { ⌜ (count ≤ 128) × (at < 512) × Probabilities (eventsOf count (now events)) × Stack count at (now stack) ⌝ }
+    ensures { λ r. ⌜ Stepped count threshold (now (events .entry)) at (now (stack .entry)) (now (stack .exit)) r ⌝ }
+{
+    let low = stack[at + 2];
+    let high = stack[at + 3];
+    let mut depth = stack[at];
+    let mut mass = stack[at + 1];
+    let mut top = at + 4;
+    loop {
+        if mass < threshold {
+            return Next {
+                at: top,
+                relevant: false,
+                mass: 0,
+                low: 0,
+                high: 0,
+            };
+        }
+        if depth >= count {
+            return Next {
+                at: top,
+                relevant: true,
+                mass,
+                low,
+                high,
+            };
+        }
+        top -= 4;
+        mass = decide(events, &mut *stack, top, depth, mass, low, high);
+        depth += 1;
+    }
+}
