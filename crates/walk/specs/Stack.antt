@@ -88,3 +88,9 @@ pub record Decided (q depth mass low high at : ℕ) (stack stack′ : List ℕ) 
   pub fails : drop at stack′ ≡ (depth + 1) ∷ failing mass q ∷ setLow ∷ setHigh ∷ drop (at + 4) stack
   pub works : r ≡ working mass q
   pub sized : length stack′ ≡ 512
+
+-- a stack with one branch alone
+pub record Begun (depth mass low high at : ℕ) (stack : List ℕ) : Type 0 where
+  pub place : at ≡ 508
+  pub alone : drop at stack ≡ depth ∷ mass ∷ low ∷ high ∷ []
+  pub sized : length stack ≡ 512

@@ -7,7 +7,7 @@ ghost use lib.ListN.{length, getD, drop};
 ghost use Rattle.sets.specs.Sets.{joined};
 ghost use Rattle.plan.specs.Lists.{eventsOf};
 ghost use Rattle.walk.specs.Scenario.{Probabilities};
-ghost use Rattle.walk.specs.Stack.{Stack, Stepped, Deciding, Decided};
+ghost use Rattle.walk.specs.Stack.{Begun, Decided, Deciding, Stack, Stepped};
 
 // A set of events in two words, events 64 to 127 in the high one.
 pub struct Failing {
@@ -115,4 +115,14 @@ pub fn next_end(
         mass = decide(events, &mut *stack, top, depth, mass, low, high);
         depth += 1;
     }
+}
+
+// Begins a walk at a branch, the root (0 events decided and one whole, for the whole walk): the only one on the stack. Returns where the
+// stack begins.
+pub fn begin(stack: &mut [u64; 512], depth: u64, mass: u64, low: u64, high: u64) -> usize
+    requires { ⌜ length (now stack) ≡ 512 ⌝ }
+    ensures { λ r. ⌜ Begun depth mass low high r (now (stack .exit)) ⌝ }
+{
+    put(stack, 508, depth, mass, Failing { low, high });
+    508
 }
