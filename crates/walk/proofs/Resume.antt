@@ -13,10 +13,10 @@ use Rattle.sets.specs.Sets.{joined}
 use Rattle.plan.specs.Plan.{Plan}
 use Rattle.plan.specs.Lists.{eventsOf}
 use Rattle.walk.specs.Scenario.{Scenario, digit, scenarioOf, scenario-length}
-use Rattle.walk.specs.Ends.{End, dropped, relevant, ends, endsAfter, sumEnds}
+use Rattle.walk.specs.Ends.{End, dropped, relevant, ends, endsAfter, sumEnds, valueOf, sumEnds-first}
 use Rattle.walk.specs.Pending.{root, pending-root}
 use Rattle.walk.specs.Walk.{planEnds, complete}
-use Rattle.walk.specs.Stack.{Begun, Entry, Stack, Stepped, nextEnd, toCome}
+use Rattle.walk.specs.Stack.{Begun, Entry, Stack, Stepped, endOf, nextEnd, toCome}
 use Rattle.walk.specs.declared.Next.{Next}
 
 module _ (depth mass low high at : ℕ) (stack : List ℕ) (b : Begun depth mass low high at stack) where
@@ -47,12 +47,31 @@ module _ (count threshold : ℕ) (words : List ℕ) where
     pub step-take : take (suc k) (toCome count threshold words at stack) ≡ nextEnd count r ∷ take k (toCome count threshold words (r .at) stack′)
     step-take = rw (s .ends)
 
+    pub step-sum : (f : Scenario → ℕ → ℕ)
+        → sumEnds f (take (suc k) (toCome count threshold words at stack)) ≡ valueOf f (nextEnd count r) + sumEnds f (take k (toCome count threshold words (r .at) stack′))
+    step-sum f = ap (sumEnds f) step-take ∙ sumEnds-first f (nextEnd count r) (take k (toCome count threshold words (r .at) stack′))
+
     pub step-drop : drop (suc k) (toCome count threshold words at stack) ≡ drop k (toCome count threshold words (r .at) stack′)
     step-drop = rw (s .ends)
 
     -- so an end is to come where the stack is not empty
     pub some-to-come : 0 < length (toCome count threshold words at stack)
     some-to-come = rw (s .ends) (omega arith)
+
+-- what a step's answer adds to a sum of masses, and to a count
+pub value-mass : (count : ℕ) (r : Next) → (r .relevant ≡ false → (r .mass ≡ 0) × (r .low ≡ 0) × (r .high ≡ 0)) → valueOf (λ s x. x) (nextEnd count r) ≡ r .mass
+value-mass count r nothing = go (r .relevant) refl
+  where
+    go : (b : Bool) → r .relevant ≡ b → valueOf (λ s x. x) (endOf count b (r .mass) (r .low) (r .high)) ≡ r .mass
+    go true e = refl
+    go false e = sym (nothing e .0)
+
+pub value-one : (count : ℕ) (r : Next) → valueOf (λ s x. 1) (nextEnd count r) ≡ digit (r .relevant)
+value-one count r = go (r .relevant)
+  where
+    go : (b : Bool) → valueOf (λ s x. 1) (endOf count b (r .mass) (r .low) (r .high)) ≡ digit b
+    go true = refl
+    go false = refl
 
 -- complete is 1 where nothing is left after the first cap ends, else 0
 pub complete-none : (p : Plan) → drop (p .limit) (planEnds p) ≡ [] → complete p ≡ 1

@@ -1,7 +1,7 @@
 -- One step of the walk: from a branch in hand down the "works" side, as laws of the stack's words.
 -- Assumes nothing.
 use mathlib.Core.Path.{_≡_, refl, ap, ap₂, sym, _∙_}
-use mathlib.Core.Bool.{Bool, true, false}
+use mathlib.Core.Bool.{Bool, true, false, true≢false}
 use mathlib.Core.List.{List, [], _∷_, _++_}
 use Prim.Native.Nat.{ℕ, zero, suc, _+_, _-_, _*_, _%_, _^_, _≤_, _<_}
 use native.Mathlib.Nat.{pow-succ'}
@@ -209,6 +209,7 @@ module _ (count threshold : ℕ) (words : List ℕ) (at : ℕ) (stack₀ : List 
         held = g .held;
         light = omega arith;
         decided = omega (arith, pow-pos count);
+        nothing = λ same. (refl, refl, refl);
       }
 
   pub answers-relevant : threshold ≤ mass → count ≤ depth
@@ -219,6 +220,7 @@ module _ (count threshold : ℕ) (words : List ℕ) (at : ℕ) (stack₀ : List 
         held = g .held;
         light = g .hand .light;
         decided = rw same (g .hand .decided);
+        nothing = λ (clash : true ≡ false). absurd (true≢false clash);
       }
     where
       same : count ≡ depth

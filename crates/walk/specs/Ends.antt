@@ -49,6 +49,11 @@ sumEnds f [] = 0
 sumEnds f (dropped ∷ list) = sumEnds f list
 sumEnds f (relevant s m ∷ list) = f s m + sumEnds f list
 
+-- the value of one end
+abbrev pub valueOf : (Scenario → ℕ → ℕ) → End → ℕ
+valueOf f dropped = 0
+valueOf f (relevant s m) = f s m
+
 -- the sum of mass × weight
 abbrev pub weighed : (Scenario → ℕ) → List End → ℕ
 weighed w = sumEnds (λ s m. m * w s)
@@ -100,6 +105,11 @@ module _ (path : Scenario) (t m : ℕ) where
       → endsAfter path t m (e ∷ events)
       ≡ endsAfter (path ++ (false ∷ [])) t (working m (e .probability)) events ++ endsAfter (path ++ (true ∷ [])) t (failing m (e .probability)) events
   after-node e events h = rw (ends-node t m e events h, map-append, after-after path (false ∷ []), after-after path (true ∷ []))
+
+-- law: the sum over a list is the value of its first end and the sum over the others
+pub sumEnds-first : (f : Scenario → ℕ → ℕ) (end : End) (list : List End) → sumEnds f (end ∷ list) ≡ valueOf f end + sumEnds f list
+sumEnds-first f dropped list = omega arith
+sumEnds-first f (relevant s m) list = refl
 
 -- law: the sum over two lists put together
 pub sumEnds-append : (f : Scenario → ℕ → ℕ) (xs ys : List End) → sumEnds f (xs ++ ys) ≡ sumEnds f xs + sumEnds f ys

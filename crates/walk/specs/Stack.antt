@@ -67,6 +67,7 @@ pub record Stepped (count threshold : ℕ) (words : List ℕ) (at : ℕ) (stack 
   pub held : Stack count (r .at) stack′
   pub light : r .mass ≤ whole
   pub decided : joined (r .low) (r .high) < 2 ^ count
+  pub nothing : r .relevant ≡ false → (r .mass ≡ 0) × (r .low ≡ 0) × (r .high ≡ 0)
 
 -- what deciding an event of probability q asks
 pub record Deciding (q depth mass low high at : ℕ) (stack : List ℕ) : Type 0 where
