@@ -1,0 +1,4 @@
+-- Laws that the proofs of the crate `walk` share.
+pub mod Words
+pub mod Step
+pub mod Resume

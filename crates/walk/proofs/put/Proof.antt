@@ -1,0 +1,60 @@
+-- `walk::put` meets its contract: four stores are four words put over. Assumes nothing.
+use borrow.Author.Needs.{needs}
+use native.Mathlib.Omega.{arith}
+use lib.ListN.{length-set}
+use Rattle.walk.proofs.Words.{words-stored}
+use Rattle.walk.proofs.put.Statement.{statement}
+use Rattle.walk.proofs.put.Tie as tie
+
+mul-stack : tie.Need-mul-stack
+mul-stack c = search needs
+
+element-write-stack : tie.Need-element-write-stack
+element-write-stack c = search needs
+
+add-stack : tie.Need-add-stack
+add-stack c = search needs
+
+mul-stack-2 : tie.Need-mul-stack-2
+mul-stack-2 c = search needs
+
+element-write-stack-2 : tie.Need-element-write-stack-2
+element-write-stack-2 c = search needs
+
+add-stack-2 : tie.Need-add-stack-2
+add-stack-2 c = search needs
+
+mul-stack-3 : tie.Need-mul-stack-3
+mul-stack-3 c = search needs
+
+element-write-stack-3 : tie.Need-element-write-stack-3
+element-write-stack-3 c = search needs
+
+add-stack-3 : tie.Need-add-stack-3
+add-stack-3 c = search needs
+
+mul-stack-4 : tie.Need-mul-stack-4
+mul-stack-4 c = search needs
+
+element-write-stack-4 : tie.Need-element-write-stack-4
+element-write-stack-4 c = search needs
+
+returns : tie.Need-returns
+returns c = (words-stored (c .args .stack .now) (c .args .at) _ _ _ _ (omega arith), simp length-set (c .pre .1))
+
+pub put-spec : {M : Type 1} → statement M
+put-spec =
+    tie.close
+    (tie.spec
+    mul-stack
+    element-write-stack
+    add-stack
+    mul-stack-2
+    element-write-stack-2
+    add-stack-2
+    mul-stack-3
+    element-write-stack-3
+    add-stack-3
+    mul-stack-4
+    element-write-stack-4
+    returns)

@@ -1,0 +1,8 @@
+-- What the contracts of the crate `walk` cite.
+pub mod Scenario
+pub mod Ends
+pub mod Member
+pub mod Pending
+pub mod Walk
+pub mod Laws
+pub mod Stack
