@@ -1,2 +1,4 @@
 -- What the contracts of the crate `sets` cite.
 pub mod Sets
+pub mod Laws
+pub mod Lowest
