@@ -1,0 +1,7 @@
+-- What the contracts of the crate `topology` cite.
+pub mod Outage
+pub mod Topology
+pub mod Paths
+pub mod Chains
+pub mod Works
+pub mod Connection

@@ -1,0 +1,2 @@
+// Effective topology and reach: document 01, section "Effective topology".
+// Assumes nothing.
