@@ -43,6 +43,10 @@ pub not-so : (a : Bool) → (a ≡ true → ⊥) → a ≡ false
 not-so true n = absurd (n refl)
 not-so false n = refl
 
+pub so-unless : (a : Bool) → (a ≡ false → ⊥) → a ≡ true
+so-unless true n = refl
+so-unless false n = absurd (n refl)
+
 pub not-of : (a : Bool) → a ≡ false → not a ≡ true
 not-of true e = sym e
 not-of false e = refl

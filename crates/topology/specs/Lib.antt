@@ -5,3 +5,5 @@ pub mod Paths
 pub mod Chains
 pub mod Works
 pub mod Connection
+pub mod Failing
+pub mod Laws

@@ -46,3 +46,7 @@ joins net i v w = linkWorks net i && ends (linkAt (net .links) i) v w
 -- whether a working link joins v and w
 unfoldable pub adjacent : Network → ℕ → ℕ → Bool
 adjacent net v w = anyBelow (λ i. joins net i v w) (length (net .links))
+
+-- the network of N nodes and a list of links under an outage
+abbrev pub networkOf : ℕ → List Link → Outage → Network
+networkOf nodes links out = record { nodes = nodes; links = links; out = out }
