@@ -8,16 +8,12 @@ use Prim.Native.Nat.{ℕ, zero, suc, _+_, _*_, _/_, _^_, _<_}
 use native.Mathlib.Omega.{arith}
 use native.Mathlib.Nat.{zero-mul}
 use lib.Bits.{bitOr}
-use lib.ListN.{length, getD}
+use lib.ListN.{length}
 use Rattle.sets.specs.Sets.{bit}
 use Rattle.sets.specs.Laws.{bit-or, bit-suc, bit-none, bits-same}
 use Rattle.sets.specs.Bools.{or-either, or-left, or-right, same-bool}
 use Rattle.plan.specs.Plan.{Event}
-use Rattle.topology.specs.Outage.{unionOf}
-
--- event i of a list
-abbrev pub eventAt : List Event → ℕ → Event
-eventAt events i = getD events i (record { probability = 0; nodes = 0; links = 0 })
+use Rattle.topology.specs.Outage.{eventAt, unionOf}
 
 module _ (part : Event → ℕ) where
   -- a failing event names the element v

@@ -1,5 +1,6 @@
 -- What the contracts of the crate `topology` cite.
 pub mod Outage
+pub mod Code
 pub mod Topology
 pub mod Paths
 pub mod Chains

@@ -1,11 +1,11 @@
 -- What has failed in a scenario: document 01, section "Effective topology".
 -- Assumes nothing.
-use mathlib.Core.Path.{_≡_}
 use mathlib.Core.Bool.{cond}
 use mathlib.Core.List.{List, [], _∷_}
 use Prim.Native.Nat.{ℕ, _/_}
 use lib.Bits.{bitOr}
-use Rattle.sets.specs.Sets.{bit, joined}
+use lib.ListN.{getD}
+use Rattle.sets.specs.Sets.{bit}
 use Rattle.plan.specs.Plan.{Event}
 
 -- the failed nodes and the failed links
@@ -17,6 +17,14 @@ pub record Outage : Type 0 where
 unfoldable pub unionOf : (Event → ℕ) → ℕ → List Event → ℕ → ℕ
 unionOf part start [] failing = start
 unionOf part start (e ∷ es) failing = unionOf part (cond (bit failing 0) (bitOr start (part e)) start) es (failing / 2)
+
+-- one event's nodes and links beside what has failed
+abbrev pub withEvent : Outage → Event → Outage
+withEvent out e = record { nodes = bitOr (out .nodes) (e .nodes); links = bitOr (out .links) (e .links) }
+
+-- event i of a list
+abbrev pub eventAt : List Event → ℕ → Event
+eventAt events i = getD events i (record { probability = 0; nodes = 0; links = 0 })
 
 -- the nodes and the links that the failing events name, beside those that had failed at the start
 abbrev pub outageOf : Outage → List Event → ℕ → Outage

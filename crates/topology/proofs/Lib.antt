@@ -1,0 +1,3 @@
+-- Laws that the proofs of the crate `topology` share.
+pub mod Events
+pub mod Digits
