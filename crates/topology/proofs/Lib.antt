@@ -1,3 +1,5 @@
 -- Laws that the proofs of the crate `topology` share.
 pub mod Events
 pub mod Digits
+pub mod LinkBytes
+pub mod RowSets

@@ -23,8 +23,8 @@ pub fn neighbours(n: usize, failed: Failed, links: &[u8; 256], count: usize) -> 
     let mut rows = [0u64; 64];
     let mut i = 0;
     while i < count {
-        let a = end(links, 2 * i);
-        let b = end(links, 2 * i + 1);
+        let a = end(n, links, count, i, 0);
+        let b = end(n, links, count, i, 1);
         let on = link_on(nodes, low, high, i, a, b);
         rows[a] = sets::union(rows[a], sets::only(on, b));
         rows[b] = sets::union(rows[b], sets::only(on, a));

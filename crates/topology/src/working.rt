@@ -17,12 +17,15 @@ fn wide(x: u8) -> usize
     x as usize
 }
 
-// The end node in byte k of the links.
-pub fn end(links: &[u8; 256], k: usize) -> usize
-    requires { ⌜ k < 256 ⌝ }
-    ensures { λ r. ⌜ r ≡ getD (now (links .entry)) k 0 ⌝ }
+// An end node of link i: the smaller one for side 0, the other for side 1.
+pub fn end(n: usize, links: &[u8; 256], count: usize, i: usize, side: usize) -> usize
+    requires { ⌜ (n ≤ 64) × (count ≤ 128) ⌝ }
+    requires { ⌜ EndsBelow n (linksOf count (now links)) ⌝ }
+    requires { ⌜ (i < count) × (side < 2) ⌝ }
+    ensures is { λ r. ⌜ r ≡ getD (now (links .entry)) (2 * i + side) 0 ⌝ }
+    ensures within { λ r. ⌜ r < 64 ⌝ }
 {
-    wide(links[k])
+    wide(links[2 * i + side])
 }
 
 // The working nodes, of n.
@@ -36,7 +39,8 @@ pub fn working_nodes(n: usize, failed: u64) -> u64
 // Whether link i, between a and b, works, as a digit: it has not failed and both its ends work.
 pub fn link_on(nodes: u64, low: u64, high: u64, i: usize, a: usize, b: usize) -> u64
     requires { ⌜ (i < 128) × (a < 64) × (b < 64) ⌝ }
-    ensures { λ r. ⌜ r ≡ digit (not (bit (joined low high) i) && (bit nodes a && bit nodes b)) ⌝ }
+    ensures is { λ r. ⌜ r ≡ digit (not (bit (joined low high) i) && (bit nodes a && bit nodes b)) ⌝ }
+    ensures small { λ r. ⌜ r < 2 ⌝ }
 {
     let failed = sets::at_of_two(low, high, i);
     let one = sets::at(nodes, a);
@@ -77,8 +81,8 @@ pub fn working_links(n: usize, failed: Failed, links: &[u8; 256], count: usize) 
     let mut up = Links { low: 0, high: 0 };
     let mut i = 0;
     while i < count {
-        let a = end(links, 2 * i);
-        let b = end(links, 2 * i + 1);
+        let a = end(n, links, count, i, 0);
+        let b = end(n, links, count, i, 1);
         up = with_link(up, link_on(nodes, low, high, i, a, b), i);
         i += 1;
     }

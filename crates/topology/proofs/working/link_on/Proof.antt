@@ -1,5 +1,5 @@
 use Rattle.sets.specs.Sets.{bit, joined}
-use Rattle.topology.proofs.Digits.{on-digit}
+use Rattle.topology.proofs.Digits.{on-digit, on-small}
 use borrow.Author.Needs.{needs}
 use Rattle.topology.proofs.working.link_on.Statement.{statement}
 use Rattle.topology.proofs.working.link_on.Tie as tie
@@ -24,7 +24,11 @@ at-requires-2 c κs = search needs
 returns : tie.Need-returns
 returns c =
     let a = c .before .before .before .args in
-    rw (c .before .before .at-of-two .ensures, c .before .at .ensures, c .at2 .ensures) (on-digit (bit (joined (a .low) (a .high)) (a .i)) (bit (a .nodes) (a .a)) (bit (a .nodes) (a .b)))
+    let failed = bit (joined (a .low) (a .high)) (a .i) in
+    let one = bit (a .nodes) (a .a) in
+    let other = bit (a .nodes) (a .b) in
+    rw (c .before .before .at-of-two .ensures, c .before .at .ensures, c .at2 .ensures)
+    (on-digit failed one other, on-small failed one other)
 
 pub link-on-spec : {M : Type 1} → statement M
 link-on-spec = tie.close (tie.spec at-of-two-requires at-requires at-requires-2 returns)

@@ -1,3 +1,8 @@
+use mathlib.Core.Path.{ap, _∙_}
+use mathlib.Core.Bool.{Bool, _||_}
+use native.Mathlib.Omega.{arith}
+use Rattle.sets.specs.Sets.{bit}
+use Rattle.topology.proofs.LinkBytes.{grown-low, grown-high}
 use borrow.Author.Needs.{needs}
 use Rattle.topology.proofs.working.with_link.Statement.{statement}
 use Rattle.topology.proofs.working.with_link.Tie as tie
@@ -16,7 +21,10 @@ union-requires c κs = search needs
 
 -- src/working.rt:56:9
 returns : tie.Need-returns
-returns c = search needs
+returns c =
+    let a = c .before .before .before .args in
+    grown-low (a .up .low) (a .up .high) (c .union .result) (a .on) (a .i) (omega arith) (omega arith) (c .before .before .if1 .taken)
+    (λ j. c .union .ensures j ∙ ap (λ (x : Bool). bit (a .up .low) j || x) (c .before .only .ensures j))
 
 -- src/working.rt:61:39
 only-requires-2 : tie.Need-only-requires-2
@@ -28,7 +36,10 @@ union-requires-2 c κs = search needs
 
 -- src/working.rt:48:1
 returns-2 : tie.Need-returns-2
-returns-2 c = search needs
+returns-2 c =
+    let a = c .before .before .before .args in
+    grown-high (a .up .low) (a .up .high) (c .union2 .result) (a .on) (a .i) (omega arith) (c .before .before .if1 .left)
+    (λ j. c .union2 .ensures j ∙ ap (λ (x : Bool). bit (a .up .high) j || x) (c .before .only2 .ensures j))
 
 pub with-link-spec : {M : Type 1} → statement M
 with-link-spec =
