@@ -3,3 +3,6 @@ pub mod Events
 pub mod Digits
 pub mod LinkBytes
 pub mod RowSets
+pub mod Gather
+pub mod Round
+pub mod Shares

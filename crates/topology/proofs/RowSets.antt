@@ -60,12 +60,13 @@ joinsBy nodes cut bytes v w i = worksBy nodes cut bytes i && ends (endsOf (getD 
 abbrev pub RowsBelow : ℕ → ℕ → List ℕ → ℕ → List ℕ → Type 0
 RowsBelow nodes cut bytes i rows = (v w : ℕ) → bit (getD rows v 0) w ≡ anyBelow (joinsBy nodes cut bytes v w) i
 
-module _ (nodes cut : ℕ) (bytes : List ℕ) where
-  empty-row : (n v : ℕ) → _≡_ {A = ℕ} (getD (replicate n 0) v 0) 0
-  empty-row zero v = refl
-  empty-row (suc n) zero = refl
-  empty-row (suc n) (suc v) = empty-row n v
+-- an array of empty sets
+pub empty-row : (n v : ℕ) → _≡_ {A = ℕ} (getD (replicate n 0) v 0) 0
+empty-row zero v = refl
+empty-row (suc n) zero = refl
+empty-row (suc n) (suc v) = empty-row n v
 
+module _ (nodes cut : ℕ) (bytes : List ℕ) where
   pub rows-none : RowsBelow nodes cut bytes 0 (replicate 64 0)
   unfolding anyBelow
   rows-none v w = rw (empty-row 64 v) (bit-none w)

@@ -8,3 +8,4 @@ pub mod Works
 pub mod Connection
 pub mod Failing
 pub mod Laws
+pub mod RowPaths

@@ -1,10 +1,15 @@
 // Effective topology and reach: document 01, section "Effective topology".
 // Assumes nothing.
 mod failing;
+mod parts;
+mod rounds;
 mod rows;
 mod working;
 
 pub use failing::failed_by;
+pub use parts::components;
+pub use rounds::reach as reach_by_rows;
+pub use rounds::rows_of;
 pub use rows::neighbours;
 pub use working::working_links;
 pub use working::working_nodes;
@@ -20,4 +25,9 @@ pub struct Failed {
 pub struct Links {
     pub low: u64,
     pub high: u64,
+}
+
+// What a node reaches.
+pub struct Reach {
+    pub set: u64,
 }
