@@ -6,3 +6,4 @@ pub mod RowSets
 pub mod Gather
 pub mod Round
 pub mod Shares
+pub mod Shown

@@ -1,7 +1,7 @@
 -- What the contracts of the crate `topology` cite.
 pub mod Outage
-pub mod Code
 pub mod Topology
+pub mod Code
 pub mod Paths
 pub mod Chains
 pub mod Works

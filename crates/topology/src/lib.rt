@@ -1,12 +1,17 @@
 // Effective topology and reach: document 01, section "Effective topology".
 // Assumes nothing.
 mod failing;
+mod pairs;
 mod parts;
 mod rounds;
 mod rows;
 mod working;
 
 pub use failing::failed_by;
+pub use pairs::connections;
+pub use pairs::cut_after;
+pub use pairs::is_disconnected;
+pub use pairs::reach_from;
 pub use parts::components;
 pub use rounds::reach as reach_by_rows;
 pub use rounds::rows_of;

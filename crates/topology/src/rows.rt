@@ -4,18 +4,16 @@ use crate::working::end;
 use crate::working::link_on;
 use crate::working::working_nodes;
 ghost use mathlib.Core.Path.{_≡_};
-ghost use Prim.Native.Nat.{ℕ, _≤_};
+ghost use Prim.Native.Nat.{ℕ};
 ghost use lib.ListN.{getD};
 ghost use Rattle.sets.specs.Sets.{bit};
-ghost use Rattle.plan.specs.Lists.{linksOf};
-ghost use Rattle.topology.specs.Topology.{networkOf, adjacent, EndsBelow};
-ghost use Rattle.topology.specs.Code.{outage};
+ghost use Rattle.topology.specs.Topology.{adjacent};
+ghost use Rattle.topology.specs.Code.{networkIn, LinksHeld};
 
 // The set of neighbours of each node: row v has w where a working link joins v and w.
 pub fn neighbours(n: usize, failed: Failed, links: &[u8; 256], count: usize) -> [u64; 64]
-    requires { ⌜ (n ≤ 64) × (count ≤ 128) ⌝ }
-    requires { ⌜ EndsBelow n (linksOf count (now links)) ⌝ }
-    ensures { λ r. ⌜ ((v w : ℕ) → bit (getD r v 0) w ≡ adjacent (networkOf n (linksOf count (now (links .entry))) (outage failed)) v w) ⌝ }
+    requires { ⌜ LinksHeld n (now links) count ⌝ }
+    ensures { λ r. ⌜ ((v w : ℕ) → bit (getD r v 0) w ≡ adjacent (networkIn n failed (now (links .entry)) count) v w) ⌝ }
 {
     let nodes = working_nodes(n, failed.nodes);
     let low = failed.low;

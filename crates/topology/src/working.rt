@@ -7,9 +7,8 @@ ghost use Prim.Native.Nat.{ℕ, _+_, _*_, _≤_, _<_};
 ghost use lib.Dec.{eqb, ltb};
 ghost use lib.ListN.{getD};
 ghost use Rattle.sets.specs.Sets.{bit, joined, digit};
-ghost use Rattle.plan.specs.Lists.{linksOf};
-ghost use Rattle.topology.specs.Topology.{networkOf, linkWorks, EndsBelow};
-ghost use Rattle.topology.specs.Code.{outage};
+ghost use Rattle.topology.specs.Topology.{linkWorks};
+ghost use Rattle.topology.specs.Code.{networkIn, LinksHeld};
 
 fn wide(x: u8) -> usize
     ensures { λ r. ⌜ r ≡ x ⌝ }
@@ -19,8 +18,7 @@ fn wide(x: u8) -> usize
 
 // An end node of link i: the smaller one for side 0, the other for side 1.
 pub fn end(n: usize, links: &[u8; 256], count: usize, i: usize, side: usize) -> usize
-    requires { ⌜ (n ≤ 64) × (count ≤ 128) ⌝ }
-    requires { ⌜ EndsBelow n (linksOf count (now links)) ⌝ }
+    requires { ⌜ LinksHeld n (now links) count ⌝ }
     requires { ⌜ (i < count) × (side < 2) ⌝ }
     ensures is { λ r. ⌜ r ≡ getD (now (links .entry)) (2 * i + side) 0 ⌝ }
     ensures within { λ r. ⌜ r < 64 ⌝ }
@@ -71,9 +69,8 @@ fn with_link(up: Links, on: u64, i: usize) -> Links
 
 // The working links, of `count`.
 pub fn working_links(n: usize, failed: Failed, links: &[u8; 256], count: usize) -> Links
-    requires { ⌜ (n ≤ 64) × (count ≤ 128) ⌝ }
-    requires { ⌜ EndsBelow n (linksOf count (now links)) ⌝ }
-    ensures { λ r. ⌜ ((i : ℕ) → bit (joined (r .low) (r .high)) i ≡ linkWorks (networkOf n (linksOf count (now (links .entry))) (outage failed)) i) ⌝ }
+    requires { ⌜ LinksHeld n (now links) count ⌝ }
+    ensures { λ r. ⌜ ((i : ℕ) → bit (joined (r .low) (r .high)) i ≡ linkWorks (networkIn n failed (now (links .entry)) count) i) ⌝ }
 {
     let nodes = working_nodes(n, failed.nodes);
     let low = failed.low;
