@@ -1,0 +1,81 @@
+use Rattle.topology.specs.Paths.{here}
+use Rattle.topology.proofs.Shares.{Shared, shrinks, shared-none, shared-next, shared-all}
+use borrow.Author.Needs.{needs}
+use Rattle.topology.proofs.parts.components.Statement.{statement}
+use Rattle.topology.proofs.parts.components.Tie as tie
+use Rattle.topology.proofs.parts.components.Reads as reads
+use Rattle.topology.proofs.parts.components.Lts as lts
+use Rattle.sets.proofs.less.Reads as less-reads
+use Rattle.sets.proofs.lowest.Reads as lowest-reads
+use Rattle.topology.proofs.parts.mark.Reads as mark-reads
+use Rattle.topology.proofs.rounds.reach.Reads as reach-reads
+
+abbrev Inv-loop : tie.InvT-loop
+Inv-loop rows nodes parts₀ left₀ parts left = Shared nodes rows parts left
+
+abbrev μ-loop : tie.MeasureT-loop
+μ-loop rows nodes parts₀ left₀ parts left = left
+
+-- src/parts.rt:31:5
+loop-holds : tie.Need-loop-holds Inv-loop μ-loop
+loop-holds c = shared-none _ _
+
+-- src/parts.rt:32:39
+lowest-requires : tie.Need-lowest-requires Inv-loop μ-loop
+lowest-requires c κs = search needs
+
+-- src/parts.rt:32:20
+reach-requires : tie.Need-reach-requires Inv-loop μ-loop
+reach-requires c κs = search needs
+
+-- src/parts.rt:33:13
+mark-requires : tie.Need-mark-requires Inv-loop μ-loop
+mark-requires c κs = search needs
+
+-- src/parts.rt:35:9
+less-requires : tie.Need-less-requires Inv-loop μ-loop
+less-requires c κs = search needs
+
+-- src/parts.rt:31:5
+loop-less : tie.Need-loop-less Inv-loop μ-loop
+loop-less c =
+    let loop = c .before .before .before .before .before .loop in
+    let at = c .before .before .before .lowest in
+    let part = c .before .before .reach in
+    shrinks (loop .left) (part .result .set) (c .less .result) (at .result)
+    (c .less .ensures)
+    (at .ensures .1 .1 .0)
+    (part .ensures (at .result) .1 (loop .inv .within (at .result) (at .ensures .1 .1 .0), here))
+
+-- src/parts.rt:31:5
+loop-again : tie.Need-loop-again Inv-loop μ-loop
+loop-again c =
+    let start = c .before .before .before .before .before .before in
+    let loop = c .before .before .before .before .before .loop in
+    let part = c .before .before .reach in
+    shared-next (start .args .nodes) (start .args .rows) (start .pre) (loop .parts) (c .before .mark .result) (loop .left) (part .result .set) (c .less .result)
+    (c .before .before .before .lowest .result)
+    (part .ensures)
+    (c .before .mark .ensures .0)
+    (c .before .mark .ensures .1)
+    (c .less .ensures)
+    (loop .inv)
+
+-- src/parts.rt:25:1
+returns : tie.Need-returns Inv-loop μ-loop
+returns c = shared-all _ _ _ _ (c .loop-test .left) (c .before .loop .inv)
+
+pub components-spec : {M : Type 1} → statement M
+components-spec =
+    tie.close
+    (tie.spec
+    Inv-loop
+    μ-loop
+    loop-holds
+    lowest-requires
+    reach-requires
+    mark-requires
+    less-requires
+    loop-less
+    loop-again
+    returns)

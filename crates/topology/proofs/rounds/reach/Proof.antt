@@ -1,0 +1,94 @@
+use mathlib.Core.Path.{_≡_, ap, _∙_}
+use mathlib.Core.Bool.{Bool, _&&_}
+use Prim.Native.Nat.{_+_, _-_, _^_, _<_}
+use native.Mathlib.Omega.{arith}
+use Rattle.sets.specs.Sets.{bit}
+use Rattle.topology.proofs.Round.{Round, round-first, round-next, round-grows, round-last}
+use borrow.Author.Needs.{needs}
+use Rattle.topology.proofs.rounds.reach.Statement.{statement}
+use Rattle.topology.proofs.rounds.reach.Tie as tie
+use Rattle.topology.proofs.rounds.reach.Reads as reads
+use Rattle.topology.proofs.rounds.reach.Lts as lts
+use Rattle.sets.proofs.both.Reads as both-reads
+use Rattle.sets.proofs.less.Reads as less-reads
+use Rattle.sets.proofs.only.Reads as only-reads
+use Rattle.sets.proofs.union.Reads as union-reads
+use Rattle.topology.proofs.rounds.rows_of.Reads as rows-of-reads
+
+abbrev Inv-loop : tie.InvT-loop
+Inv-loop rows nodes v seen₀ fresh₀ seen fresh = (seen < 2 ^ 64) × Round nodes rows v seen fresh
+
+abbrev μ-loop : tie.MeasureT-loop
+μ-loop rows nodes v seen₀ fresh₀ seen fresh = 2 ^ 64 - seen
+
+-- src/rounds.rt:29:39
+only-requires : tie.Need-only-requires Inv-loop μ-loop
+only-requires c κs = search needs
+
+-- src/rounds.rt:29:9
+both-requires : tie.Need-both-requires Inv-loop μ-loop
+both-requires c κs = search needs
+
+-- src/rounds.rt:30:5
+loop-holds : tie.Need-loop-holds Inv-loop μ-loop
+loop-holds c = (omega arith, round-first _ _ _ _ (λ j. c .both .ensures j ∙ ap (λ (x : Bool). bit (c .before .before .args .nodes) j && x) (c .before .only .ensures j)))
+
+-- src/rounds.rt:31:9
+union-requires : tie.Need-union-requires Inv-loop μ-loop
+union-requires c κs = search needs
+
+-- src/rounds.rt:32:28
+rows-of-requires : tie.Need-rows-of-requires Inv-loop μ-loop
+rows-of-requires c κs = search needs
+
+-- src/rounds.rt:32:9
+less-requires : tie.Need-less-requires Inv-loop μ-loop
+less-requires c κs = search needs
+
+-- the fresh nodes are added to those seen
+larger : (c : tie.After-less Inv-loop μ-loop) → c .before .before .union .result ≡ c .before .before .before .before .loop .seen + c .before .before .before .before .loop .fresh
+larger c =
+    let start = c .before .before .before .before .before .before .before .args in
+    let loop = c .before .before .before .before .loop in
+    round-grows (start .nodes) (start .rows) (start .v) (loop .seen) (loop .fresh) (c .before .before .union .result) (c .before .rows-of .result) (c .less .result)
+    (c .before .before .union .ensures)
+    (c .before .rows-of .ensures)
+    (c .less .ensures)
+    (loop .inv .1)
+
+-- src/rounds.rt:30:5
+loop-less : tie.Need-loop-less Inv-loop μ-loop
+loop-less c = omega (arith, larger c)
+
+-- src/rounds.rt:30:5
+loop-again : tie.Need-loop-again Inv-loop μ-loop
+loop-again c =
+    let start = c .before .before .before .before .before .before .before .args in
+    let loop = c .before .before .before .before .loop in (
+      omega arith,
+      round-next (start .nodes) (start .rows) (start .v) (loop .seen) (loop .fresh) (c .before .before .union .result) (c .before .rows-of .result) (c .less .result)
+          (c .before .before .union .ensures)
+          (c .before .rows-of .ensures)
+          (c .less .ensures)
+          (loop .inv .1),
+    )
+
+-- src/rounds.rt:24:1
+returns : tie.Need-returns Inv-loop μ-loop
+returns c = round-last _ _ _ _ _ (c .loop-test .left) (c .before .loop .inv .1)
+
+pub reach-spec : {M : Type 1} → statement M
+reach-spec =
+    tie.close
+    (tie.spec
+    Inv-loop
+    μ-loop
+    only-requires
+    both-requires
+    loop-holds
+    union-requires
+    rows-of-requires
+    less-requires
+    loop-less
+    loop-again
+    returns)
