@@ -1,0 +1,3 @@
+-- What the contracts of the crate `bounds` cite.
+pub mod Pairs
+pub mod PairLaws
