@@ -1,3 +1,8 @@
 -- What the contracts of the crate `plan` cite.
 pub mod Plan
 pub mod Lists
+pub mod Tests
+pub mod Layout
+pub mod File
+pub mod Records
+pub mod Calls
