@@ -9,10 +9,12 @@ use native.Mathlib.Omega.{arith}
 use lib.ListN.{length, getD}
 use Rattle.mass.specs.Split.{whole}
 use Rattle.plan.specs.Plan.{Plan}
+use Rattle.plan.specs.Records.{planRefusal}
 use Rattle.walk.specs.Scenario.{Scenario, Probabilities, digit}
 use Rattle.walk.specs.Ends.{ends, weighed}
 use Rattle.walk.specs.Walk.{firstEnds, massExamined, count, count-sum}
 use Rattle.walk.specs.Laws.{massExamined-le}
+use Rattle.walk.specs.Valid.{plan-probable}
 use Rattle.sums.specs.Exact.{exactSum, scale, exactCut, exactMissed}
 use Rattle.sums.specs.Enclosure.{Enclosed, enclosure, weighed-split, one-or-other}
 
@@ -98,6 +100,11 @@ module _ (p : Plan) (q : Probabilities (p .events)) (cut : Scenario → Bool) wh
   pub demand3-gap : (upper p cut - lower p cut) * scale (length (p .events))
       ≤ exactMissed p * whole + length (p .events) * count p * scale (length (p .events))
   demand3-gap = difference-step (scale (length (p .events))) (lower p cut) (upper p cut) _ lower-upper (demand3 .gap)
+
+-- DEMAND 3, for every plan that is not refused
+pub demand3-valid : (p : Plan) → planRefusal p ≡ 0 → (cut : Scenario → Bool)
+    → Demand3 (length (p .events)) (lower p cut) (upper p cut) (exactCut p cut) (exactMissed p) (count p)
+demand3-valid p valid cut = demand3 p (plan-probable p valid) cut
 
 -- examples: one event of probability 1/10 that cuts the pair, with room for both ends of the walk and for one
 abbrev example : ℕ → Plan

@@ -224,3 +224,7 @@ ends-distinct t =
 
 pub examined-distinct : (p : Plan) → List·Nodup (examined p)
 examined-distinct p = ends-distinct (p .threshold) (p .limit) whole (p .events)
+
+-- law: the test for an examined scenario is membership
+pub examined-member : (p : Plan) (s : Scenario) → (isExamined p s ≡ true) ↔ List·Memᴰ s (examined p)
+examined-member p s = (among-member s (examined p), member-among s (examined p))

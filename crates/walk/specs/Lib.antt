@@ -6,3 +6,4 @@ pub mod Pending
 pub mod Walk
 pub mod Laws
 pub mod Stack
+pub mod Valid

@@ -68,11 +68,12 @@ fn decide(
     ensures { λ r. ⌜ Decided (getD (now (events .entry)) (depth * 4) 0) depth mass low high at (now (stack .entry)) (now (stack .exit)) r ⌝ }
 {
     let q = events[depth as usize * 4];
+    let rest = mass::CERTAIN - q;
     let failing = with_event(low, high, depth);
     let whole = mass::Mass { units: mass };
     let fails = whole.share(q);
     put(stack, at, depth + 1, fails.units, failing);
-    let works = whole.share(mass::CERTAIN - q);
+    let works = whole.share(rest);
     works.units
 }
 

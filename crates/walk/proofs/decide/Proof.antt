@@ -13,20 +13,20 @@ mul-q-2 c = search needs
 element-copy-out-q : tie.Need-element-copy-out-q
 element-copy-out-q c = search needs
 
+sub-rest : tie.Need-sub-rest
+sub-rest c = search needs
+
 with-event-requires : tie.Need-with-event-requires
 with-event-requires c κs = search needs
 
 share-requires : tie.Need-share-requires
-share-requires c κs = (c .before .before .pre .light, c .before .before .pre .probable)
+share-requires c κs = search needs
 
 add-put : tie.Need-add-put
 add-put c = search needs
 
 put-requires : tie.Need-put-requires
 put-requires c κs = search needs
-
-sub-share : tie.Need-sub-share
-sub-share c = c .before .before .before .before .before .pre .probable
 
 share-requires-2 : tie.Need-share-requires-2
 share-requires-2 c κs = search needs
@@ -50,10 +50,10 @@ decide-spec =
     mul-q
     mul-q-2
     element-copy-out-q
+    sub-rest
     with-event-requires
     share-requires
     add-put
     put-requires
-    sub-share
     share-requires-2
     returns)
