@@ -50,8 +50,7 @@ pub fn connections(n: usize, failed: Failed, links: &[u8; 256], count: usize) ->
     ensures { λ r. ⌜ ((v w : ℕ) → bit (getD r v 0) w ≡ not (disconnected (networkIn n failed (now (links .entry)) count) v w)) ⌝ }
 {
     let rows = neighbours(n, failed, links, count);
-    let nodes = working_nodes(n, failed.nodes);
-    components(rows, nodes)
+    components(rows, working_nodes(n, failed.nodes))
 }
 
 // The nodes w above v, of n, that are not in v's part.

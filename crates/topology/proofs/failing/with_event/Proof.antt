@@ -1,41 +1,31 @@
+-- `topology::failing::with_event` meets its contract: the words united are those of the event. Assumes nothing.
+use borrow.Author.Needs.{needs}
 use native.Mathlib.Omega.{arith}
 use Rattle.topology.proofs.Events.{with-words}
-use borrow.Author.Needs.{needs}
 use Rattle.topology.proofs.failing.with_event.Statement.{statement}
 use Rattle.topology.proofs.failing.with_event.Tie as tie
-use Rattle.topology.proofs.failing.with_event.Reads as reads
-use Rattle.topology.proofs.failing.with_event.Lts as lts
-use Rattle.topology.proofs.failing.word.Reads as word-reads
 
--- src/failing.rt:24:14
 mul-at : tie.Need-mul-at
 mul-at c = search needs
 
--- src/failing.rt:26:39
 add-word : tie.Need-add-word
 add-word c = search needs
 
--- src/failing.rt:26:26
 word-requires : tie.Need-word-requires
 word-requires c κs = search needs
 
--- src/failing.rt:27:35
 add-word-2 : tie.Need-add-word-2
 add-word-2 c = search needs
 
--- src/failing.rt:27:22
 word-requires-2 : tie.Need-word-requires-2
 word-requires-2 c κs = search needs
 
--- src/failing.rt:28:37
 add-word-3 : tie.Need-add-word-3
 add-word-3 c = search needs
 
--- src/failing.rt:28:24
 word-requires-3 : tie.Need-word-requires-3
 word-requires-3 c κs = search needs
 
--- src/failing.rt:20:1
 returns : tie.Need-returns
 returns c =
     let a = c .before .before .before .before .before .before .args in

@@ -1,3 +1,4 @@
+-- `topology::pairs::cut_after` meets its contract. Assumes nothing.
 use borrow.Author.Needs.{needs}
 use mathlib.Core.Path.{ap, ap₂, _∙_}
 use mathlib.Core.Bool.{Bool, not, _&&_}
@@ -5,32 +6,22 @@ use Rattle.sets.specs.Sets.{bit}
 use Rattle.topology.proofs.Shown.{above}
 use Rattle.topology.proofs.pairs.cut_after.Statement.{statement}
 use Rattle.topology.proofs.pairs.cut_after.Tie as tie
-use Rattle.topology.proofs.pairs.cut_after.Reads as reads
-use Rattle.topology.proofs.pairs.cut_after.Lts as lts
-use Rattle.sets.proofs.first.Reads as first-reads
-use Rattle.sets.proofs.less.Reads as less-reads
 
--- src/pairs.rt:58:29
 first-requires : tie.Need-first-requires
 first-requires c κs = search needs
 
--- src/pairs.rt:58:57
 add-first : tie.Need-add-first
 add-first c = search needs
 
--- src/pairs.rt:58:45
 first-requires-2 : tie.Need-first-requires-2
 first-requires-2 c κs = search needs
 
--- src/pairs.rt:58:9
 less-requires : tie.Need-less-requires
 less-requires c κs = search needs
 
--- src/pairs.rt:59:5
 less-requires-2 : tie.Need-less-requires-2
 less-requires-2 c κs = search needs
 
--- src/pairs.rt:54:1
 returns : tie.Need-returns
 returns c = λ w.
     let a = c .before .before .before .before .args in

@@ -1,14 +1,9 @@
+-- `topology::parts::components` meets its contract. The loop's invariant: each node that is not left has its component. Assumes nothing.
+use borrow.Author.Needs.{needs}
 use Rattle.topology.specs.Paths.{here}
 use Rattle.topology.proofs.Shares.{Shared, shrinks, shared-none, shared-next, shared-all}
-use borrow.Author.Needs.{needs}
 use Rattle.topology.proofs.parts.components.Statement.{statement}
 use Rattle.topology.proofs.parts.components.Tie as tie
-use Rattle.topology.proofs.parts.components.Reads as reads
-use Rattle.topology.proofs.parts.components.Lts as lts
-use Rattle.sets.proofs.less.Reads as less-reads
-use Rattle.sets.proofs.lowest.Reads as lowest-reads
-use Rattle.topology.proofs.parts.mark.Reads as mark-reads
-use Rattle.topology.proofs.rounds.reach.Reads as reach-reads
 
 abbrev Inv-loop : tie.InvT-loop
 Inv-loop rows nodes parts₀ left₀ parts left = Shared nodes rows parts left
@@ -16,27 +11,21 @@ Inv-loop rows nodes parts₀ left₀ parts left = Shared nodes rows parts left
 abbrev μ-loop : tie.MeasureT-loop
 μ-loop rows nodes parts₀ left₀ parts left = left
 
--- src/parts.rt:31:5
 loop-holds : tie.Need-loop-holds Inv-loop μ-loop
 loop-holds c = shared-none _ _
 
--- src/parts.rt:32:39
 lowest-requires : tie.Need-lowest-requires Inv-loop μ-loop
 lowest-requires c κs = search needs
 
--- src/parts.rt:32:20
 reach-requires : tie.Need-reach-requires Inv-loop μ-loop
 reach-requires c κs = search needs
 
--- src/parts.rt:33:13
 mark-requires : tie.Need-mark-requires Inv-loop μ-loop
 mark-requires c κs = search needs
 
--- src/parts.rt:35:9
 less-requires : tie.Need-less-requires Inv-loop μ-loop
 less-requires c κs = search needs
 
--- src/parts.rt:31:5
 loop-less : tie.Need-loop-less Inv-loop μ-loop
 loop-less c =
     let loop = c .before .before .before .before .before .loop in
@@ -47,7 +36,6 @@ loop-less c =
     (at .ensures .1 .1 .0)
     (part .ensures (at .result) .1 (loop .inv .within (at .result) (at .ensures .1 .1 .0), here))
 
--- src/parts.rt:31:5
 loop-again : tie.Need-loop-again Inv-loop μ-loop
 loop-again c =
     let start = c .before .before .before .before .before .before in
@@ -61,7 +49,6 @@ loop-again c =
     (c .less .ensures)
     (loop .inv)
 
--- src/parts.rt:25:1
 returns : tie.Need-returns Inv-loop μ-loop
 returns c = shared-all _ _ _ _ (c .loop-test .left) (c .before .loop .inv)
 

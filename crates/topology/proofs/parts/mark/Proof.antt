@@ -1,16 +1,13 @@
+-- `topology::parts::mark` meets its contract. The loop's invariant: the elements of the part hold it, but those left. Assumes nothing.
+use borrow.Author.Needs.{needs}
 use mathlib.Core.Path.{ap, _∙_}
-use Rattle.sets.specs.Sets.{bit}
-use Rattle.sets.specs.Laws.{bit-none}
 use Prim.Native.Nat.{ℕ, _≤_}
 use native.Mathlib.Omega.{arith}
+use Rattle.sets.specs.Sets.{bit}
+use Rattle.sets.specs.Laws.{bit-none}
 use Rattle.topology.proofs.Gather.{Marked, marked-none, marked-next}
-use borrow.Author.Needs.{needs}
 use Rattle.topology.proofs.parts.mark.Statement.{statement}
 use Rattle.topology.proofs.parts.mark.Tie as tie
-use Rattle.topology.proofs.parts.mark.Reads as reads
-use Rattle.topology.proofs.parts.mark.Lts as lts
-use Rattle.sets.proofs.lowest.Reads as lowest-reads
-use Rattle.sets.proofs.rest.Reads as rest-reads
 
 abbrev Inv-loop : tie.InvT-loop
 Inv-loop part all₀ left₀ all left = (left ≤ part) × Marked all₀ part all left
@@ -18,31 +15,24 @@ Inv-loop part all₀ left₀ all left = (left ≤ part) × Marked all₀ part al
 abbrev μ-loop : tie.MeasureT-loop
 μ-loop part all₀ left₀ all left = left
 
--- src/parts.rt:17:5
 loop-holds : tie.Need-loop-holds Inv-loop μ-loop
 loop-holds c = (omega arith, marked-none _ _ (search needs))
 
--- src/parts.rt:18:13
 lowest-requires : tie.Need-lowest-requires Inv-loop μ-loop
 lowest-requires c κs = search needs
 
--- src/parts.rt:18:9
 mul-all : tie.Need-mul-all Inv-loop μ-loop
 mul-all c = search needs
 
--- src/parts.rt:18:9
 array-write-all : tie.Need-array-write-all Inv-loop μ-loop
 array-write-all c = search needs
 
--- src/parts.rt:19:9
 rest-requires : tie.Need-rest-requires Inv-loop μ-loop
 rest-requires c κs = search needs
 
--- src/parts.rt:17:5
 loop-less : tie.Need-loop-less Inv-loop μ-loop
 loop-less c = c .rest .ensures .0
 
--- src/parts.rt:17:5
 loop-again : tie.Need-loop-again Inv-loop μ-loop
 loop-again c =
     let at = c .before .lowest in
@@ -57,7 +47,6 @@ loop-again c =
           (loop .inv .1),
     )
 
--- src/parts.rt:11:1
 returns : tie.Need-returns Inv-loop μ-loop
 returns c =
     let loop = c .before .loop in (

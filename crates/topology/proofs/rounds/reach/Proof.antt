@@ -1,19 +1,14 @@
+-- `topology::rounds::reach` meets its contract. The loop's invariant: what is seen or fresh is joined to v by a path, and the rows of what is seen
+-- lead to nothing else. The measure: what is seen grows as a number. Assumes nothing.
+use borrow.Author.Needs.{needs}
 use mathlib.Core.Path.{_≡_, ap, _∙_}
 use mathlib.Core.Bool.{Bool, _&&_}
 use Prim.Native.Nat.{_+_, _-_, _^_, _<_}
 use native.Mathlib.Omega.{arith}
 use Rattle.sets.specs.Sets.{bit}
 use Rattle.topology.proofs.Round.{Round, round-first, round-next, round-grows, round-last}
-use borrow.Author.Needs.{needs}
 use Rattle.topology.proofs.rounds.reach.Statement.{statement}
 use Rattle.topology.proofs.rounds.reach.Tie as tie
-use Rattle.topology.proofs.rounds.reach.Reads as reads
-use Rattle.topology.proofs.rounds.reach.Lts as lts
-use Rattle.sets.proofs.both.Reads as both-reads
-use Rattle.sets.proofs.less.Reads as less-reads
-use Rattle.sets.proofs.only.Reads as only-reads
-use Rattle.sets.proofs.union.Reads as union-reads
-use Rattle.topology.proofs.rounds.rows_of.Reads as rows-of-reads
 
 abbrev Inv-loop : tie.InvT-loop
 Inv-loop rows nodes v seen₀ fresh₀ seen fresh = (seen < 2 ^ 64) × Round nodes rows v seen fresh
@@ -21,27 +16,21 @@ Inv-loop rows nodes v seen₀ fresh₀ seen fresh = (seen < 2 ^ 64) × Round nod
 abbrev μ-loop : tie.MeasureT-loop
 μ-loop rows nodes v seen₀ fresh₀ seen fresh = 2 ^ 64 - seen
 
--- src/rounds.rt:29:39
 only-requires : tie.Need-only-requires Inv-loop μ-loop
 only-requires c κs = search needs
 
--- src/rounds.rt:29:9
 both-requires : tie.Need-both-requires Inv-loop μ-loop
 both-requires c κs = search needs
 
--- src/rounds.rt:30:5
 loop-holds : tie.Need-loop-holds Inv-loop μ-loop
 loop-holds c = (omega arith, round-first _ _ _ _ (λ j. c .both .ensures j ∙ ap (λ (x : Bool). bit (c .before .before .args .nodes) j && x) (c .before .only .ensures j)))
 
--- src/rounds.rt:31:9
 union-requires : tie.Need-union-requires Inv-loop μ-loop
 union-requires c κs = search needs
 
--- src/rounds.rt:32:28
 rows-of-requires : tie.Need-rows-of-requires Inv-loop μ-loop
 rows-of-requires c κs = search needs
 
--- src/rounds.rt:32:9
 less-requires : tie.Need-less-requires Inv-loop μ-loop
 less-requires c κs = search needs
 
@@ -56,11 +45,9 @@ larger c =
     (c .less .ensures)
     (loop .inv .1)
 
--- src/rounds.rt:30:5
 loop-less : tie.Need-loop-less Inv-loop μ-loop
 loop-less c = omega (arith, larger c)
 
--- src/rounds.rt:30:5
 loop-again : tie.Need-loop-again Inv-loop μ-loop
 loop-again c =
     let start = c .before .before .before .before .before .before .before .args in
@@ -73,7 +60,6 @@ loop-again c =
           (loop .inv .1),
     )
 
--- src/rounds.rt:24:1
 returns : tie.Need-returns Inv-loop μ-loop
 returns c = round-last _ _ _ _ _ (c .loop-test .left) (c .before .loop .inv .1)
 

@@ -1,14 +1,10 @@
+-- `topology::rounds::rows_of` meets its contract. The loop's invariant: all rows of the set are gathered but those of what is left. Assumes nothing.
+use borrow.Author.Needs.{needs}
 use Prim.Native.Nat.{_≤_}
 use native.Mathlib.Omega.{arith}
 use Rattle.topology.proofs.Gather.{Gathered, gathered-none, gathered-next, gathered-all}
-use borrow.Author.Needs.{needs}
 use Rattle.topology.proofs.rounds.rows_of.Statement.{statement}
 use Rattle.topology.proofs.rounds.rows_of.Tie as tie
-use Rattle.topology.proofs.rounds.rows_of.Reads as reads
-use Rattle.topology.proofs.rounds.rows_of.Lts as lts
-use Rattle.sets.proofs.lowest.Reads as lowest-reads
-use Rattle.sets.proofs.rest.Reads as rest-reads
-use Rattle.sets.proofs.union.Reads as union-reads
 
 abbrev Inv-loop : tie.InvT-loop
 Inv-loop set rows all₀ left₀ all left = (left ≤ set) × Gathered rows set all left
@@ -16,35 +12,27 @@ Inv-loop set rows all₀ left₀ all left = (left ≤ set) × Gathered rows set 
 abbrev μ-loop : tie.MeasureT-loop
 μ-loop set rows all₀ left₀ all left = left
 
--- src/rounds.rt:16:5
 loop-holds : tie.Need-loop-holds Inv-loop μ-loop
 loop-holds c = (omega arith, gathered-none _ _)
 
--- src/rounds.rt:17:37
 lowest-requires : tie.Need-lowest-requires Inv-loop μ-loop
 lowest-requires c κs = search needs
 
--- src/rounds.rt:17:32
 mul-union : tie.Need-mul-union Inv-loop μ-loop
 mul-union c = search needs
 
--- src/rounds.rt:17:32
 array-read-union : tie.Need-array-read-union Inv-loop μ-loop
 array-read-union c = search needs
 
--- src/rounds.rt:17:9
 union-requires : tie.Need-union-requires Inv-loop μ-loop
 union-requires c κs = search needs
 
--- src/rounds.rt:18:9
 rest-requires : tie.Need-rest-requires Inv-loop μ-loop
 rest-requires c κs = search needs
 
--- src/rounds.rt:16:5
 loop-less : tie.Need-loop-less Inv-loop μ-loop
 loop-less c = c .rest .ensures .0
 
--- src/rounds.rt:16:5
 loop-again : tie.Need-loop-again Inv-loop μ-loop
 loop-again c =
     let loop = c .before .before .before .before .loop in
@@ -59,7 +47,6 @@ loop-again c =
           (loop .inv .1),
     )
 
--- src/rounds.rt:11:1
 returns : tie.Need-returns Inv-loop μ-loop
 returns c =
     gathered-all (c .before .before .args .t1) (c .before .before .args .set) (c .before .loop .all) (c .before .loop .left) (c .loop-test .left) (c .before .loop .inv .1)

@@ -1,3 +1,5 @@
+-- `topology::rows::neighbours` meets its contract. The loop's invariant: the rows hold the neighbours by the working links below i. Assumes nothing.
+use borrow.Author.Needs.{needs}
 use mathlib.Core.Path.{_≡_, refl, ap, _∙_}
 use mathlib.Core.Bool.{Bool, _||_}
 use Prim.Native.Nat.{_-_, _≤_}
@@ -7,16 +9,8 @@ use Rattle.sets.specs.Sets.{bit, joined}
 use Rattle.topology.specs.Code.{outage}
 use Rattle.topology.proofs.LinkBytes.{worksBy, on-is}
 use Rattle.topology.proofs.RowSets.{RowsBelow, rows-none, rows-next, rows-all}
-use borrow.Author.Needs.{needs}
 use Rattle.topology.proofs.rows.neighbours.Statement.{statement}
 use Rattle.topology.proofs.rows.neighbours.Tie as tie
-use Rattle.topology.proofs.rows.neighbours.Reads as reads
-use Rattle.topology.proofs.rows.neighbours.Lts as lts
-use Rattle.sets.proofs.only.Reads as only-reads
-use Rattle.sets.proofs.union.Reads as union-reads
-use Rattle.topology.proofs.working.end.Reads as end-reads
-use Rattle.topology.proofs.working.link_on.Reads as link-on-reads
-use Rattle.topology.proofs.working.working_nodes.Reads as working-nodes-reads
 
 abbrev Inv-loop : tie.InvT-loop
 Inv-loop n links count nodes low high rows₀ i₀ rows i =
@@ -25,85 +19,65 @@ Inv-loop n links count nodes low high rows₀ i₀ rows i =
 abbrev μ-loop : tie.MeasureT-loop
 μ-loop n links count nodes low high rows₀ i₀ rows i = count - i
 
--- src/rows.rt:20:9
 working-nodes-requires : tie.Need-working-nodes-requires Inv-loop μ-loop
 working-nodes-requires c κs = search needs
 
--- src/rows.rt:25:5
 loop-holds : tie.Need-loop-holds Inv-loop μ-loop
 loop-holds c =
     let f = c .before .args .failed in
     (omega arith, (refl, rows-none (c .working-nodes .result) (joined (f .low) (f .high)) (c .before .args .links .now)))
 
--- src/rows.rt:26:13
 end-requires : tie.Need-end-requires Inv-loop μ-loop
 end-requires c κs = search needs
 
--- src/rows.rt:27:13
 end-requires-2 : tie.Need-end-requires-2 Inv-loop μ-loop
 end-requires-2 c κs = search needs
 
--- src/rows.rt:28:13
 link-on-requires : tie.Need-link-on-requires Inv-loop μ-loop
 link-on-requires c κs = search needs
 
--- src/rows.rt:29:31
 mul-union : tie.Need-mul-union Inv-loop μ-loop
 mul-union c = search needs
 
--- src/rows.rt:29:31
 array-read-union : tie.Need-array-read-union Inv-loop μ-loop
 array-read-union c = search needs
 
--- src/rows.rt:29:40
 only-requires : tie.Need-only-requires Inv-loop μ-loop
 only-requires c κs = search needs
 
--- src/rows.rt:29:19
 union-requires : tie.Need-union-requires Inv-loop μ-loop
 union-requires c κs = search needs
 
--- src/rows.rt:29:9
 mul-rows : tie.Need-mul-rows Inv-loop μ-loop
 mul-rows c = search needs
 
--- src/rows.rt:29:9
 array-write-rows : tie.Need-array-write-rows Inv-loop μ-loop
 array-write-rows c = search needs
 
--- src/rows.rt:30:31
 mul-union-2 : tie.Need-mul-union-2 Inv-loop μ-loop
 mul-union-2 c = search needs
 
--- src/rows.rt:30:31
 array-read-union-2 : tie.Need-array-read-union-2 Inv-loop μ-loop
 array-read-union-2 c = search needs
 
--- src/rows.rt:30:40
 only-requires-2 : tie.Need-only-requires-2 Inv-loop μ-loop
 only-requires-2 c κs = search needs
 
--- src/rows.rt:30:19
 union-requires-2 : tie.Need-union-requires-2 Inv-loop μ-loop
 union-requires-2 c κs = search needs
 
--- src/rows.rt:30:9
 mul-rows-2 : tie.Need-mul-rows-2 Inv-loop μ-loop
 mul-rows-2 c = search needs
 
--- src/rows.rt:30:9
 array-write-rows-2 : tie.Need-array-write-rows-2 Inv-loop μ-loop
 array-write-rows-2 c = search needs
 
--- src/rows.rt:31:9
 add-i : tie.Need-add-i Inv-loop μ-loop
 add-i c = search needs
 
--- src/rows.rt:25:5
 loop-less : tie.Need-loop-less Inv-loop μ-loop
 loop-less c = search needs
 
--- src/rows.rt:25:5
 loop-again : tie.Need-loop-again Inv-loop μ-loop
 loop-again c =
     let on = c .before .before .before .before in
@@ -132,7 +106,6 @@ loop-again c =
       ),
     )
 
--- src/rows.rt:15:1
 returns : tie.Need-returns Inv-loop μ-loop
 returns c =
     let start = c .before .before .before .args in

@@ -1,29 +1,22 @@
+-- `topology::working::end` meets its contract: the byte is an end node of link i. Assumes nothing.
+use borrow.Author.Needs.{needs}
 use native.Mathlib.Omega.{arith}
 use Rattle.topology.proofs.LinkBytes.{end-below}
-use borrow.Author.Needs.{needs}
 use Rattle.topology.proofs.working.end.Statement.{statement}
 use Rattle.topology.proofs.working.end.Tie as tie
-use Rattle.topology.proofs.working.end.Reads as reads
-use Rattle.topology.proofs.working.end.Lts as lts
-use Rattle.topology.proofs.working.wide.Reads as wide-reads
 
--- src/working.rt:28:16
 mul-wide : tie.Need-mul-wide
 mul-wide c = search needs
 
--- src/working.rt:28:16
 add-wide : tie.Need-add-wide
 add-wide c = search needs
 
--- src/working.rt:28:10
 element-copy-out-wide : tie.Need-element-copy-out-wide
 element-copy-out-wide c = search needs
 
--- src/working.rt:28:5
 wide-requires : tie.Need-wide-requires
 wide-requires c κs = search needs
 
--- src/working.rt:21:1
 returns : tie.Need-returns
 returns c =
     let a = c .before .before .args in

@@ -1,26 +1,19 @@
+-- `topology::working::link_on` meets its contract: the digits as Bools. Assumes nothing.
+use borrow.Author.Needs.{needs}
 use Rattle.sets.specs.Sets.{bit, joined}
 use Rattle.topology.proofs.Digits.{on-digit, on-small}
-use borrow.Author.Needs.{needs}
 use Rattle.topology.proofs.working.link_on.Statement.{statement}
 use Rattle.topology.proofs.working.link_on.Tie as tie
-use Rattle.topology.proofs.working.link_on.Reads as reads
-use Rattle.topology.proofs.working.link_on.Lts as lts
-use Rattle.sets.proofs.at.Reads as at-reads
-use Rattle.sets.proofs.at_of_two.Reads as at-of-two-reads
 
--- src/working.rt:40:9
 at-of-two-requires : tie.Need-at-of-two-requires
 at-of-two-requires c κs = search needs
 
--- src/working.rt:41:9
 at-requires : tie.Need-at-requires
 at-requires c κs = search needs
 
--- src/working.rt:42:9
 at-requires-2 : tie.Need-at-requires-2
 at-requires-2 c κs = search needs
 
--- src/working.rt:36:1
 returns : tie.Need-returns
 returns c =
     let a = c .before .before .before .args in

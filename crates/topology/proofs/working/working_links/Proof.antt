@@ -1,3 +1,5 @@
+-- `topology::working::working_links` meets its contract. The loop's invariant: the set holds the working links below i. Assumes nothing.
+use borrow.Author.Needs.{needs}
 use mathlib.Core.Path.{_≡_, sym, ap, _∙_}
 use mathlib.Core.Bool.{Bool, _&&_, _||_}
 use Prim.Native.Nat.{ℕ, _-_, _≤_, _<_}
@@ -6,15 +8,8 @@ use lib.Dec.{ltb}
 use Rattle.sets.specs.Sets.{bit, joined, digit}
 use Rattle.topology.specs.Code.{outage}
 use Rattle.topology.proofs.LinkBytes.{worksBy, works-is, on-is, decided-none, decided-next, decided-all}
-use borrow.Author.Needs.{needs}
 use Rattle.topology.proofs.working.working_links.Statement.{statement}
 use Rattle.topology.proofs.working.working_links.Tie as tie
-use Rattle.topology.proofs.working.working_links.Reads as reads
-use Rattle.topology.proofs.working.working_links.Lts as lts
-use Rattle.topology.proofs.working.end.Reads as end-reads
-use Rattle.topology.proofs.working.link_on.Reads as link-on-reads
-use Rattle.topology.proofs.working.with_link.Reads as with-link-reads
-use Rattle.topology.proofs.working.working_nodes.Reads as working-nodes-reads
 
 abbrev Inv-loop : tie.InvT-loop
 Inv-loop n links count nodes low high up₀ i₀ up i =
@@ -23,25 +18,20 @@ Inv-loop n links count nodes low high up₀ i₀ up i =
 abbrev μ-loop : tie.MeasureT-loop
 μ-loop n links count nodes low high up₀ i₀ up i = count - i
 
--- src/working.rt:78:9
 working-nodes-requires : tie.Need-working-nodes-requires Inv-loop μ-loop
 working-nodes-requires c κs = search needs
 
--- src/working.rt:83:5
 loop-holds : tie.Need-loop-holds Inv-loop μ-loop
 loop-holds c =
     let f = c .before .args .failed in
     (omega arith, decided-none (worksBy (c .working-nodes .result) (joined (f .low) (f .high)) (c .before .args .links .now)))
 
--- src/working.rt:84:13
 end-requires : tie.Need-end-requires Inv-loop μ-loop
 end-requires c κs = search needs
 
--- src/working.rt:85:13
 end-requires-2 : tie.Need-end-requires-2 Inv-loop μ-loop
 end-requires-2 c κs = search needs
 
--- src/working.rt:86:28
 link-on-requires : tie.Need-link-on-requires Inv-loop μ-loop
 link-on-requires c κs = search needs
 
