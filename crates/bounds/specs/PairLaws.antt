@@ -1,11 +1,12 @@
 -- Laws of the order of pairs.
 -- Assumes nothing.
-use mathlib.Core.Path.{_≡_, refl, sym, ap, _∙_}
+use mathlib.Core.Path.{_≡_, refl, sym, ap, subst, _∙_}
 use mathlib.Core.List.{List, [], _∷_, _++_}
 use Prim.Native.Nat.{ℕ, zero, suc, _+_, _-_, _*_, _/_, _<_, _≤_}
-use native.Mathlib.Nat.{add-zero, add-suc, zero-add, suc-add}
+use native.Mathlib.Nat.{add-zero, add-suc, zero-add, suc-add, sub-zero}
+use native.Mathlib.Decide.{decLt}
 use native.Mathlib.Omega.{arith}
-use lib.ListN.{length, getD, take, drop, length-append}
+use lib.ListN.{length, getD, take, drop, length-append, List·getD-append}
 use lib.Seq.{getD-append-add, drop-cons, take-add, drop-drop}
 use Rattle.bounds.specs.Pairs.{row, rows, table, start, place, pairCount}
 
@@ -30,18 +31,129 @@ row-at f v w zero i h = absurd (omega arith)
 row-at f v w (suc count) zero h = ap (f v) (sym (add-zero w))
 row-at f v w (suc count) (suc i) h = row-at f v (suc w) count i (omega arith) ∙ ap (f v) (omega arith)
 
--- the start of a row, counted from the row of node u
-unfoldable pub after : ℕ → ℕ → ℕ → ℕ
-after n u zero = 0
-after n u (suc count) = (n - suc u) + after n (suc u) count
+-- law: the places of node v's pairs end where the next node's begin
+pub start-suc : (n v : ℕ) → start n (suc v) ≡ start n v + (n - suc v)
+unfolding start
+start-suc n v = refl
 
-after-start : (n u count : ℕ) → start n u + after n u count ≡ start n (u + count)
-after-start n u zero = unfold after in rw (add-zero, add-zero)
-after-start n u (suc count) =
-    let rest : start n (suc u) + after n (suc u) count ≡ start n (suc u + count) = after-start n (suc u) count in
-    step rest
-  where
-    step : start n (suc u) + after n (suc u) count ≡ start n (suc u + count) → start n u + after n u (suc count) ≡ start n (u + suc count)
-    step e =
-        let same : suc u + count ≡ u + suc count = omega arith in
-        unfold after start in (rw (← same) (omega (arith, e)))
+pub start-zero : (n : ℕ) → start n 0 ≡ 0
+unfolding start
+start-zero n = refl
+
+pub start-mono : (n u k : ℕ) → start n u ≤ start n (u + k)
+start-mono n u zero = rw add-zero (omega arith)
+start-mono n u (suc k) = rw add-suc (omega (arith, start-mono n u k, start-suc n (u + k)))
+
+start-wider : (n m v : ℕ) → n ≤ m → start n v ≤ start m v
+unfolding start
+start-wider n m zero h = omega arith
+start-wider n m (suc v) h = omega (arith, start-wider n m v h)
+
+pub place-is : (n v w : ℕ) → place n v w ≡ start n v + (w - suc v)
+unfolding place
+place-is n v w = refl
+
+-- law: a pair's place is before the places of the next node's pairs
+pub place-before : (n v w : ℕ) → v < w → w < n → place n v w < start n (suc v)
+place-before n v w h k = omega (arith, place-is n v w, start-suc n v)
+
+-- law: 64 nodes have 2,016 pairs, and fewer nodes have no more
+pub pairs-most : (n : ℕ) → n ≤ 64 → pairCount n ≤ 2016
+pairs-most n h =
+    let e : n + (64 - n) ≡ 64 = omega arith in
+    let up : start n n ≤ start n (n + (64 - n)) = start-mono n n (64 - n) in
+    let all : start 64 64 ≡ 2016 = unfold start in refl in
+    omega (arith, rw e at up, start-wider n 64 64 h)
+
+-- law: so each pair of at most 64 nodes has its place below 2,016
+pub place-lt : (n v w : ℕ) → n ≤ 64 → v < w → w < n → place n v w < pairCount n
+place-lt n v w few h k =
+    let e : suc v + (n - suc v) ≡ n = omega arith in
+    omega (arith, place-before n v w h k, rw e at (start-mono n (suc v) (n - suc v)))
+
+-- ---- the table
+
+-- law: a list that holds what f gives at each place is the table
+module _ (f : ℕ → ℕ → ℕ) (n : ℕ) (l : List ℕ) where
+  row-is : (v w at count : ℕ) → at + count ≤ length l → ((i : ℕ) → i < count → getD l (at + i) 0 ≡ f v (w + i)) → take count (drop at l) ≡ row f v w count
+  unfolding row
+  row-is v w at zero h same = refl
+  row-is v w at (suc count) h same =
+      let here : getD l at 0 ≡ f v w = rw (add-zero, add-zero) at (same 0 (omega arith)) in
+      let rest : take count (drop (suc at) l) ≡ row f v (suc w) count =
+      row-is v (suc w) (suc at) count (omega arith) (λ i k. rw (suc-add, suc-add, ← add-suc, ← add-suc) (same (suc i) (omega arith))) in
+      rw (drop-cons l at 0 (omega arith), here, rest)
+
+  rows-is : (v count : ℕ) → v + count ≡ n → pairCount n ≤ length l
+      → ((u w : ℕ) → u < w → w < n → getD l (place n u w) 0 ≡ f u w)
+      → take (pairCount n - start n v) (drop (start n v) l) ≡ rows f n v count
+  unfolding rows
+  rows-is v zero e h same =
+      let last : v ≡ n = omega arith in
+      let nothing : pairCount n - start n v ≡ 0 = rw last (omega arith) in
+      rw nothing
+  rows-is v (suc count) e h same =
+      let up : start n (suc v) ≤ pairCount n = rw (whole-row v (omega arith)) at (start-mono n (suc v) (n - suc v)) in
+      let split : pairCount n - start n v ≡ (n - suc v) + (pairCount n - start n (suc v)) = omega (arith, start-suc n v) in
+      let here : take (n - suc v) (drop (start n v) l) ≡ row f v (suc v) (n - suc v) =
+      row-is v (suc v) (start n v) (n - suc v) (omega (arith, start-suc n v))
+      (λ i k.
+      let back : suc v + i - suc v ≡ i = omega arith in
+      rw back at (rw place-is at (same v (suc v + i) (omega arith) (omega arith)))) in
+      let rest : take (pairCount n - start n (suc v)) (drop (start n (suc v)) l) ≡ rows f n (suc v) count = rows-is (suc v) count (omega arith) h same in
+      rw (split, take-add, here, drop-drop (n - suc v) (start n v) l, ← start-suc n v, rest)
+    where
+      whole-row : (u : ℕ) → u < n → suc u + (n - suc u) ≡ n
+      whole-row u x = omega arith
+
+  pub table-is : pairCount n ≤ length l → ((u w : ℕ) → u < w → w < n → getD l (place n u w) 0 ≡ f u w) → take (pairCount n) l ≡ table f n
+  unfolding table
+  table-is h same = rw (start-zero n, sub-zero) at (rows-is 0 n (zero-add n) h same)
+
+-- law: the table holds at each pair's place what f gives
+module _ (f : ℕ → ℕ → ℕ) (n : ℕ) where
+  here-at : (v w count : ℕ) → v < w → w < n → getD (rows f n v (suc count)) (place n v w - start n v) 0 ≡ f v w
+  unfolding rows
+  here-at v w count h k =
+      let i : place n v w - start n v ≡ w - suc v = omega (arith, place-is n v w) in
+      let back : suc v + (w - suc v) ≡ w = omega arith in
+      rw (i, List·getD-append (row f v (suc v) (n - suc v)) (rows f n (suc v) count) 0 (w - suc v) (omega (arith, length-row f v (suc v) (n - suc v))))
+      (row-at f v (suc v) (n - suc v) (w - suc v) (omega arith) ∙ ap (f v) back)
+
+  later-at : (v u w count : ℕ) → v < u → u < w → w < n
+      → getD (rows f n (suc v) count) (place n u w - start n (suc v)) 0 ≡ f u w
+      → getD (rows f n v (suc count)) (place n u w - start n v) 0 ≡ f u w
+  unfolding rows
+  later-at v u w count l h k rest =
+      let e : suc v + (u - suc v) ≡ u = omega arith in
+      let up : start n (suc v) ≤ start n u = rw e at (start-mono n (suc v) (u - suc v)) in
+      let long : length (row f v (suc v) (n - suc v)) ≡ n - suc v = length-row f v (suc v) (n - suc v) in
+      let i : place n u w - start n v ≡ length (row f v (suc v) (n - suc v)) + (place n u w - start n (suc v)) =
+      omega (arith, start-suc n v, place-is n u w) in
+      rw (i, getD-append-add (row f v (suc v) (n - suc v)) (rows f n (suc v) count) (place n u w - start n (suc v)) 0) rest
+
+  rows-at : (v count u w : ℕ) → v + count ≡ n → v ≤ u → u < w → w < n → getD (rows f n v count) (place n u w - start n v) 0 ≡ f u w
+  rows-at v zero u w e l h k = absurd (omega arith)
+  rows-at v (suc count) u w e l h k = go (decLt v u) (rows-at (suc v) count u w (omega arith))
+    where
+      go : Dec (v < u) → (suc v ≤ u → u < w → w < n → getD (rows f n (suc v) count) (place n u w - start n (suc v)) 0 ≡ f u w)
+          → getD (rows f n v (suc count)) (place n u w - start n v) 0 ≡ f u w
+      go (yes m) rest = later-at v u w count m h k (rest m h k)
+      go (no m) rest =
+          let same : v ≡ u = omega arith in
+          subst (λ (x : ℕ). getD (rows f n v (suc count)) (place n x w - start n v) 0 ≡ f x w) same (here-at v w count (omega arith) k)
+
+  pub table-at : (u w : ℕ) → u < w → w < n → getD (table f n) (place n u w) 0 ≡ f u w
+  unfolding table
+  table-at u w h k = rw (start-zero n, sub-zero) at (rows-at 0 n u w (zero-add n) (omega arith) h k)
+
+  rows-long : (v count : ℕ) → v + count ≡ n → start n v + length (rows f n v count) ≡ pairCount n
+  unfolding rows
+  rows-long v zero e = rw add-zero (ap (start n) (sym (add-zero v) ∙ e))
+  rows-long v (suc count) e =
+      let rest : start n (suc v) + length (rows f n (suc v) count) ≡ pairCount n = rows-long (suc v) count (omega arith) in
+      rw (length-append, length-row) (omega (arith, start-suc n v))
+
+  pub table-long : length (table f n) ≡ pairCount n
+  unfolding table
+  table-long = omega (arith, rows-long 0 n (zero-add n), start-zero n)

@@ -1,0 +1,5 @@
+-- Laws that the proofs of the crate `bounds` share.
+pub mod Row
+pub mod Cut
+pub mod Examine
+pub mod Turn

@@ -1,0 +1,84 @@
+-- `bounds::add::add_row` meets its contract: the invariant is `RowTurn`, the measure what is left of the set. Assumes nothing.
+use mathlib.Core.Path.{_≡_, refl, ap, sym, _∙_}
+use mathlib.Core.Bool.{Bool, not, _&&_}
+use Prim.Native.Nat.{ℕ}
+use native.Mathlib.Omega.{arith}
+use lib.Dec.{eqb}
+use Rattle.sets.specs.Sets.{bit}
+use Rattle.bounds.proofs.Row.{RowTurn, row-done, high, inside, room, row-turned}
+use Rattle.bounds.proofs.add.add_row.Statement.{statement}
+use Rattle.bounds.proofs.add.add_row.Tie as tie
+use Rattle.bounds.proofs.add.add_row.Reads as reads
+use Rattle.bounds.proofs.add.add_row.Lts as lts
+use Rattle.sets.proofs.lowest.Reads as lowest-reads
+use Rattle.sets.proofs.rest.Reads as rest-reads
+
+abbrev Inv-loop : tie.InvT-loop
+Inv-loop lower₀ start skip set mass left₀ lower left = RowTurn lower₀ start skip set mass lower left
+
+abbrev μ-loop : tie.MeasureT-loop
+μ-loop lower₀ start skip set mass left₀ lower left = left
+
+loop-holds : tie.Need-loop-holds Inv-loop μ-loop
+loop-holds c = record { asked = c .pre; sized = c .pre .sized; sub = λ w e. e; each = λ i. refl }
+
+lowest-requires : tie.Need-lowest-requires Inv-loop μ-loop
+lowest-requires c κs = omega arith
+
+add-i : tie.Need-add-i Inv-loop μ-loop
+add-i c = omega (arith, c .before .before .loop .inv .asked .low, c .lowest .ensures .1 .0)
+
+sub-i : tie.Need-sub-i Inv-loop μ-loop
+sub-i c = omega (arith, high _ _ _ _ _ _ _ (c .before .before .loop .inv) _ (c .lowest .ensures .1 .1 .0))
+
+mul-lower : tie.Need-mul-lower Inv-loop μ-loop
+mul-lower c = omega (arith, inside _ _ _ _ _ _ _ (c .before .before .loop .inv) _ (c .lowest .ensures .1 .1 .0))
+
+element-copy-out-lower : tie.Need-element-copy-out-lower Inv-loop μ-loop
+element-copy-out-lower c = inside _ _ _ _ _ _ _ (c .before .before .loop .inv) _ (c .lowest .ensures .1 .1 .0)
+
+add-lower : tie.Need-add-lower Inv-loop μ-loop
+add-lower c = record { fits = room _ _ _ _ _ _ _ (c .before .before .before .loop .inv) _ (c .before .lowest .ensures .1 .1 .0) }
+
+mul-lower-2 : tie.Need-mul-lower-2 Inv-loop μ-loop
+mul-lower-2 c = omega (arith, inside _ _ _ _ _ _ _ (c .before .before .before .loop .inv) _ (c .before .lowest .ensures .1 .1 .0))
+
+element-write-lower : tie.Need-element-write-lower Inv-loop μ-loop
+element-write-lower c = inside _ _ _ _ _ _ _ (c .before .before .before .loop .inv) _ (c .before .lowest .ensures .1 .1 .0)
+
+rest-requires : tie.Need-rest-requires Inv-loop μ-loop
+rest-requires c κs = omega (arith, c .before .before .loop-test .taken)
+
+loop-less : tie.Need-loop-less Inv-loop μ-loop
+loop-less c = c .rest .ensures .0
+
+loop-again : tie.Need-loop-again Inv-loop μ-loop
+loop-again c =
+    let g = c .before .before .before .before .loop .inv in
+    row-turned _ _ _ _ _ _ _ g _ (c .before .before .lowest .ensures .1 .1 .0) _
+    (λ j.
+    c .rest .ensures .1 j
+    ∙ ap (λ (x : ℕ). bit (c .before .before .before .before .loop .left) j && not (eqb j x)) (sym (c .before .before .lowest .ensures .0)))
+
+returns : tie.Need-returns Inv-loop μ-loop
+returns c = row-done _ _ _ _ _ _ _ (c .before .loop .inv) (c .loop-test .left)
+
+pub add-row-spec : {M : Type 1} → statement M
+add-row-spec =
+    tie.close
+    (tie.spec
+    Inv-loop
+    μ-loop
+    loop-holds
+    lowest-requires
+    add-i
+    sub-i
+    mul-lower
+    element-copy-out-lower
+    add-lower
+    mul-lower-2
+    element-write-lower
+    rest-requires
+    loop-less
+    loop-again
+    returns)
