@@ -3,3 +3,8 @@ pub mod Row
 pub mod Cut
 pub mod Examine
 pub mod Turn
+pub mod Root
+pub mod Accepted
+pub mod Raised
+pub mod Answers
+pub mod Outcome

@@ -27,8 +27,8 @@ pub record Turn (h : Header) (links words : List ℕ) (at₀ : ℕ) (stack₀ lo
   pub numbers : number + sumEnds (λ s m. 1) (take left (coming h words at stack)) ≡ number₀ + sumEnds (λ s m. 1) (take k (coming h words at₀ stack₀))
   pub masses : mass + sumEnds (λ s m. m) (take left (coming h words at stack)) ≡ mass₀ + sumEnds (λ s m. m) (take k (coming h words at₀ stack₀))
   pub entries : (v w : ℕ) → v < w → w < h .nodes
-    → getD lower (place (h .nodes) v w) 0 + weighed (λ s. digit (cuts (planOfLists h links words) v w s)) (take left (coming h words at stack))
-    ≡ getD lower₀ (place (h .nodes) v w) 0 + weighed (λ s. digit (cuts (planOfLists h links words) v w s)) (take k (coming h words at₀ stack₀))
+      → getD lower (place (h .nodes) v w) 0 + weighed (λ s. digit (cuts (planOfLists h links words) v w s)) (take left (coming h words at stack))
+      ≡ getD lower₀ (place (h .nodes) v w) 0 + weighed (λ s. digit (cuts (planOfLists h links words) v w s)) (take k (coming h words at₀ stack₀))
   pub rest : drop left (coming h words at stack) ≡ drop k (coming h words at₀ stack₀)
   pub ready : Ready h links words at stack lower number mass left
 
@@ -36,12 +36,13 @@ module _ (h : Header) (links words : List ℕ) (at₀ : ℕ) (stack₀ lower₀ 
     (g : Turn h links words at₀ stack₀ lower₀ number₀ mass₀ k stack lower at number mass left) where
   -- the loop ends where the first ends to come give nothing more
   ended : take left (coming h words at stack) ≡ [] → coming h words at stack ≡ drop left (coming h words at stack)
-    → Tallied h links words at₀ stack₀ lower₀ number₀ mass₀ k stack lower (record { at = at; number = number; mass = mass })
+      → Tallied h links words at₀ stack₀ lower₀ number₀ mass₀ k stack lower (record { at = at; number = number; mass = mass })
   ended none all =
       record {
         numbers = omega (arith, g .numbers, ap (sumEnds (λ s m. 1)) none);
         masses = omega (arith, g .masses, ap (sumEnds (λ s m. m)) none);
         entries = λ v w l e. omega (arith, g .entries v w l e, ap (weighed (λ s. digit (cuts (planOfLists h links words) v w s))) none);
+        below = g .ready .sums .below;
         rest = all ∙ g .rest;
         stacked = g .ready .stacked;
         sized = g .ready .sums .sized;
@@ -73,7 +74,7 @@ module _ (h : Header) (links words : List ℕ) (at₀ : ℕ) (stack₀ lower₀ 
     one-less = omega arith
 
     first : (f : Scenario → ℕ → ℕ) → sumEnds f (take left (coming h words at stack))
-      ≡ valueOf f (nextEnd (h .events) r) + sumEnds f (take (left - 1) (coming h words (r .at) stack′))
+        ≡ valueOf f (nextEnd (h .events) r) + sumEnds f (take (left - 1) (coming h words (r .at) stack′))
     first f =
         ap (λ (j : ℕ). sumEnds f (take j (coming h words at stack))) one-less
         ∙ step-sum (h .events) (h .threshold) words at stack stack′ r s (left - 1) f
@@ -92,18 +93,19 @@ module _ (h : Header) (links words : List ℕ) (at₀ : ℕ) (stack₀ lower₀ 
     end-sums = record { sized = g .ready .sums .sized; below = g .ready .sums .below; fits = mass-fits }
 
     pub turned : (lower′ : List ℕ) → Examined h links words (nextEnd (h .events) r) (r .mass) lower lower′
-      → Turn h links words at₀ stack₀ lower₀ number₀ mass₀ k stack′ lower′ (r .at) (number + digit (r .relevant)) (mass + r .mass) (left - 1)
+        → Turn h links words at₀ stack₀ lower₀ number₀ mass₀ k stack′ lower′ (r .at) (number + digit (r .relevant)) (mass + r .mass) (left - 1)
     turned lower′ x =
         record {
           numbers = omega (arith, g .numbers, first (λ s m. 1), value-one (h .events) r);
           masses = omega (arith, g .masses, first (λ s m. m), value-mass (h .events) r (s .nothing));
           entries =
               λ v w l e.
-              omega
-              (arith,
-              g .entries v w l e,
-              x .each v w l e,
-              first (λ s m. m * digit (cuts (planOfLists h links words) v w s)));
+              omega (
+                arith,
+                g .entries v w l e,
+                x .each v w l e,
+                first (λ s m. m * digit (cuts (planOfLists h links words) v w s)),
+              );
           rest =
               sym (step-drop (h .events) (h .threshold) words at stack stack′ r s (left - 1))
               ∙ ap (λ (j : ℕ). drop j (coming h words at stack)) (sym one-less)

@@ -1,1 +1,97 @@
--- to come
+-- What the calls of the crate `bounds` answer, for every input.
+-- For each case of an answer, `ranAnswer` and `pairAnswer` say which number and values it stands for.
+-- Assumes nothing.
+use mathlib.Core.Path.{_≡_}
+use mathlib.Core.Bool.{_||_}
+use mathlib.Core.List.{List, [], _∷_}
+use Prim.Native.Nat.{ℕ, zero, suc, _/_, _<_, _≤_}
+use lib.Dec.{leb}
+use lib.ListN.{length, getD}
+use Rattle.mass.specs.Refusal.{refuse, first}
+use Rattle.mass.specs.Split.{whole}
+use Rattle.plan.specs.Plan.{Plan}
+use Rattle.plan.specs.Tests.{roomTest}
+use Rattle.plan.specs.Records.{listsRefusal, planOfLists}
+use Rattle.plan.specs.declared.Header.{Header}
+use Rattle.walk.specs.Walk.{count, complete, massExamined}
+use Rattle.bounds.specs.Pairs.{place, pairCount}
+use Rattle.bounds.specs.Bounds.{lowerOf, upperOf}
+use Rattle.bounds.specs.declared.Totals.{Totals}
+use Rattle.bounds.specs.declared.Ran.{Ran}
+use Rattle.bounds.specs.declared.Ran.the-variants as ran
+use Rattle.bounds.specs.declared.PairBounds.{PairBounds}
+use Rattle.bounds.specs.declared.Paired.{Paired}
+use Rattle.bounds.specs.declared.Paired.the-variants as paired
+
+-- the run: the lists' tests, then 12 for the two lists of bounds
+unfoldable pub runRefusal : Header → ℕ → ℕ → List ℕ → List ℕ → ℕ → ℕ → ℕ
+runRefusal h linkRoom eventRoom links words lowerRoom upperRoom =
+    first
+    (listsRefusal h linkRoom eventRoom links words
+    ∷ roomTest lowerRoom (pairCount (h .nodes))
+    ∷ roomTest upperRoom (pairCount (h .nodes))
+    ∷ [])
+
+-- the number with which a run on lent lists is refused
+abbrev pub runNumber : Header → List ℕ → List ℕ → List ℕ → List ℕ → ℕ
+runNumber h links events lower upper =
+    runRefusal h (length links) (length events / 4) links events (length lower) (length upper)
+
+-- the examined count, complete and E of a plan
+abbrev pub totalsOf : Plan → Totals
+totalsOf p = record { count = count p; complete = complete p; mass = massExamined p }
+
+abbrev pub ranAnswer : ℕ → Totals → Ran
+ranAnswer zero totals = ran.Done totals
+ranAnswer (suc number) totals = ran.Refused (suc number)
+
+-- the totals of an answer: all numbers are 0 where it refuses
+abbrev pub totalsIn : Ran → Totals
+totalsIn (ran.Refused number) = record { count = 0; complete = 0; mass = 0 }
+totalsIn (ran.Done totals) = totals
+
+-- 13: a pair without v < w < N
+abbrev pub pairTest : ℕ → ℕ → ℕ → ℕ
+pairTest nodes v w = refuse (leb w v || leb nodes w) 13
+
+-- the bounds of one pair: the lists' tests, then 13
+unfoldable pub pairRefusal : Header → ℕ → ℕ → List ℕ → List ℕ → ℕ → ℕ → ℕ
+pairRefusal h linkRoom eventRoom links words v w =
+    first (listsRefusal h linkRoom eventRoom links words ∷ pairTest (h .nodes) v w ∷ [])
+
+-- the number with which the bounds of one pair are refused
+abbrev pub pairNumber : Header → List ℕ → List ℕ → ℕ → ℕ → ℕ
+pairNumber h links events v w = pairRefusal h (length links) (length events / 4) links events v w
+
+-- the two bounds of the pair (v, w)
+abbrev pub boundsOf : Plan → ℕ → ℕ → PairBounds
+boundsOf p v w = record { lower = lowerOf p v w; upper = upperOf p v w }
+
+abbrev pub pairAnswer : ℕ → PairBounds → Paired
+pairAnswer zero bounds = paired.Done bounds
+pairAnswer (suc number) bounds = paired.Refused (suc number)
+
+-- the bounds in an answer: both are 0 where it refuses
+abbrev pub boundsIn : Paired → PairBounds
+boundsIn (paired.Refused number) = record { lower = 0; upper = 0 }
+boundsIn (paired.Done bounds) = bounds
+
+-- the entries of all pairs hold the lower bounds of a plan, and no entry is above the mass examined
+pub record Summed (p : Plan) (n : ℕ) (lower : List ℕ) : Type 0 where
+  pub sized : length lower ≡ 2016
+  pub below : (i : ℕ) → getD lower i 0 ≤ massExamined p
+  pub each : (v w : ℕ) → v < w → w < n → getD lower (place n v w) 0 ≡ lowerOf p v w
+
+-- 2016 zeros
+pub record Cleared (lower : List ℕ) : Type 0 where
+  pub sized : length lower ≡ 2016
+  pub zeros : (i : ℕ) → getD lower i 0 ≡ 0
+
+-- what giving the bounds out asks: sums of at most one whole, and room for all pairs
+pub record Giving (n mass : ℕ) (sums lower upper : List ℕ) : Type 0 where
+  pub few : n ≤ 64
+  pub light : mass ≤ whole
+  pub sized : length sums ≡ 2016
+  pub below : (i : ℕ) → getD sums i 0 ≤ whole
+  pub lower-room : pairCount n ≤ length lower
+  pub upper-room : pairCount n ≤ length upper

@@ -1,7 +1,7 @@
 -- Laws of the order of pairs.
 -- Assumes nothing.
-use mathlib.Core.Path.{_≡_, refl, sym, ap, subst, _∙_}
-use mathlib.Core.List.{List, [], _∷_, _++_}
+use mathlib.Core.Path.{_≡_, refl, sym, ap, subst, fun-ext, _∙_}
+use mathlib.Core.List.{List, [], _∷_, _++_, map, map-append}
 use Prim.Native.Nat.{ℕ, zero, suc, _+_, _-_, _*_, _/_, _<_, _≤_}
 use native.Mathlib.Nat.{add-zero, add-suc, zero-add, suc-add, sub-zero}
 use native.Mathlib.Decide.{decLt}
@@ -157,3 +157,28 @@ module _ (f : ℕ → ℕ → ℕ) (n : ℕ) where
   pub table-long : length (table f n) ≡ pairCount n
   unfolding table
   table-long = omega (arith, rows-long 0 n (zero-add n), start-zero n)
+
+-- law: no node's pairs of at most 64 nodes begin past 2,016
+pub start-most : (n v : ℕ) → n ≤ 64 → v ≤ n → start n v ≤ 2016
+start-most n v few h =
+    let e : v + (n - v) ≡ n = omega arith in
+    omega (arith, rw e at (start-mono n v (n - v)), pairs-most n few)
+
+-- law: a function of each entry of a table
+map-row : (g : ℕ → ℕ) (f : ℕ → ℕ → ℕ) (v w count : ℕ) → map g (row f v w count) ≡ row (λ a b. g (f a b)) v w count
+unfolding row
+map-row g f v w zero = refl
+map-row g f v w (suc count) = rw (map-row g f v (suc w) count)
+
+map-rows : (g : ℕ → ℕ) (f : ℕ → ℕ → ℕ) (n v count : ℕ) → map g (rows f n v count) ≡ rows (λ a b. g (f a b)) n v count
+unfolding rows
+map-rows g f n v zero = refl
+map-rows g f n v (suc count) = rw (map-append, map-row g f v (suc v) (n - suc v), map-rows g f n (suc v) count)
+
+pub map-table : (g : ℕ → ℕ) (f : ℕ → ℕ → ℕ) (n : ℕ) → map g (table f n) ≡ table (λ a b. g (f a b)) n
+unfolding table
+map-table g f n = map-rows g f n 0 n
+
+-- law: a table goes by what its function gives
+pub table-same : (f g : ℕ → ℕ → ℕ) (n : ℕ) → ((v w : ℕ) → f v w ≡ g v w) → table f n ≡ table g n
+table-same f g n same = ap (λ (h : ℕ → ℕ → ℕ). table h n) (fun-ext (λ v. fun-ext (same v)))

@@ -59,6 +59,7 @@ pub record Tallied (h : Header) (links words : List ℕ) (at : ℕ) (stack lower
       → getD lower′ (place (h .nodes) v w) 0
       ≡ getD lower (place (h .nodes) v w) 0
       + weighed (λ s. digit (cuts (planOfLists h links words) v w s)) (take k (coming h words at stack))
+  pub below : (i : ℕ) → getD lower′ i 0 ≤ r .mass
   pub rest : coming h words (r .at) stack′ ≡ drop k (coming h words at stack)
   pub stacked : Stack (h .events) (r .at) stack′
   pub sized : length lower′ ≡ 2016

@@ -1,13 +1,48 @@
 // The run over all pairs and the bounds of one pair: document 01, section "Bounds of a pair".
 // Assumes nothing.
 mod add;
+mod calls;
 mod ends;
+mod places;
+mod whole;
 
+pub use calls::pair;
+pub use calls::pair_core;
+pub use calls::run;
+pub use calls::run_core;
 pub use ends::go_on;
+pub use places::pair_test;
+pub use places::start_of;
+pub use whole::walk_all;
 
 // Where the stack of the walk begins, how many scenarios are examined so far, and their mass.
 pub struct Tally {
     pub at: usize,
     pub number: u64,
     pub mass: u64,
+}
+
+// The number of scenarios examined, whether the walk is complete (1 or 0), and the mass examined (E).
+pub struct Totals {
+    pub count: u64,
+    pub complete: u64,
+    pub mass: u64,
+}
+
+// What a run answers: the number of the refusal, or the totals.
+pub enum Ran {
+    Refused(u32),
+    Done(Totals),
+}
+
+// The two bounds of a pair.
+pub struct PairBounds {
+    pub lower: u64,
+    pub upper: u64,
+}
+
+// What the bounds of one pair answer.
+pub enum Paired {
+    Refused(u32),
+    Done(PairBounds),
 }

@@ -18,6 +18,7 @@ use Rattle.plan.specs.declared.Header.{Header}
 use Rattle.plan.specs.declared.Writing.{Writing}
 use Rattle.plan.specs.declared.Writing.the-variants.{Refused, Written}
 use Rattle.plan.proofs.ListLaws.{decides, first-last, Counted, counted, roomy}
+use Rattle.plan.proofs.CopyLaws.{first-stays, countsAndRooms}
 
 module _ (h : Header) (linkRoom eventRoom : ℕ) (links words : List ℕ) where
   -- lists that are not refused have counts in range
@@ -67,65 +68,6 @@ module _ (h : Header) (linkRoom eventRoom : ℕ) (links words : List ℕ) where
       = then-room (length out) 0 z (sym o ∙ (e ∙ ap (λ (k : ℕ). roomTest (length out) k) l)) in
       rw (← none) (ap Written l, w)
 
--- the lists are used up to the counts only
-two : (k : ℕ) → 2 * suc k ≡ suc (suc (2 * k))
-two k = omega arith
-
-four : (k : ℕ) → 4 * suc k ≡ suc (suc (suc (suc (4 * k))))
-four k = omega arith
-
-linksOf-prefix : (count : ℕ) (bytes : List ℕ) → linksOf count bytes ≡ linksOf count (take (2 * count) bytes)
-unfolding linksOf
-linksOf-prefix zero bytes = refl
-linksOf-prefix (suc count) [] = rw (two count)
-linksOf-prefix (suc count) (a ∷ []) = rw (two count)
-linksOf-prefix (suc count) (a ∷ b ∷ bytes) = rw (two count, ← linksOf-prefix count bytes)
-
-eventsOf-prefix : (count : ℕ) (words : List ℕ) → eventsOf count words ≡ eventsOf count (take (4 * count) words)
-unfolding eventsOf
-eventsOf-prefix zero words = refl
-eventsOf-prefix (suc count) [] = rw (four count)
-eventsOf-prefix (suc count) (a ∷ []) = rw (four count)
-eventsOf-prefix (suc count) (a ∷ b ∷ []) = rw (four count)
-eventsOf-prefix (suc count) (a ∷ b ∷ c ∷ []) = rw (four count)
-eventsOf-prefix (suc count) (a ∷ b ∷ c ∷ d ∷ words) = rw (four count, ← eventsOf-prefix count words)
-
-pub same-plan : (h : Header) (links links′ words words′ : List ℕ)
-    → take (2 * h .links) links ≡ take (2 * h .links) links′
-    → take (4 * h .events) words ≡ take (4 * h .events) words′
-    → planOfLists h links words ≡ planOfLists h links′ words′
-unfolding planOfLists
-same-plan h links links′ words words′ e f =
-    let l : linksOf (h .links) links ≡ linksOf (h .links) links′
-    = linksOf-prefix (h .links) links ∙ (ap (linksOf (h .links)) e ∙ sym (linksOf-prefix (h .links) links′)) in
-    let v : eventsOf (h .events) words ≡ eventsOf (h .events) words′
-    = eventsOf-prefix (h .events) words ∙ (ap (eventsOf (h .events)) f ∙ sym (eventsOf-prefix (h .events) words′)) in
-    rw (l, v)
-
--- the first entries of a copy are those of its source
-pub copied : (from to : List ℕ) (count used : ℕ) → count ≤ length from → count ≤ length to → used ≤ count
-    → take used (sets to 0 (take count from)) ≡ take used from
-copied from to count used h l u =
-    let n : length (take count from) ≡ count = length-take-le count from h in
-    rw (sets-eq (take count from) to 0 (omega arith)) (take-append-le used (take count from) _ (omega arith) ∙ take-take used count from u)
-
--- later tests do not matter where an earlier one refuses
-first-stays : (tests later : List ℕ) → (first tests ≡ 0 → ⊥) → first (tests ++ later) ≡ first tests
-unfolding first
-first-stays [] later n = absurd (n refl)
-first-stays (zero ∷ tests) later n = first-stays tests later n
-first-stays (suc number ∷ tests) later n = refl
-
--- the tests that come before those of the lists' entries
-abbrev pub countsAndRooms : Header → ℕ → ℕ → List ℕ
-countsAndRooms h linkRoom eventRoom =
-    countsTest (h .nodes) (h .links) (h .events)
-    ∷ thresholdTest (h .threshold)
-    ∷ limitTest (h .limit)
-    ∷ roomTest linkRoom (2 * h .links)
-    ∷ roomTest eventRoom (h .events)
-    ∷ []
-
 -- the refusal of `write`, of the plan that the lists denote
 abbrev refusalOf : Header → ℕ → ℕ → ℕ → Plan → ℕ
 refusalOf h linkRoom eventRoom room p =
@@ -172,18 +114,3 @@ same-outcome h linkRoom eventRoom links links′ words words′ out left answer 
   l ∙ rw (refusal-of h linkRoom eventRoom (length out) links words, refusal-of h linkRoom eventRoom (length out) links′ words′)
       (same-told (λ number p. filled number (layout p) out) (λ number p q. refl) h linkRoom eventRoom (length out) _ _ _ refl same),
 )
-
--- copies of the first 256 bytes and 512 words denote the same plan
-pub copies-plan : (h : Header) (links words bytes wide : List ℕ) (m n : ℕ)
-    → length bytes ≡ 256 → length wide ≡ 512 → m ≡ min (length links) 256 → n ≡ min (length words) 512
-    → first (countsAndRooms h (length links) (length words / 4)) ≡ 0
-    → planOfLists h (sets bytes 0 (take m links)) (sets wide 0 (take n words)) ≡ planOfLists h links words
-copies-plan h links words bytes wide m n b w e f z =
-    let one = first-none _ _ z in
-    let four′ = first-none _ _ (first-none _ _ (first-none _ _ (one .1) .1) .1) in
-    let fit : Counted (h .nodes) (h .links) (h .events) = counted _ _ _ (one .0) in
-    let l : 2 * h .links ≤ length links = roomy _ _ (four′ .0) in
-    let v : h .events ≤ length words / 4 = roomy _ _ (first-none _ _ (four′ .1) .0) in
-    same-plan h _ _ _ _
-    (copied links bytes m (2 * h .links) (omega arith) (omega arith) (omega arith))
-    (copied words wide n (4 * h .events) (omega arith) (omega arith) (omega arith))

@@ -1,9 +1,8 @@
 // Writing a plan file from a header and lent lists. All tests are made before the first byte is laid down, so that a refusal changes nothing.
 use plan::Header;
 use plan::Writing;
-use plan::copy_bytes;
-use plan::copy_words;
 use plan::lists_refusal;
+use plan::load;
 use plan::put_bytes;
 use plan::room_test;
 ghost use mathlib.Core.Path.{_≡_};
@@ -200,16 +199,6 @@ pub fn write_core(
     Writing::Written(size)
 }
 
-// The smaller of two numbers.
-pub fn smaller(a: usize, b: usize) -> usize
-    ensures { λ r. ⌜ r ≡ min a b ⌝ }
-{
-    if a < b {
-        return a;
-    }
-    b
-}
-
 // Writes a plan from lent lists: links two bytes each, events four words each.
 pub fn write(h: Header, links: &[u8], events: &[u64], out: &mut [u8]) -> Writing
     ensures { λ r. ⌜ r ≡ writeAnswer
@@ -221,7 +210,6 @@ pub fn write(h: Header, links: &[u8], events: &[u64], out: &mut [u8]) -> Writing
 {
     let mut bytes = [0u8; 256];
     let mut words = [0u64; 512];
-    copy_bytes(links, &mut bytes[..], smaller(links.len(), 256));
-    copy_words(events, &mut words[..], smaller(events.len(), 512));
+    load(links, events, &mut bytes, &mut words);
     write_core(h, links.len(), events.len() / 4, &bytes, &words, out)
 }

@@ -4,6 +4,7 @@ pub mod FileLaws
 pub mod FileLawsSteps
 pub mod FileLawsAccepted
 pub mod ListLaws
+pub mod CopyLaws
 pub mod LayoutNumbers
 pub mod LayoutSets
 pub mod LayoutMembers

@@ -16,6 +16,7 @@ pub use file::rank_at;
 pub use lists::copy_bytes;
 pub use lists::copy_words;
 pub use lists::lists_refusal;
+pub use lists::load;
 pub use lists::put_bytes;
 pub use tests::room_test;
 

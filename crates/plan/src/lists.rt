@@ -3,7 +3,7 @@ use crate::Header;
 use crate::bytes::byte_at;
 use crate::tests;
 ghost use mathlib.Core.Path.{_≡_};
-ghost use Prim.Native.Nat.{_+_, _*_, _≤_};
+ghost use Prim.Native.Nat.{_+_, _*_, _≤_, min};
 ghost use lib.ListN.{length, take};
 ghost use lib.Seq.{sets};
 ghost use Rattle.mass.specs.Split.{certain};
@@ -40,6 +40,25 @@ pub fn copy_words(from: &[u64], to: &mut [u64], count: usize)
         to[i] = from[i];
         i += 1;
     }
+}
+
+// Takes the first bytes and words of lent lists into the arrays.
+pub fn load(links: &[u8], events: &[u64], bytes: &mut [u8; 256], words: &mut [u64; 512])
+    ensures { λ r. ⌜ now (bytes .exit) ≡ sets (now (bytes .entry)) 0 (take (min (length (now (links .entry))) 256) (now (links .entry))) ⌝ }
+    ensures { λ r. ⌜ now (words .exit) ≡ sets (now (words .entry)) 0 (take (min (length (now (events .entry))) 512) (now (events .entry))) ⌝ }
+{
+    copy_bytes(links, bytes, smaller(links.len(), 256));
+    copy_words(events, words, smaller(events.len(), 512));
+}
+
+// The smaller of two numbers.
+fn smaller(a: usize, b: usize) -> usize
+    ensures { λ r. ⌜ r ≡ min a b ⌝ }
+{
+    if a < b {
+        return a;
+    }
+    b
 }
 
 // Each link, 7.

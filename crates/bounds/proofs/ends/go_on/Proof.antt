@@ -34,9 +34,10 @@ next-end-requires c κs =
 -- src/ends.rt:96:9
 examine-end-requires : tie.Need-examine-end-requires Inv-loop μ-loop
 examine-end-requires c κs =
-    let g = c .before .before .before .before .before .loop .inv in
-    (g .ready .held,
-    (c .before .next-end .ensures .decided, end-sums _ _ _ _ _ _ _ _ _ _ _ _ _ _ _ g (c .before .before .before .if1 .left) _ _ (c .before .next-end .ensures)))
+    let g = c .before .before .before .before .before .loop .inv in (
+      g .ready .held,
+      (c .before .next-end .ensures .decided, end-sums _ _ _ _ _ _ _ _ _ _ _ _ _ _ _ g (c .before .before .before .if1 .left) _ _ (c .before .next-end .ensures)),
+    )
 
 -- src/ends.rt:107:9
 one-more-requires : tie.Need-one-more-requires Inv-loop μ-loop

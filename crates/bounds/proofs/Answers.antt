@@ -1,0 +1,171 @@
+-- The answers of the run and of one pair, and what they leave in the lists, from what the walk gave.
+-- Assumes nothing.
+use mathlib.Core.Path.{_≡_, refl, sym, ap, subst₂, _∙_}
+use mathlib.Core.List.{List, [], _∷_, _++_, map}
+use Prim.Native.Nat.{ℕ, zero, suc, _+_, _-_, _*_, _/_, _^_, _<_, _≤_, min}
+use native.Mathlib.Numerals.{add-one}
+use native.Mathlib.Omega.{arith}
+use borrow.Author.Tests.{leb-false}
+use lib.Dec.{leb}
+use lib.ListN.{length, getD, take, drop, length-map, List·getD-append}
+use lib.Seq.{sets, sets-eq, take-length, length-take-le}
+use Rattle.mass.specs.Refusal.{refuse-none, first, first-none, first-skip, first-stop}
+use Rattle.mass.specs.Split.{whole}
+use Rattle.plan.specs.Plan.{Plan}
+use Rattle.plan.specs.Tests.{roomTest}
+use Rattle.plan.specs.Records.{planRefusal, planOfLists, listsRefusal}
+use Rattle.plan.specs.Calls.{filled}
+use Rattle.plan.specs.declared.Header.{Header}
+use Rattle.plan.proofs.TestLaws.{or-none, room-none}
+use Rattle.plan.proofs.FileLaws.{stop, skip}
+use Rattle.plan.proofs.ListTheorems.{lists-denote}
+use Rattle.walk.specs.Walk.{massExamined, count}
+use Rattle.walk.specs.Laws.{massExamined-le}
+use Rattle.walk.specs.Valid.{plan-probable}
+use Rattle.sums.specs.Bounds.{upper-lower, demand3-valid}
+use Rattle.bounds.specs.Pairs.{row, rows, table, start, place, pairCount}
+use Rattle.bounds.specs.PairLaws.{table-is, table-at, table-long, map-table, table-same, place-is, place-lt, pairs-most}
+use Rattle.bounds.specs.Bounds.{cuts, lowerOf, upperOf, lowerList, upperList, Encloses, EnclosesAll}
+use Rattle.bounds.specs.Calls.{runRefusal, ranAnswer, totalsOf, totalsIn, pairTest, pairRefusal, pairAnswer, boundsOf, boundsIn, Summed, Giving}
+use Rattle.bounds.specs.declared.Totals.{Totals}
+use Rattle.bounds.specs.declared.Ran.{Ran}
+use Rattle.bounds.specs.declared.Ran.the-variants as ran
+use Rattle.bounds.specs.declared.PairBounds.{PairBounds}
+use Rattle.bounds.specs.declared.Paired.the-variants as paired
+
+pub ran-refused : (number : ℕ) (totals : Totals) → (number ≡ 0 → ⊥) → ran.Refused number ≡ ranAnswer number totals
+ran-refused zero totals n = absurd (n refl)
+ran-refused (suc number) totals n = refl
+
+pub pair-refused : (number : ℕ) (bounds : PairBounds) → (number ≡ 0 → ⊥) → paired.Refused number ≡ pairAnswer number bounds
+pair-refused zero bounds n = absurd (n refl)
+pair-refused (suc number) bounds n = refl
+
+-- what a test's number says of the answer
+pub ran-refuses : (number refusal : ℕ) (totals : Totals) → number ≡ refusal → (number ≡ 0 → ⊥) → ran.Refused number ≡ ranAnswer refusal totals
+ran-refuses number refusal totals e n = ran-refused number totals n ∙ ap (λ (x : ℕ). ranAnswer x totals) e
+
+pub ran-done : (refusal : ℕ) (t totals : Totals) → refusal ≡ 0 → t ≡ totals → ran.Done t ≡ ranAnswer refusal totals
+ran-done refusal t totals e same = ap ran.Done same ∙ ap (λ (x : ℕ). ranAnswer x totals) (sym e)
+
+pub pair-refuses : (number refusal : ℕ) (bounds : PairBounds) → number ≡ refusal → (number ≡ 0 → ⊥) → paired.Refused number ≡ pairAnswer refusal bounds
+pair-refuses number refusal bounds e n = pair-refused number bounds n ∙ ap (λ (x : ℕ). pairAnswer x bounds) e
+
+pub pair-done : (refusal : ℕ) (r bounds : PairBounds) → refusal ≡ 0 → r ≡ bounds → paired.Done r ≡ pairAnswer refusal bounds
+pair-done refusal r bounds e same = ap paired.Done same ∙ ap (λ (x : ℕ). pairAnswer x bounds) (sym e)
+
+module _ (h : Header) (linkRoom eventRoom : ℕ) (links words : List ℕ) where
+  -- what an accepted run says
+  pub run-none : (lowerRoom upperRoom : ℕ) → runRefusal h linkRoom eventRoom links words lowerRoom upperRoom ≡ 0
+      → (listsRefusal h linkRoom eventRoom links words ≡ 0) × (pairCount (h .nodes) ≤ lowerRoom) × (pairCount (h .nodes) ≤ upperRoom)
+  unfolding runRefusal
+  run-none lowerRoom upperRoom e =
+      let l = first-none _ _ e in
+      let a = first-none _ _ (l .1) in
+      (l .0, room-none lowerRoom (pairCount (h .nodes)) (a .0), room-none upperRoom (pairCount (h .nodes)) (first-none _ _ (a .1) .0))
+
+  pub pair-lists-stop : (v w number : ℕ) → number ≡ listsRefusal h linkRoom eventRoom links words → (number ≡ 0 → ⊥)
+      → number ≡ pairRefusal h linkRoom eventRoom links words v w
+  unfolding pairRefusal
+  pair-lists-stop v w number e n = stop _ e n
+
+  pub pair-test-stop : (v w lists number : ℕ) → lists ≡ listsRefusal h linkRoom eventRoom links words → lists ≡ 0
+      → number ≡ pairTest (h .nodes) v w → (number ≡ 0 → ⊥) → number ≡ pairRefusal h linkRoom eventRoom links words v w
+  unfolding pairRefusal
+  pair-test-stop v w lists number e z f n = skip _ e z (stop _ f n)
+
+  pub pair-accepted : (v w : ℕ) → listsRefusal h linkRoom eventRoom links words ≡ 0 → pairTest (h .nodes) v w ≡ 0
+      → pairRefusal h linkRoom eventRoom links words v w ≡ 0
+  unfolding pairRefusal first
+  pair-accepted v w e f = rw (e, f)
+
+  pub pair-none : (v w : ℕ) → pairRefusal h linkRoom eventRoom links words v w ≡ 0 → listsRefusal h linkRoom eventRoom links words ≡ 0
+  unfolding pairRefusal
+  pair-none v w e = first-none _ _ e .0
+
+pub pair-inside : (nodes v w : ℕ) → pairTest nodes v w ≡ 0 → (v < w) × (w < nodes)
+pair-inside nodes v w e =
+    let t = or-none (leb w v) (leb nodes w) (refuse-none _ 12 e) in
+    (leb-false w v (t .0), leb-false nodes w (t .1))
+
+-- the place of a pair, from the start of its node's pairs
+pub at-place-is : (n v w s : ℕ) → s ≡ start n v → s + (w - (v + 1)) ≡ place n v w
+at-place-is n v w s e = rw (e, add-one v) (sym (place-is n v w))
+
+pub inside : (n v w : ℕ) → n ≤ 64 → (v < w) × (w < n) → (s : ℕ) → s ≡ start n v → s + (w - (v + 1)) < 2016
+inside n v w few h s e =
+    omega (arith, at-place-is n v w s e, place-lt n v w few (h .0) (h .1), pairs-most n few)
+
+-- ---- the bounds of an accepted plan
+
+module _ (p : Plan) (valid : planRefusal p ≡ 0) where
+  pub mass-most : massExamined p ≤ whole
+  mass-most = massExamined-le p (plan-probable p valid)
+
+  -- upper is what is not examined, and lower
+  pub raised : (v w : ℕ) → (whole - massExamined p) + lowerOf p v w ≡ upperOf p v w
+  raised v w = omega (arith, upper-lower p (plan-probable p valid) (cuts p v w), mass-most)
+
+  pub enclosed : (v w : ℕ) → Encloses p v w (lowerOf p v w) (upperOf p v w) (count p)
+  enclosed v w = demand3-valid p valid (cuts p v w)
+
+  -- sums of the whole walk may be given out
+  pub giving : (n mass : ℕ) (sums lower upper : List ℕ) → Summed p n sums → mass ≡ massExamined p → n ≤ 64
+      → pairCount n ≤ length lower → pairCount n ≤ length upper → Giving n mass sums lower upper
+  giving n mass sums lower upper s e few l u =
+      record {
+        few = few;
+        light = omega (arith, mass-most);
+        sized = s .sized;
+        below = λ i. omega (arith, s .below i, mass-most);
+        lower-room = l;
+        upper-room = u;
+      }
+
+  -- the bounds of a pair, from the sums
+  pub pair-bounds : (n mass : ℕ) (sums : List ℕ) (r : PairBounds) → Summed p n sums → mass ≡ massExamined p → (v w : ℕ) → v < w → w < n
+      → (r .lower ≡ getD sums (place n v w) 0) × (r .upper ≡ (whole - mass) + getD sums (place n v w) 0) → r ≡ boundsOf p v w
+  pair-bounds n mass sums r s e v w l k is =
+      let low : r .lower ≡ lowerOf p v w = is .0 ∙ s .each v w l k in
+      let high : r .upper ≡ upperOf p v w = omega (arith, is .1, s .each v w l k, raised v w, e) in
+      λ i. record { lower = low i; upper = high i }
+
+  -- ---- the lists
+
+  lowers-are : (sums : List ℕ) → Summed p (p .nodes) sums → p .nodes ≤ 64 → take (pairCount (p .nodes)) sums ≡ lowerList p
+  lowers-are sums s few = table-is (lowerOf p) (p .nodes) sums (omega (arith, s .sized, pairs-most (p .nodes) few)) (s .each)
+
+  uppers-are : (sums : List ℕ) → Summed p (p .nodes) sums → p .nodes ≤ 64
+      → map (λ x. (whole - massExamined p) + x) (take (pairCount (p .nodes)) sums) ≡ upperList p
+  uppers-are sums s few =
+      ap (map (λ x. (whole - massExamined p) + x)) (lowers-are sums s few)
+      ∙ map-table (λ x. (whole - massExamined p) + x) (lowerOf p) (p .nodes)
+      ∙ table-same (λ v w. (whole - massExamined p) + lowerOf p v w) (upperOf p) (p .nodes) raised
+
+  -- what was laid down is found at each pair's place
+  at-place : (f : ℕ → ℕ → ℕ) (list : List ℕ) → pairCount (p .nodes) ≤ length list → p .nodes ≤ 64 → (v w : ℕ) → v < w → w < p .nodes
+      → getD (sets list 0 (table f (p .nodes))) (place (p .nodes) v w) 0 ≡ f v w
+  at-place f list room few v w l k =
+      let long : length (table f (p .nodes)) ≡ pairCount (p .nodes) = table-long f (p .nodes) in
+      rw (sets-eq (table f (p .nodes)) list 0 (omega arith))
+      (List·getD-append (table f (p .nodes)) _ 0 (place (p .nodes) v w) (omega (arith, place-lt (p .nodes) v w few l k))
+      ∙ table-at f (p .nodes) v w l k)
+
+  module _ (sums lower upper : List ℕ) (s : Summed p (p .nodes) sums) (few : p .nodes ≤ 64)
+      (lr : pairCount (p .nodes) ≤ length lower) (ur : pairCount (p .nodes) ≤ length upper) where
+    pub lower-laid : sets lower 0 (take (pairCount (p .nodes)) sums) ≡ sets lower 0 (lowerList p)
+    lower-laid = ap (sets lower 0) (lowers-are sums s few)
+
+    pub upper-laid : (mass : ℕ) → mass ≡ massExamined p
+        → sets upper 0 (map (λ x. (whole - mass) + x) (take (pairCount (p .nodes)) sums)) ≡ sets upper 0 (upperList p)
+    upper-laid mass e =
+        ap (λ (m : ℕ). sets upper 0 (map (λ x. (whole - m) + x) (take (pairCount (p .nodes)) sums))) e
+        ∙ ap (sets upper 0) (uppers-are sums s few)
+
+    -- DEMAND 3 for the numbers in the lists
+    pub all-enclosed : EnclosesAll p (sets lower 0 (lowerList p)) (sets upper 0 (upperList p)) (count p)
+    all-enclosed v w l k =
+        subst₂ (λ (a c : ℕ). Encloses p v w a c (count p))
+        (sym (at-place (lowerOf p) lower lr few v w l k))
+        (sym (at-place (upperOf p) upper ur few v w l k))
+        (enclosed v w)

@@ -1,0 +1,67 @@
+-- `bounds::calls::give_bounds` meets its contract. Assumes nothing.
+use mathlib.Core.Path.{ap, _∙_}
+use mathlib.Core.List.{map}
+use Prim.Native.Nat.{ℕ, _+_, _-_}
+use native.Mathlib.Omega.{arith}
+use lib.ListN.{take}
+use lib.Seq.{sets}
+use Rattle.mass.specs.Split.{whole}
+use Rattle.bounds.specs.PairLaws.{pairs-most}
+use Rattle.bounds.proofs.calls.give_bounds.Statement.{statement}
+use Rattle.bounds.proofs.calls.give_bounds.Tie as tie
+use Rattle.bounds.proofs.calls.give_bounds.Reads as reads
+use Rattle.bounds.proofs.calls.give_bounds.Lts as lts
+use Rattle.bounds.proofs.calls.copy_raised.Reads as copy-raised-reads
+use Rattle.bounds.proofs.places.start_of.Reads as start-of-reads
+use Rattle.plan.proofs.copy_words.Reads as copy-words-reads
+
+-- src/calls.rt:100:9
+start-of-requires : tie.Need-start-of-requires
+start-of-requires c κs = (c .before .before .pre .few, omega arith)
+
+-- src/calls.rt:101:5
+copy-words-requires : tie.Need-copy-words-requires
+copy-words-requires c κs =
+    let g = c .before .before .before .before .before .pre in
+    let e = c .before .before .start-of .ensures in
+    (omega (arith, e, g .sized, pairs-most _ (g .few)), omega (arith, e, g .lower-room))
+
+-- src/calls.rt:102:37
+sub-copy-raised : tie.Need-sub-copy-raised
+sub-copy-raised c = c .before .before .before .before .before .before .before .before .before .before .before .pre .light
+
+-- src/calls.rt:102:5
+copy-raised-requires : tie.Need-copy-raised-requires
+copy-raised-requires c κs =
+    let g = c .before .before .before .before .before .before .before .before .before .before .before .pre in
+    let e = c .before .before .before .before .before .before .before .before .start-of .ensures in
+    ((omega (arith, e, g .sized, pairs-most _ (g .few)), omega (arith, e, g .upper-room)), λ i h. omega (arith, g .below i))
+
+-- src/calls.rt:95:1
+same-length : tie.Need-same-length
+same-length c = c .before .before .before .before .before .before .before .before .copy-words .kept .1 .0
+
+-- src/calls.rt:95:1
+same-length-2 : tie.Need-same-length-2
+same-length-2 c = c .before .before .copy-raised .kept .1 .0
+
+-- src/calls.rt:95:1
+returns : tie.Need-returns
+returns c =
+    let a = c .before .before .before .before .before .before .before .before .before .before .before .before .before .before .args in
+    let e = c .before .before .before .before .before .before .before .before .before .before .before .start-of .ensures in (
+      c .before .before .before .before .before .before .before .before .copy-words .ensures ∙ ap (λ (k : ℕ). sets (a .lower .now) 0 (take k (a .sums .now))) e,
+      c .before .before .copy-raised .ensures ∙ ap (λ (k : ℕ). sets (a .upper .now) 0 (map (λ x. (whole - a .mass) + x) (take k (a .sums .now)))) e,
+    )
+
+pub give-bounds-spec : {M : Type 1} → statement M
+give-bounds-spec =
+    tie.close
+    (tie.spec
+    start-of-requires
+    copy-words-requires
+    sub-copy-raised
+    copy-raised-requires
+    same-length
+    same-length-2
+    returns)

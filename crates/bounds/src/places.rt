@@ -1,0 +1,32 @@
+// The places of the pairs in their order, and the test of a pair.
+ghost use mathlib.Core.Path.{_≡_};
+ghost use Prim.Native.Nat.{_≤_};
+ghost use Rattle.bounds.specs.Pairs.{start};
+ghost use Rattle.bounds.specs.Calls.{pairTest};
+
+// The place of the first pair of node v, of n nodes.
+pub fn start_of(n: usize, v: usize) -> usize
+    requires { ⌜ (n ≤ 64) × (v ≤ n) ⌝ }
+    ensures { λ r. ⌜ r ≡ start n v ⌝ }
+{
+    let mut at = 0;
+    let mut u = 0;
+    while u < v {
+        u += 1;
+        at += n - u;
+    }
+    at
+}
+
+// 13: a pair without v < w < N.
+pub fn pair_test(nodes: u64, v: u64, w: u64) -> u32
+    ensures { λ r. ⌜ r ≡ pairTest nodes v w ⌝ }
+{
+    if w <= v {
+        return 13;
+    }
+    if nodes <= w {
+        return 13;
+    }
+    0
+}
