@@ -1,7 +1,7 @@
 -- Laws of reach: it is symmetric, a node that works reaches itself, and failing more never connects more.
 -- Assumes nothing.
-use mathlib.Core.Path.{_≡_}
-use mathlib.Core.Bool.{true, false, not, _&&_}
+use mathlib.Core.Path.{_≡_, sym, ap, _∙_}
+use mathlib.Core.Bool.{Bool, true, false, not, _&&_}
 use mathlib.Core.List.{List}
 use mathlib.Core.Logic.{inl, inr, ⊎-elim}
 use Prim.Native.Nat.{ℕ}
@@ -102,3 +102,26 @@ outage-grows events start start′ failing failing′ s f = (
   union-grows (λ e. e .nodes) events (start .nodes) (start′ .nodes) failing failing′ (s .0) f,
   union-grows (λ e. e .links) events (start .links) (start′ .links) failing failing′ (s .1) f,
 )
+
+-- the working nodes and links decide: two outages that leave the same ones disconnect the same pairs
+module _ (nodes : ℕ) (links : List Link) (out other : Outage)
+    (same-nodes : (v : ℕ) → nodeWorks (networkOf nodes links out) v ≡ nodeWorks (networkOf nodes links other) v)
+    (same-links : (i : ℕ) → linkWorks (networkOf nodes links out) i ≡ linkWorks (networkOf nodes links other) i)
+  where
+    same-step : (v w : ℕ) → WorkingLink (networkOf nodes links out) v w → WorkingLink (networkOf nodes links other) v w
+    unfolding joins
+    same-step v w s = (s .0, ap (λ (x : Bool). x && ends (linkAt links (s .0)) v w) (sym (same-links (s .0))) ∙ s .1)
+
+    still-connected : (v w : ℕ) → disconnected (networkOf nodes links out) v w ≡ false → disconnected (networkOf nodes links other) v w ≡ false
+    still-connected v w e =
+        let h = connected-is (networkOf nodes links out) v w .0 e in
+        connected-is (networkOf nodes links other) v w .1 (sym (same-nodes v) ∙ h .0, sym (same-nodes w) ∙ h .1, chain-map same-step (h .2))
+
+pub same-working : (nodes : ℕ) (links : List Link) (out other : Outage)
+    → ((v : ℕ) → nodeWorks (networkOf nodes links out) v ≡ nodeWorks (networkOf nodes links other) v)
+    → ((i : ℕ) → linkWorks (networkOf nodes links out) i ≡ linkWorks (networkOf nodes links other) i)
+    → (v w : ℕ) → disconnected (networkOf nodes links out) v w ≡ disconnected (networkOf nodes links other) v w
+same-working nodes links out other same-nodes same-links v w =
+    same-bool _ _
+    (λ e. so-unless _ (λ f. clash e (still-connected nodes links other out (λ x. sym (same-nodes x)) (λ x. sym (same-links x)) v w f)))
+    (λ e. so-unless _ (λ f. clash e (still-connected nodes links out other same-nodes same-links v w f)))
