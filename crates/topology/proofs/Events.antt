@@ -1,10 +1,10 @@
 -- The events in a list of words, and the failed sets gathered event by event.
 -- Assumes nothing.
-use mathlib.Core.Path.{_≡_, refl, sym, ap, ap₂, _∙_, subst}
-use mathlib.Core.Bool.{Bool, true, false, not, _&&_, _||_}
-use mathlib.Core.List.{List, [], _∷_}
+use mathlib.Core.Path.{_≡_, refl, sym, ap, _∙_, subst}
+use mathlib.Core.Bool.{true, false, not, _&&_, _||_}
+use mathlib.Core.List.{List}
 use mathlib.Core.Logic.{_⊎_, inl, inr, ⊎-elim}
-use Prim.Native.Nat.{ℕ, zero, suc, _+_, _-_, _*_, _/_, _^_, _≤_, _<_}
+use Prim.Native.Nat.{ℕ, zero, suc, _+_, _-_, _*_, _^_, _≤_, _<_}
 use native.Mathlib.Omega.{arith}
 use native.Mathlib.Decide.{decLt}
 use native.Mathlib.Nat.{mul-one, zero-mul, lt-of-le-of-lt, mul-le-mul-right}
@@ -15,7 +15,7 @@ use lib.Seq.{getD-drop}
 use borrow.Author.Tests.{eqb-true, eq-eqb}
 use Rattle.sets.specs.Sets.{bit, joined}
 use Rattle.sets.specs.Laws.{bit-or, bit-none, bits-same, bit-shl, bit-shl-below, bit-below}
-use Rattle.sets.specs.Bools.{and-left, and-right, and-both, or-either, or-left, or-right, which, clash, not-of, of-not, same-bool}
+use Rattle.sets.specs.Bools.{and-left, and-both, or-either, or-left, or-right, which, clash, not-of, same-bool}
 use Rattle.plan.specs.Plan.{Event}
 use Rattle.plan.specs.Lists.{eventsOf}
 use Rattle.topology.specs.Outage.{Outage, eventAt, unionOf, withEvent, outageOf}

@@ -4,7 +4,7 @@ use mathlib.Core.Path.{_≡_, refl, sym, ap, _∙_}
 use mathlib.Core.Bool.{Bool, true, false, not, _&&_}
 use mathlib.Core.List.{List}
 use mathlib.Core.Logic.{_↔_}
-use Prim.Native.Nat.{ℕ, suc, _+_, _≤_, _<_}
+use Prim.Native.Nat.{ℕ, _+_}
 use native.Mathlib.Omega.{arith}
 use lib.Dec.{ltb, eqb}
 use lib.ListN.{getD}
@@ -18,7 +18,7 @@ use Rattle.topology.specs.Paths.{WorkingLink, WorkingPath, disconnected}
 use Rattle.topology.specs.Chains.{chain-map, chain-keeps}
 use Rattle.topology.specs.Works.{adjacent-link, link-adjacent, adjacent-sym, link-nodes}
 use Rattle.topology.specs.Connection.{connected-is}
-use Rattle.topology.specs.RowPaths.{RowStep, RowPath, Reached, Joining}
+use Rattle.topology.specs.RowPaths.{RowStep, Reached, Joining}
 
 -- ---- what a node reaches is what it is connected to
 

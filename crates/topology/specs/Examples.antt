@@ -7,7 +7,7 @@ use Prim.Native.Nat.{ℕ}
 use Rattle.sets.specs.Sets.{bit}
 use Rattle.sets.specs.Bools.{anyBelow}
 use Rattle.plan.specs.Plan.{Link, Event}
-use Rattle.topology.specs.Outage.{Outage, unionOf, outageOf}
+use Rattle.topology.specs.Outage.{unionOf, outageOf}
 use Rattle.topology.specs.Topology.{networkOf, nodeWorks, linkWorks, joins, adjacent}
 use Rattle.topology.specs.Paths.{via, disconnected}
 

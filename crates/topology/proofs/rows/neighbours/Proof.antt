@@ -7,7 +7,7 @@ use native.Mathlib.Omega.{arith}
 use lib.ListN.{length, getD, set, length-set}
 use Rattle.sets.specs.Sets.{bit, joined}
 use Rattle.topology.specs.Code.{outage}
-use Rattle.topology.proofs.LinkBytes.{worksBy, on-is}
+use Rattle.topology.proofs.LinkBytes.{on-is}
 use Rattle.topology.proofs.RowSets.{RowsBelow, rows-none, rows-next, rows-all}
 use Rattle.topology.proofs.rows.neighbours.Statement.{statement}
 use Rattle.topology.proofs.rows.neighbours.Tie as tie
