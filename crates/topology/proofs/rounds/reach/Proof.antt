@@ -23,7 +23,11 @@ both-requires : tie.Need-both-requires Inv-loop μ-loop
 both-requires c κs = search needs
 
 loop-holds : tie.Need-loop-holds Inv-loop μ-loop
-loop-holds c = (omega arith, round-first _ _ _ _ (λ j. c .both .ensures j ∙ ap (λ (x : Bool). bit (c .before .before .args .nodes) j && x) (c .before .only .ensures j)))
+loop-holds c = (
+  omega arith,
+  round-first _ _ _ _
+      (λ j. c .both .ensures j ∙ ap (λ (x : Bool). bit (c .before .before .args .nodes) j && x) (c .before .only .ensures j)),
+)
 
 union-requires : tie.Need-union-requires Inv-loop μ-loop
 union-requires c κs = search needs
@@ -35,7 +39,8 @@ less-requires : tie.Need-less-requires Inv-loop μ-loop
 less-requires c κs = search needs
 
 -- the fresh nodes are added to those seen
-larger : (c : tie.After-less Inv-loop μ-loop) → c .before .before .before .union .result ≡ c .before .before .before .before .before .loop .seen + c .before .before .before .before .before .loop .fresh
+larger : (c : tie.After-less Inv-loop μ-loop)
+    → c .before .before .before .union .result ≡ c .before .before .before .before .before .loop .seen + c .before .before .before .before .before .loop .fresh
 larger c =
     let start = c .before .before .before .before .before .before .before .before .args in
     let loop = c .before .before .before .before .before .loop in
