@@ -1,10 +1,10 @@
 -- Laws of a set's lowest element: what `trailing_zeros` finds, and the set without it.
 -- Assumes nothing.
 use mathlib.Core.Path.{_≡_, refl, sym, ap, _∙_}
-use mathlib.Core.Bool.{Bool, true, false, not, _&&_, and-false, and-true, and-self, true≢false}
-use Prim.Native.Nat.{ℕ, zero, suc, _-_, _*_, _/_, _%_, _^_, _≤_, _<_}
+use mathlib.Core.Bool.{true, false, not, _&&_, and-true, and-self}
+use Prim.Native.Nat.{ℕ, zero, suc, _-_, _/_, _%_, _^_, _<_}
 use native.Mathlib.Omega.{arith}
-use lib.Dec.{eqb, eqb·zero-suc, eqb·suc-zero, eqb·suc-suc}
+use lib.Dec.{eqb, eqb·suc-zero, eqb·suc-suc}
 use lib.Bits.{bitAnd}
 use lib.Count.{trailingZeros}
 use Rattle.sets.specs.Sets.{bit}

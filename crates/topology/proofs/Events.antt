@@ -1,10 +1,10 @@
 -- The events in a list of words, and the failed sets gathered event by event.
 -- Assumes nothing.
-use mathlib.Core.Path.{_≡_, refl, sym, ap, ap₂, _∙_, subst}
-use mathlib.Core.Bool.{Bool, true, false, not, _&&_, _||_}
-use mathlib.Core.List.{List, [], _∷_}
+use mathlib.Core.Path.{_≡_, refl, sym, ap, _∙_, subst}
+use mathlib.Core.Bool.{true, false, not, _&&_, _||_}
+use mathlib.Core.List.{List}
 use mathlib.Core.Logic.{_⊎_, inl, inr, ⊎-elim}
-use Prim.Native.Nat.{ℕ, zero, suc, _+_, _-_, _*_, _/_, _^_, _≤_, _<_}
+use Prim.Native.Nat.{ℕ, zero, suc, _+_, _-_, _*_, _^_, _≤_, _<_}
 use native.Mathlib.Omega.{arith}
 use native.Mathlib.Decide.{decLt}
 use native.Mathlib.Nat.{mul-one, zero-mul, lt-of-le-of-lt, mul-le-mul-right}
@@ -15,11 +15,11 @@ use lib.Seq.{getD-drop}
 use borrow.Author.Tests.{eqb-true, eq-eqb}
 use Rattle.sets.specs.Sets.{bit, joined}
 use Rattle.sets.specs.Laws.{bit-or, bit-none, bits-same, bit-shl, bit-shl-below, bit-below}
-use Rattle.sets.specs.Bools.{and-left, and-right, and-both, or-either, or-left, or-right, which, clash, not-of, of-not, same-bool}
+use Rattle.sets.specs.Bools.{and-left, and-both, or-either, or-left, or-right, which, clash, not-of, same-bool}
 use Rattle.plan.specs.Plan.{Event}
 use Rattle.plan.specs.Lists.{eventsOf}
 use Rattle.topology.specs.Outage.{Outage, eventAt, unionOf, withEvent, outageOf}
-use Rattle.topology.specs.Failing.{Named, union-is}
+use Rattle.topology.specs.Failing.{Named, union-from, union-start, union-event, union-is}
 
 -- ---- the list of words
 
@@ -58,8 +58,8 @@ module _ (part : Event → ℕ) (events : List Event) where
   -- with no failing event
   pub union-none : (start : ℕ) → unionOf part start events 0 ≡ start
   union-none start = bits-same _ _ (λ v. same-bool _ _
-      (λ e. ⊎-elim (λ h. h) (λ n. absurd (clash (n .2) (bit-none (n .0)))) (union-is part events start 0 v .0 e))
-      (λ e. union-is part events start 0 v .1 (inl e)))
+      (λ e. ⊎-elim (λ h. h) (λ n. absurd (clash (n .2) (bit-none (n .0)))) (union-from part events start 0 v e))
+      (λ e. union-start part events start 0 v e))
 
   -- one failing event taken out of the set and into the start
   pub union-move : (start failing rest i : ℕ) → i < length events → bit failing i ≡ true → ((j : ℕ) → bit rest j ≡ (bit failing j && not (eqb j i)))
@@ -69,10 +69,10 @@ module _ (part : Event → ℕ) (events : List Event) where
       there : (v : ℕ) → bit (unionOf part (bitOr start (part (eventAt events i))) events rest) v ≡ true → bit (unionOf part start events failing) v ≡ true
       there v e =
           ⊎-elim
-          (λ h. ⊎-elim (λ s. union-is part events start failing v .1 (inl s)) (λ n. union-is part events start failing v .1 (inr (i, l, f, n)))
+          (λ h. ⊎-elim (λ s. union-start part events start failing v s) (λ n. union-event part events start failing v (i, l, f, n))
           (or-either (bit start v) (bit (part (eventAt events i)) v) (sym (bit-or start (part (eventAt events i)) v) ∙ h)))
-          (λ n. union-is part events start failing v .1 (inr (n .0, n .1, and-left (bit failing (n .0)) _ (sym (law (n .0)) ∙ n .2), n .3)))
-          (union-is part events (bitOr start (part (eventAt events i))) rest v .0 e)
+          (λ n. union-event part events start failing v (n .0, n .1, and-left (bit failing (n .0)) _ (sym (law (n .0)) ∙ n .2), n .3))
+          (union-from part events (bitOr start (part (eventAt events i))) rest v e)
 
       named : (v : ℕ) → Named part events failing v → (bit (bitOr start (part (eventAt events i))) v ≡ true) ⊎ Named part events rest v
       named v n = go (which (eqb (n .0) i))
@@ -85,7 +85,7 @@ module _ (part : Event → ℕ) (events : List Event) where
       back : (v : ℕ) → bit (unionOf part start events failing) v ≡ true → bit (unionOf part (bitOr start (part (eventAt events i))) events rest) v ≡ true
       back v e =
           union-is part events (bitOr start (part (eventAt events i))) rest v .1
-          (⊎-elim (λ s. inl (bit-or start (part (eventAt events i)) v ∙ or-left (bit start v) _ s)) (named v) (union-is part events start failing v .0 e))
+          (⊎-elim (λ s. inl (bit-or start (part (eventAt events i)) v ∙ or-left (bit start v) _ s)) (named v) (union-from part events start failing v e))
 
   -- the events of one set, and then those of another
   pub union-two : (start a b c : ℕ) → ((j : ℕ) → bit c j ≡ (bit a j || bit b j)) → unionOf part (unionOf part start events a) events b ≡ unionOf part start events c
@@ -94,22 +94,22 @@ module _ (part : Event → ℕ) (events : List Event) where
       there : (v : ℕ) → bit (unionOf part (unionOf part start events a) events b) v ≡ true → bit (unionOf part start events c) v ≡ true
       there v e =
           ⊎-elim
-          (λ h. ⊎-elim (λ s. union-is part events start c v .1 (inl s)) (λ n. union-is part events start c v .1 (inr (n .0, n .1, law (n .0) ∙ or-left _ _ (n .2), n .3))) (union-is part events start a v .0 h))
-          (λ n. union-is part events start c v .1 (inr (n .0, n .1, law (n .0) ∙ or-right (bit a (n .0)) _ (n .2), n .3)))
-          (union-is part events (unionOf part start events a) b v .0 e)
+          (λ h. ⊎-elim (λ s. union-start part events start c v s) (λ n. union-event part events start c v (n .0, n .1, law (n .0) ∙ or-left _ _ (n .2), n .3)) (union-from part events start a v h))
+          (λ n. union-event part events start c v (n .0, n .1, law (n .0) ∙ or-right (bit a (n .0)) _ (n .2), n .3))
+          (union-from part events (unionOf part start events a) b v e)
 
       from-a : (v : ℕ) → bit (unionOf part start events a) v ≡ true → bit (unionOf part (unionOf part start events a) events b) v ≡ true
-      from-a v h = union-is part events (unionOf part start events a) b v .1 (inl h)
+      from-a v h = union-start part events (unionOf part start events a) b v h
 
       back : (v : ℕ) → bit (unionOf part start events c) v ≡ true → bit (unionOf part (unionOf part start events a) events b) v ≡ true
       back v e =
           ⊎-elim
-          (λ s. from-a v (union-is part events start a v .1 (inl s)))
+          (λ s. from-a v (union-start part events start a v s))
           (λ n. ⊎-elim
-          (λ f. from-a v (union-is part events start a v .1 (inr (n .0, n .1, f, n .3))))
-          (λ f. union-is part events (unionOf part start events a) b v .1 (inr (n .0, n .1, f, n .3)))
+          (λ f. from-a v (union-event part events start a v (n .0, n .1, f, n .3)))
+          (λ f. union-event part events (unionOf part start events a) b v (n .0, n .1, f, n .3))
           (or-either (bit a (n .0)) (bit b (n .0)) (sym (law (n .0)) ∙ n .2)))
-          (union-is part events start c v .0 e)
+          (union-from part events start c v e)
 
 -- ---- words as parts of a larger set
 

@@ -1,20 +1,20 @@
 -- The union of the rows of a set, and a row of an array for each element, element by element: what is left of the set, and what is done.
 -- Assumes nothing.
-use mathlib.Core.Path.{_≡_, refl, sym, ap, _∙_, subst}
-use mathlib.Core.Bool.{Bool, true, false, not, _&&_, _||_}
+use mathlib.Core.Path.{_≡_, refl, sym, ap, _∙_}
+use mathlib.Core.Bool.{true, false, not, _&&_, _||_}
 use mathlib.Core.List.{List}
 use mathlib.Core.Logic.{_⊎_, inl, inr, ⊎-elim, _↔_}
-use Prim.Native.Nat.{ℕ, _≤_, _<_}
+use Prim.Native.Nat.{ℕ, _<_}
 use native.Mathlib.Omega.{arith}
 use native.Mathlib.Decide.{ℕ-discrete}
 use lib.Dec.{eqb}
 use lib.ListN.{length, getD, set, length-set}
 use lib.Seq.{getD-set-same, getD-set-other}
-use borrow.Author.Tests.{eqb-true, eq-eqb, ne-eqb, eqb-false}
+use borrow.Author.Tests.{eqb-true}
 use Rattle.sets.specs.Sets.{bit}
 use Rattle.sets.specs.Laws.{bit-none}
-use Rattle.sets.specs.Bools.{and-left, and-right, and-both, or-either, or-left, or-right, which, clash, not-of, not-so}
-use Rattle.topology.specs.RowPaths.{RowStep, InRows}
+use Rattle.sets.specs.Bools.{and-left, and-both, or-either, or-left, or-right, which, clash, not-of, not-so}
+use Rattle.topology.specs.RowPaths.{InRows}
 
 -- a set without its element t
 module _ (left rest t found : ℕ) (is : found ≡ t) (law : (j : ℕ) → bit rest j ≡ (bit left j && not (eqb j t))) where

@@ -1,23 +1,23 @@
 -- The rows of neighbours, link by link.
 -- Assumes nothing.
 use mathlib.Core.Path.{_≡_, refl, sym, ap, ap₂, _∙_}
-use mathlib.Core.Bool.{Bool, true, false, not, _&&_, _||_, and-false, or-false, or-comm, or-assoc, and-or-distrib-left}
+use mathlib.Core.Bool.{Bool, true, false, not, _&&_, _||_, and-false, or-false, or-comm}
 use mathlib.Core.List.{List}
 use Prim.Native.Nat.{ℕ, zero, suc, _+_, _*_, _≤_, _<_}
 use native.Mathlib.Omega.{arith}
 use native.Mathlib.Decide.{ℕ-discrete}
 use native.Mathlib.Numerals.{add-one}
 use lib.Dec.{eqb, ltb}
-use lib.ListN.{length, getD, set, replicate, length-set, getD-replicate}
+use lib.ListN.{length, getD, set, replicate, length-set}
 use lib.Seq.{getD-set-same, getD-set-other}
 use borrow.Author.Tests.{eqb-true, eq-eqb, ne-eqb}
-use Rattle.sets.specs.Sets.{bit, joined, digit}
+use Rattle.sets.specs.Sets.{bit, digit}
 use Rattle.sets.specs.Laws.{bit-none}
 use Rattle.sets.specs.Bools.{same-bool, anyBelow}
 use Rattle.plan.specs.Plan.{Link}
 use Rattle.plan.specs.Lists.{linksOf}
 use Rattle.topology.specs.Outage.{Outage}
-use Rattle.topology.specs.Topology.{Network, networkOf, ends, joins, adjacent, linkWorks}
+use Rattle.topology.specs.Topology.{networkOf, ends, joins, adjacent}
 use Rattle.topology.proofs.LinkBytes.{worksBy, works-below, link-at, length-links, eqb-digit}
 
 eqb-sym : (m n : ℕ) → eqb m n ≡ eqb n m

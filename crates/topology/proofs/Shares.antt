@@ -3,14 +3,14 @@
 use mathlib.Core.Path.{_≡_, refl, sym, ap, _∙_, subst}
 use mathlib.Core.Bool.{Bool, true, false, not, _&&_, _||_}
 use mathlib.Core.List.{List}
-use mathlib.Core.Logic.{_⊎_, inl, inr, ⊎-elim, _↔_}
-use Prim.Native.Nat.{ℕ, _+_, _<_}
+use mathlib.Core.Logic.{⊎-elim}
+use Prim.Native.Nat.{ℕ, _<_}
 use native.Mathlib.Omega.{arith}
 use lib.Bits.{bitAnd}
 use lib.ListN.{getD, replicate}
 use Rattle.sets.specs.Sets.{bit}
 use Rattle.sets.specs.Laws.{bit-none, bit-and, bit-pos}
-use Rattle.sets.specs.Bools.{and-left, and-right, and-both, which, clash, not-of, of-not, not-so}
+use Rattle.sets.specs.Bools.{and-left, and-right, and-both, which, clash, not-of, not-so}
 use Rattle.topology.specs.Chains.{chain-append, chain-back, chain-keeps}
 use Rattle.topology.specs.RowPaths.{RowPath, Reached, Joining}
 use Rattle.topology.proofs.RowSets.{empty-row}

@@ -4,7 +4,7 @@ use mathlib.Core.Path.{_≡_, refl, sym, ap, _∙_}
 use mathlib.Core.Bool.{Bool, true, false, not, _&&_}
 use mathlib.Core.List.{List}
 use mathlib.Core.Logic.{_↔_}
-use Prim.Native.Nat.{ℕ, suc, _+_, _≤_, _<_}
+use Prim.Native.Nat.{ℕ, _+_}
 use native.Mathlib.Omega.{arith}
 use lib.Dec.{ltb, eqb}
 use lib.ListN.{getD}
@@ -14,26 +14,23 @@ use Rattle.sets.specs.Bools.{same-bool, not-of, of-not}
 use Rattle.plan.specs.Plan.{Link}
 use Rattle.topology.specs.Outage.{Outage}
 use Rattle.topology.specs.Topology.{Network, networkOf, nodeWorks, adjacent}
-use Rattle.topology.specs.Paths.{WorkingLink, WorkingPath, disconnected}
-use Rattle.topology.specs.Chains.{chain-map, chain-keeps}
+use Rattle.topology.specs.Paths.{WorkingLink, Reaches, disconnected}
+use Rattle.topology.specs.Chains.{chain-map}
 use Rattle.topology.specs.Works.{adjacent-link, link-adjacent, adjacent-sym, link-nodes}
 use Rattle.topology.specs.Connection.{connected-is}
-use Rattle.topology.specs.RowPaths.{RowStep, RowPath, Reached, Joining}
+use Rattle.topology.specs.Laws.{path-leads}
+use Rattle.topology.specs.RowPaths.{RowStep, Reached, Joining}
 
 -- ---- what a node reaches is what it is connected to
 
 module _ (net : Network) where
-  -- a path from a working node leads to a working node
-  leads : {v w : ℕ} → WorkingPath net v w → nodeWorks net v ≡ true → nodeWorks net w ≡ true
-  leads p e = chain-keeps (λ x. nodeWorks net x ≡ true) (λ x y s k. link-nodes net x y s .1) p e
-
-  pub connected-bit : (v set w : ℕ) → (bit set w ≡ true) ↔ ((nodeWorks net v ≡ true) × WorkingPath net v w) → bit set w ≡ not (disconnected net v w)
+  pub connected-bit : (v set w : ℕ) → (bit set w ≡ true) ↔ Reaches net v w → bit set w ≡ not (disconnected net v w)
   connected-bit v set w reached = same-bool _ _ there back
     where
       there : bit set w ≡ true → not (disconnected net v w) ≡ true
       there e =
           let h = reached .0 e in
-          not-of _ (connected-is net v w .1 (h .0, leads (h .1) (h .0), h .1))
+          not-of _ (connected-is net v w .1 (h .0, path-leads net (h .1) (h .0), h .1))
 
       back : not (disconnected net v w) ≡ true → bit set w ≡ true
       back e =
@@ -64,7 +61,7 @@ module _ (net : Network) (nodes : ℕ) (rows : List ℕ)
       within = λ v w s. up w ∙ link-nodes net v w (step-link v w s) .1;
     }
 
-    pub reached-is : (v set : ℕ) → Reached nodes rows v set → (w : ℕ) → (bit set w ≡ true) ↔ ((nodeWorks net v ≡ true) × WorkingPath net v w)
+    pub reached-is : (v set : ℕ) → Reached nodes rows v set → (w : ℕ) → (bit set w ≡ true) ↔ Reaches net v w
     reached-is v set reached w = (
       λ e. (sym (up v) ∙ reached w .0 e .0, chain-map step-link (reached w .0 e .1)),
       λ h. reached w .1 (up v ∙ h .0, chain-map link-step (h .1)),

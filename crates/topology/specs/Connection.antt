@@ -1,7 +1,7 @@
 -- The Bool `disconnected` is true exactly where two nodes are disconnected.
 -- Assumes nothing.
 use mathlib.Core.Path.{_≡_, refl, ap, subst}
-use mathlib.Core.Bool.{Bool, true, false, not, _&&_, _||_}
+use mathlib.Core.Bool.{Bool, true, false, not, _&&_}
 use mathlib.Core.Logic.{_⊎_, inl, inr, ⊎-elim, _↔_}
 use Prim.Native.Nat.{ℕ, zero, suc, _<_}
 use native.Mathlib.Omega.{arith}
@@ -10,7 +10,7 @@ use lib.Dec.{eqb}
 use borrow.Author.Tests.{eqb-true, eq-eqb, not-false}
 use Rattle.sets.specs.Bools.{and-left, and-right, and-both, or-either, or-left, or-right, which, clash}
 use Rattle.topology.specs.Topology.{Network, nodeWorks, adjacent}
-use Rattle.topology.specs.Paths.{Chain, here, more, WorkingLink, WorkingPath, Disconnected, via, disconnected}
+use Rattle.topology.specs.Paths.{here, more, WorkingPath, Disconnected, via, disconnected}
 use Rattle.topology.specs.Chains.{chain-append}
 use Rattle.topology.specs.Works.{node-below, link-nodes, adjacent-link, link-adjacent}
 

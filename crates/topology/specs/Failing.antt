@@ -1,17 +1,16 @@
 -- Laws of the failed sets: an element has failed exactly where it had at the start or a failing event names it.
 -- Assumes nothing.
 use mathlib.Core.Path.{_≡_, refl, sym, ap, _∙_}
-use mathlib.Core.Bool.{Bool, true, false, cond, _||_}
+use mathlib.Core.Bool.{Bool, true, false, cond}
 use mathlib.Core.List.{List, [], _∷_}
 use mathlib.Core.Logic.{_⊎_, inl, inr, ⊎-elim, _↔_}
-use Prim.Native.Nat.{ℕ, zero, suc, _+_, _*_, _/_, _^_, _<_}
+use Prim.Native.Nat.{ℕ, zero, suc, _/_, _<_}
 use native.Mathlib.Omega.{arith}
-use native.Mathlib.Nat.{zero-mul}
 use lib.Bits.{bitOr}
 use lib.ListN.{length}
 use Rattle.sets.specs.Sets.{bit}
-use Rattle.sets.specs.Laws.{bit-or, bit-suc, bit-none, bits-same}
-use Rattle.sets.specs.Bools.{or-either, or-left, or-right, same-bool}
+use Rattle.sets.specs.Laws.{bit-or, bit-suc}
+use Rattle.sets.specs.Bools.{or-either, or-left, or-right}
 use Rattle.plan.specs.Plan.{Event}
 use Rattle.topology.specs.Outage.{eventAt, unionOf}
 

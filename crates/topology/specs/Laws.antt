@@ -1,9 +1,9 @@
 -- Laws of reach: it is symmetric, a node that works reaches itself, and failing more never connects more.
 -- Assumes nothing.
-use mathlib.Core.Path.{_≡_}
-use mathlib.Core.Bool.{true, false, not, _&&_}
+use mathlib.Core.Path.{_≡_, sym, ap, _∙_}
+use mathlib.Core.Bool.{Bool, true, false, not, _&&_}
 use mathlib.Core.List.{List}
-use mathlib.Core.Logic.{inl, inr, ⊎-elim}
+use mathlib.Core.Logic.{⊎-elim}
 use Prim.Native.Nat.{ℕ}
 use lib.Dec.{ltb}
 use lib.ListN.{length}
@@ -12,11 +12,11 @@ use Rattle.sets.specs.Bools.{and-left, and-right, and-both, so-unless, clash, n
 use Rattle.plan.specs.Plan.{Link, Event}
 use Rattle.topology.specs.Outage.{Outage, unionOf, outageOf}
 use Rattle.topology.specs.Topology.{Network, networkOf, linkAt, nodeWorks, linkWorks, ends, joins}
-use Rattle.topology.specs.Paths.{here, WorkingLink, WorkingPath, disconnected}
-use Rattle.topology.specs.Chains.{chain-back, chain-map}
-use Rattle.topology.specs.Works.{link-back}
+use Rattle.topology.specs.Paths.{here, WorkingLink, WorkingPath, Reaches, disconnected}
+use Rattle.topology.specs.Chains.{chain-back, chain-keeps, chain-map}
+use Rattle.topology.specs.Works.{link-nodes, link-back}
 use Rattle.topology.specs.Connection.{connected-is}
-use Rattle.topology.specs.Failing.{union-is}
+use Rattle.topology.specs.Failing.{union-from, union-start, union-event}
 
 module _ (net : Network) where
   -- a path of working links can be taken back
@@ -35,9 +35,20 @@ module _ (net : Network) where
       turn : (v w : ℕ) → disconnected net v w ≡ true → disconnected net w v ≡ true
       turn v w e = so-unless _ (undone v w e)
 
+  -- a path from a node that works leads to a node that works
+  pub path-leads : {v w : ℕ} → WorkingPath net v w → nodeWorks net v ≡ true → nodeWorks net w ≡ true
+  path-leads p e = chain-keeps (λ x. nodeWorks net x ≡ true) (λ x y s k. link-nodes net x y s .1) p e
+
+  -- so reach is symmetric
+  pub reaches-back : (v w : ℕ) → Reaches net v w → Reaches net w v
+  reaches-back v w h = (path-leads (h .1) (h .0), path-back (h .1))
+
   -- a node that works reaches itself
-  pub reaches-itself : (v : ℕ) → nodeWorks net v ≡ true → disconnected net v v ≡ false
-  reaches-itself v e = connected-is net v v .1 (e, e, here)
+  pub reaches-itself : (v : ℕ) → nodeWorks net v ≡ true → Reaches net v v
+  reaches-itself v e = (e, here)
+
+  pub connected-itself : (v : ℕ) → nodeWorks net v ≡ true → disconnected net v v ≡ false
+  connected-itself v e = connected-is net v v .1 (e, e, here)
 
 -- every element of one set is one of the other
 abbrev pub Within : ℕ → ℕ → Type 0
@@ -92,9 +103,9 @@ union-grows : (part : Event → ℕ) (events : List Event) (start start′ faili
     → Within (unionOf part start events failing) (unionOf part start′ events failing′)
 union-grows part events start start′ failing failing′ s f v e =
     ⊎-elim
-    (λ h. union-is part events start′ failing′ v .1 (inl (s v h)))
-    (λ n. union-is part events start′ failing′ v .1 (inr (n .0, n .1, f (n .0) (n .2), n .3)))
-    (union-is part events start failing v .0 e)
+    (λ h. union-start part events start′ failing′ v (s v h))
+    (λ n. union-event part events start′ failing′ v (n .0, n .1, f (n .0) (n .2), n .3))
+    (union-from part events start failing v e)
 
 pub outage-grows : (events : List Event) (start start′ : Outage) (failing failing′ : ℕ) → NoBetter start start′ → Within failing failing′
     → NoBetter (outageOf start events failing) (outageOf start′ events failing′)
@@ -102,3 +113,26 @@ outage-grows events start start′ failing failing′ s f = (
   union-grows (λ e. e .nodes) events (start .nodes) (start′ .nodes) failing failing′ (s .0) f,
   union-grows (λ e. e .links) events (start .links) (start′ .links) failing failing′ (s .1) f,
 )
+
+-- the working nodes and links decide: two outages that leave the same ones disconnect the same pairs
+module _ (nodes : ℕ) (links : List Link) (out other : Outage)
+    (same-nodes : (v : ℕ) → nodeWorks (networkOf nodes links out) v ≡ nodeWorks (networkOf nodes links other) v)
+    (same-links : (i : ℕ) → linkWorks (networkOf nodes links out) i ≡ linkWorks (networkOf nodes links other) i)
+  where
+    same-step : (v w : ℕ) → WorkingLink (networkOf nodes links out) v w → WorkingLink (networkOf nodes links other) v w
+    unfolding joins
+    same-step v w s = (s .0, ap (λ (x : Bool). x && ends (linkAt links (s .0)) v w) (sym (same-links (s .0))) ∙ s .1)
+
+    still-connected : (v w : ℕ) → disconnected (networkOf nodes links out) v w ≡ false → disconnected (networkOf nodes links other) v w ≡ false
+    still-connected v w e =
+        let h = connected-is (networkOf nodes links out) v w .0 e in
+        connected-is (networkOf nodes links other) v w .1 (sym (same-nodes v) ∙ h .0, sym (same-nodes w) ∙ h .1, chain-map same-step (h .2))
+
+pub same-working : (nodes : ℕ) (links : List Link) (out other : Outage)
+    → ((v : ℕ) → nodeWorks (networkOf nodes links out) v ≡ nodeWorks (networkOf nodes links other) v)
+    → ((i : ℕ) → linkWorks (networkOf nodes links out) i ≡ linkWorks (networkOf nodes links other) i)
+    → (v w : ℕ) → disconnected (networkOf nodes links out) v w ≡ disconnected (networkOf nodes links other) v w
+same-working nodes links out other same-nodes same-links v w =
+    same-bool _ _
+    (λ e. so-unless _ (λ f. clash e (still-connected nodes links other out (λ x. sym (same-nodes x)) (λ x. sym (same-links x)) v w f)))
+    (λ e. so-unless _ (λ f. clash e (still-connected nodes links out other same-nodes same-links v w f)))

@@ -9,3 +9,4 @@ pub mod Connection
 pub mod Failing
 pub mod Laws
 pub mod RowPaths
+pub mod Examples

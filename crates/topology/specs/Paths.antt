@@ -20,6 +20,10 @@ WorkingLink net v w = (i : ℕ) × (joins net i v w ≡ true)
 abbrev pub WorkingPath : Network → ℕ → ℕ → Type 0
 WorkingPath net = Chain (WorkingLink net)
 
+-- v works and a path of working links joins v and w
+abbrev pub Reaches : Network → ℕ → ℕ → Type 0
+Reaches net v w = (nodeWorks net v ≡ true) × WorkingPath net v w
+
 -- "Two nodes are disconnected if either is down or no path of working links joins them."
 abbrev pub Disconnected : Network → ℕ → ℕ → Type 0
 Disconnected net v w = (nodeWorks net v ≡ false) ⊎ ((nodeWorks net w ≡ false) ⊎ (WorkingPath net v w → ⊥))

@@ -12,15 +12,14 @@ ghost use Prim.Native.Nat.{ℕ, _≤_, _<_};
 ghost use lib.Dec.{ltb};
 ghost use lib.ListN.{getD};
 ghost use Rattle.sets.specs.Sets.{bit};
-ghost use Rattle.topology.specs.Topology.{nodeWorks};
-ghost use Rattle.topology.specs.Paths.{WorkingPath, disconnected};
+ghost use Rattle.topology.specs.Paths.{Reaches, disconnected};
 ghost use Rattle.topology.specs.Code.{networkIn, LinksHeld};
 
 // What node v reaches: w exactly where v works and a path of working links joins v and w.
 pub fn reach_from(n: usize, failed: Failed, links: &[u8; 256], count: usize, v: usize) -> Reach
     requires { ⌜ LinksHeld n (now links) count ⌝ }
     requires { ⌜ v < 64 ⌝ }
-    ensures { λ r. ⌜ ((w : ℕ) → (bit (r .set) w ≡ true) ↔ ((nodeWorks (networkIn n failed (now (links .entry)) count) v ≡ true) × WorkingPath (networkIn n failed (now (links .entry)) count) v w)) ⌝ }
+    ensures { λ r. ⌜ ((w : ℕ) → (bit (r .set) w ≡ true) ↔ Reaches (networkIn n failed (now (links .entry)) count) v w) ⌝ }
 {
     let rows = neighbours(n, failed, links, count);
     let nodes = working_nodes(n, failed.nodes);

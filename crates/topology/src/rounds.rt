@@ -8,8 +8,8 @@ ghost use Rattle.sets.specs.Sets.{bit};
 ghost use Rattle.topology.specs.RowPaths.{InRows, Reached};
 
 // The union of the rows of a set.
-pub fn rows_of(rows: [u64; 64], set: u64) -> u64
-    ensures { λ r. ⌜ ((w : ℕ) → (bit r w ≡ true) ↔ InRows rows set w) ⌝ }
+pub fn rows_of(rows: &[u64; 64], set: u64) -> u64
+    ensures { λ r. ⌜ ((w : ℕ) → (bit r w ≡ true) ↔ InRows (now (rows .entry)) set w) ⌝ }
 {
     let mut all = 0;
     let mut left = set;
@@ -29,7 +29,7 @@ pub fn reach(rows: [u64; 64], nodes: u64, v: usize) -> Reach
     let mut fresh = sets::both(nodes, sets::only(1, v));
     while fresh != 0 {
         seen = sets::union(seen, fresh);
-        fresh = sets::less(rows_of(rows, fresh), seen);
+        fresh = sets::less(rows_of(&rows, fresh), seen);
     }
     Reach { set: seen }
 }

@@ -1,5 +1,6 @@
 -- `sets::first` meets its contract. Assumes nothing.
 use borrow.Author.Needs.{needs}
+use native.Mathlib.Omega.{arith}
 use Rattle.sets.proofs.Digits.{shifted-pos, first-is, all-is}
 use Rattle.sets.proofs.first.Statement.{statement}
 use Rattle.sets.proofs.first.Tie as tie
@@ -8,7 +9,7 @@ shl-result : tie.Need-shl-result
 shl-result c = search needs
 
 sub-result : tie.Need-sub-result
-sub-result c = shifted-pos (c .before .args .k) (c .if1 .taken)
+sub-result c = omega (arith, shifted-pos (c .before .args .k) (c .if1 .taken))
 
 returns : tie.Need-returns
 returns c = λ j. first-is (c .before .args .k) j (c .if1 .taken)

@@ -16,17 +16,20 @@ working-nodes-requires c κs = search needs
 components-requires : tie.Need-components-requires
 components-requires c κs =
     let a = c .before .before .args in
-    let net = networkIn (a .n) (a .failed) (a .links .now) (a .count) in
-    let up = nodes-shown (a .n) (linksOf (a .count) (a .links .now)) (outage (a .failed)) (c .working-nodes .result) (c .working-nodes .ensures) in
-    joining net (c .working-nodes .result) (c .before .neighbours .result) up (c .before .neighbours .ensures)
+    let nodes = c .working-nodes in
+    let rows = c .before .neighbours in
+    let up = nodes-shown (a .n) (linksOf (a .count) (a .links .now)) (outage (a .failed)) (nodes .result) (nodes .ensures) in
+    joining (networkIn (a .n) (a .failed) (a .links .now) (a .count)) (nodes .result) (rows .result) up (rows .ensures)
 
 returns : tie.Need-returns
 returns c = λ v w.
     let a = c .before .before .before .args in
     let net = networkIn (a .n) (a .failed) (a .links .now) (a .count) in
-    let up = nodes-shown (a .n) (linksOf (a .count) (a .links .now)) (outage (a .failed)) (c .before .working-nodes .result) (c .before .working-nodes .ensures) in
-    connected-bit net v (getD (c .components .result) v 0) w
-    (reached-is net (c .before .working-nodes .result) (c .before .before .neighbours .result) up (c .before .before .neighbours .ensures) v (getD (c .components .result) v 0) (c .components .ensures v) w)
+    let nodes = c .before .working-nodes in
+    let rows = c .before .before .neighbours in
+    let up = nodes-shown (a .n) (linksOf (a .count) (a .links .now)) (outage (a .failed)) (nodes .result) (nodes .ensures) in
+    let part = getD (c .components .result) v 0 in
+    connected-bit net v part w (reached-is net (nodes .result) (rows .result) up (rows .ensures) v part (c .components .ensures v) w)
 
 pub connections-spec : {M : Type 1} → statement M
 connections-spec =

@@ -25,8 +25,10 @@ less-requires-2 c κs = search needs
 returns : tie.Need-returns
 returns c = λ w.
     let a = c .before .before .before .before .args in
+    let all = c .before .before .before .first .ensures w in
+    let low = c .before .before .first2 .ensures w in
     c .less2 .ensures w
-    ∙ ap (λ (x : Bool). x && not (bit (a .part) w)) (c .before .less .ensures w ∙ ap₂ (λ (x y : Bool). x && not y) (c .before .before .before .first .ensures w) (c .before .before .first2 .ensures w))
+    ∙ ap (λ (x : Bool). x && not (bit (a .part) w)) (c .before .less .ensures w ∙ ap₂ (λ (x y : Bool). x && not y) all low)
     ∙ above (a .v) w (a .n) (bit (a .part) w)
 
 pub cut-after-spec : {M : Type 1} → statement M

@@ -14,8 +14,11 @@ at-requires c κs = search needs
 returns : tie.Need-returns
 returns c =
     let a = c .before .before .args in
+    let found = c .before .reach-from in
     let net = networkIn (a .n) (a .failed) (a .links .now) (a .count) in
-    absent (c .at .result) (c .before .reach-from .result .set) (a .w) _ (c .at .ensures) (connected-bit net (a .v) (c .before .reach-from .result .set) (a .w) (c .before .reach-from .ensures (a .w)))
+    absent (c .at .result) (found .result .set) (a .w) _
+    (c .at .ensures)
+    (connected-bit net (a .v) (found .result .set) (a .w) (found .ensures (a .w)))
 
 pub is-disconnected-spec : {M : Type 1} → statement M
 is-disconnected-spec = tie.close (tie.spec reach-from-requires at-requires returns)

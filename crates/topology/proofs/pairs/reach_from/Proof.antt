@@ -19,8 +19,10 @@ returns : tie.Need-returns
 returns c =
     let a = c .before .before .before .args in
     let net = networkIn (a .n) (a .failed) (a .links .now) (a .count) in
-    let up = nodes-shown (a .n) (linksOf (a .count) (a .links .now)) (outage (a .failed)) (c .before .working-nodes .result) (c .before .working-nodes .ensures) in
-    reached-is net (c .before .working-nodes .result) (c .before .before .neighbours .result) up (c .before .before .neighbours .ensures) (a .v) (c .reach .result .set) (c .reach .ensures)
+    let nodes = c .before .working-nodes in
+    let up = nodes-shown (a .n) (linksOf (a .count) (a .links .now)) (outage (a .failed)) (nodes .result) (nodes .ensures) in
+    let rows = c .before .before .neighbours in
+    reached-is net (nodes .result) (rows .result) up (rows .ensures) (a .v) (c .reach .result .set) (c .reach .ensures)
 
 pub reach-from-spec : {M : Type 1} → statement M
 reach-from-spec =

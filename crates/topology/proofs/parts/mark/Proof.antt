@@ -10,22 +10,22 @@ use Rattle.topology.proofs.parts.mark.Statement.{statement}
 use Rattle.topology.proofs.parts.mark.Tie as tie
 
 abbrev Inv-loop : tie.InvT-loop
-Inv-loop part all₀ left₀ all left = (left ≤ part) × Marked all₀ part all left
+Inv-loop parts₀ part left₀ parts left = (left ≤ part) × Marked parts₀ part parts left
 
 abbrev μ-loop : tie.MeasureT-loop
-μ-loop part all₀ left₀ all left = left
+μ-loop parts₀ part left₀ parts left = left
 
 loop-holds : tie.Need-loop-holds Inv-loop μ-loop
-loop-holds c = (omega arith, marked-none _ _ (search needs))
+loop-holds c = (omega arith, marked-none _ _ (c .pre))
 
 lowest-requires : tie.Need-lowest-requires Inv-loop μ-loop
 lowest-requires c κs = search needs
 
-mul-all : tie.Need-mul-all Inv-loop μ-loop
-mul-all c = search needs
+mul-parts : tie.Need-mul-parts Inv-loop μ-loop
+mul-parts c = search needs
 
-array-write-all : tie.Need-array-write-all Inv-loop μ-loop
-array-write-all c = search needs
+element-write-parts : tie.Need-element-write-parts Inv-loop μ-loop
+element-write-parts c = search needs
 
 rest-requires : tie.Need-rest-requires Inv-loop μ-loop
 rest-requires c κs = search needs
@@ -39,7 +39,7 @@ loop-again c =
     let loop = c .before .before .before .loop in
     let start = c .before .before .before .before .args in (
       omega (arith, c .rest .ensures .0),
-      marked-next (start .parts) (start .part) (loop .all) (loop .left) (c .rest .result) _ (at .result)
+      marked-next (start .parts .now) (start .part) (loop .parts) (loop .left) (c .rest .result) _ (at .result)
           (at .ensures .0)
           (at .ensures .1 .0)
           (at .ensures .1 .1 .0)
@@ -50,8 +50,8 @@ loop-again c =
 returns : tie.Need-returns Inv-loop μ-loop
 returns c =
     let loop = c .before .loop in (
-      λ v e. loop .inv .1 .marked v e (ap (λ (x : ℕ). bit x v) (c .loop-test .left) ∙ bit-none v),
-      loop .inv .1 .kept,
+      loop .inv .1 .size,
+      (λ v e. loop .inv .1 .marked v e (ap (λ (x : ℕ). bit x v) (c .loop-test .left) ∙ bit-none v), loop .inv .1 .kept),
     )
 
 pub mark-spec : {M : Type 1} → statement M
@@ -62,8 +62,8 @@ mark-spec =
     μ-loop
     loop-holds
     lowest-requires
-    mul-all
-    array-write-all
+    mul-parts
+    element-write-parts
     rest-requires
     loop-less
     loop-again

@@ -11,10 +11,10 @@ use Rattle.topology.proofs.rounds.reach.Statement.{statement}
 use Rattle.topology.proofs.rounds.reach.Tie as tie
 
 abbrev Inv-loop : tie.InvT-loop
-Inv-loop rows nodes v seen₀ fresh₀ seen fresh = (seen < 2 ^ 64) × Round nodes rows v seen fresh
+Inv-loop nodes v rows seen₀ fresh₀ seen fresh = (seen < 2 ^ 64) × Round nodes rows v seen fresh
 
 abbrev μ-loop : tie.MeasureT-loop
-μ-loop rows nodes v seen₀ fresh₀ seen fresh = 2 ^ 64 - seen
+μ-loop nodes v rows seen₀ fresh₀ seen fresh = 2 ^ 64 - seen
 
 only-requires : tie.Need-only-requires Inv-loop μ-loop
 only-requires c κs = search needs
@@ -23,7 +23,11 @@ both-requires : tie.Need-both-requires Inv-loop μ-loop
 both-requires c κs = search needs
 
 loop-holds : tie.Need-loop-holds Inv-loop μ-loop
-loop-holds c = (omega arith, round-first _ _ _ _ (λ j. c .both .ensures j ∙ ap (λ (x : Bool). bit (c .before .before .args .nodes) j && x) (c .before .only .ensures j)))
+loop-holds c = (
+  omega arith,
+  round-first _ _ _ _
+      (λ j. c .both .ensures j ∙ ap (λ (x : Bool). bit (c .before .before .args .nodes) j && x) (c .before .only .ensures j)),
+)
 
 union-requires : tie.Need-union-requires Inv-loop μ-loop
 union-requires c κs = search needs
@@ -35,12 +39,13 @@ less-requires : tie.Need-less-requires Inv-loop μ-loop
 less-requires c κs = search needs
 
 -- the fresh nodes are added to those seen
-larger : (c : tie.After-less Inv-loop μ-loop) → c .before .before .union .result ≡ c .before .before .before .before .loop .seen + c .before .before .before .before .loop .fresh
+larger : (c : tie.After-less Inv-loop μ-loop)
+    → c .before .before .before .union .result ≡ c .before .before .before .before .before .loop .seen + c .before .before .before .before .before .loop .fresh
 larger c =
-    let start = c .before .before .before .before .before .before .before .args in
-    let loop = c .before .before .before .before .loop in
-    round-grows (start .nodes) (start .rows) (start .v) (loop .seen) (loop .fresh) (c .before .before .union .result) (c .before .rows-of .result) (c .less .result)
-    (c .before .before .union .ensures)
+    let start = c .before .before .before .before .before .before .before .before .args in
+    let loop = c .before .before .before .before .before .loop in
+    round-grows (start .nodes) (start .t1) (start .v) (loop .seen) (loop .fresh) (c .before .before .before .union .result) (c .before .rows-of .result) (c .less .result)
+    (c .before .before .before .union .ensures)
     (c .before .rows-of .ensures)
     (c .less .ensures)
     (loop .inv .1)
@@ -50,11 +55,11 @@ loop-less c = omega (arith, larger c)
 
 loop-again : tie.Need-loop-again Inv-loop μ-loop
 loop-again c =
-    let start = c .before .before .before .before .before .before .before .args in
-    let loop = c .before .before .before .before .loop in (
+    let start = c .before .before .before .before .before .before .before .before .args in
+    let loop = c .before .before .before .before .before .loop in (
       omega arith,
-      round-next (start .nodes) (start .rows) (start .v) (loop .seen) (loop .fresh) (c .before .before .union .result) (c .before .rows-of .result) (c .less .result)
-          (c .before .before .union .ensures)
+      round-next (start .nodes) (start .t1) (start .v) (loop .seen) (loop .fresh) (c .before .before .before .union .result) (c .before .rows-of .result) (c .less .result)
+          (c .before .before .before .union .ensures)
           (c .before .rows-of .ensures)
           (c .less .ensures)
           (loop .inv .1),

@@ -7,10 +7,10 @@ use Rattle.topology.proofs.rounds.rows_of.Statement.{statement}
 use Rattle.topology.proofs.rounds.rows_of.Tie as tie
 
 abbrev Inv-loop : tie.InvT-loop
-Inv-loop set rows all₀ left₀ all left = (left ≤ set) × Gathered rows set all left
+Inv-loop rows set all₀ left₀ all left = (left ≤ set) × Gathered rows set all left
 
 abbrev μ-loop : tie.MeasureT-loop
-μ-loop set rows all₀ left₀ all left = left
+μ-loop rows set all₀ left₀ all left = left
 
 loop-holds : tie.Need-loop-holds Inv-loop μ-loop
 loop-holds c = (omega arith, gathered-none _ _)
@@ -21,8 +21,8 @@ lowest-requires c κs = search needs
 mul-union : tie.Need-mul-union Inv-loop μ-loop
 mul-union c = search needs
 
-array-read-union : tie.Need-array-read-union Inv-loop μ-loop
-array-read-union c = search needs
+element-copy-out-union : tie.Need-element-copy-out-union Inv-loop μ-loop
+element-copy-out-union c = search needs
 
 union-requires : tie.Need-union-requires Inv-loop μ-loop
 union-requires c κs = search needs
@@ -35,10 +35,10 @@ loop-less c = c .rest .ensures .0
 
 loop-again : tie.Need-loop-again Inv-loop μ-loop
 loop-again c =
-    let loop = c .before .before .before .before .loop in
-    let at = c .before .before .lowest in (
+    let loop = c .before .before .before .before .before .loop in
+    let at = c .before .before .before .lowest in (
       omega (arith, c .rest .ensures .0),
-      gathered-next (c .before .before .before .before .before .args .t1) (c .before .before .before .before .before .args .set)
+      gathered-next (c .before .before .before .before .before .before .args .rows .now) (c .before .before .before .before .before .before .args .set)
           (loop .all) (loop .left) (c .before .union .result) (c .rest .result) _ (at .result)
           (at .ensures .0)
           (at .ensures .1 .1 .0)
@@ -49,7 +49,7 @@ loop-again c =
 
 returns : tie.Need-returns Inv-loop μ-loop
 returns c =
-    gathered-all (c .before .before .args .t1) (c .before .before .args .set) (c .before .loop .all) (c .before .loop .left) (c .loop-test .left) (c .before .loop .inv .1)
+    gathered-all (c .before .before .args .rows .now) (c .before .before .args .set) (c .before .loop .all) (c .before .loop .left) (c .loop-test .left) (c .before .loop .inv .1)
 
 pub rows-of-spec : {M : Type 1} → statement M
 rows-of-spec =
@@ -60,7 +60,7 @@ rows-of-spec =
     loop-holds
     lowest-requires
     mul-union
-    array-read-union
+    element-copy-out-union
     union-requires
     rest-requires
     loop-less

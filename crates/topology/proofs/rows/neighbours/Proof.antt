@@ -7,7 +7,7 @@ use native.Mathlib.Omega.{arith}
 use lib.ListN.{length, getD, set, length-set}
 use Rattle.sets.specs.Sets.{bit, joined}
 use Rattle.topology.specs.Code.{outage}
-use Rattle.topology.proofs.LinkBytes.{worksBy, on-is}
+use Rattle.topology.proofs.LinkBytes.{on-is}
 use Rattle.topology.proofs.RowSets.{RowsBelow, rows-none, rows-next, rows-all}
 use Rattle.topology.proofs.rows.neighbours.Statement.{statement}
 use Rattle.topology.proofs.rows.neighbours.Tie as tie
@@ -87,7 +87,8 @@ loop-again c =
     let start = a .before .before .before .before .args in
     let nodes = a .before .before .before .working-nodes .result in
     let cut = joined (start .failed .low) (start .failed .high) in
-    let first = set (loop .rows) (a .end .result) (c .before .before .union .result) in (
+    let first = set (loop .rows) (a .end .result) (c .before .before .union .result) in
+    let link = on-is nodes cut (start .links .now) (loop .i) (a .end .result) (b .end2 .result) (on .link-on .result) in (
       omega arith,
       (
         simp length-set (loop .inv .1 .0),
@@ -99,7 +100,7 @@ loop-again c =
             (b .end2 .ensures .1)
             (a .end .ensures .0)
             (b .end2 .ensures .0)
-            (on-is nodes cut (start .links .now) (loop .i) (a .end .result) (b .end2 .result) (on .link-on .result) (a .end .ensures .0) (b .end2 .ensures .0) (on .link-on .ensures .0))
+            (link (a .end .ensures .0) (b .end2 .ensures .0) (on .link-on .ensures .0))
             (λ j. c .before .before .union .ensures j ∙ ap (λ (x : Bool). bit (getD (loop .rows) (a .end .result) 0) j || x) (c .before .before .before .only .ensures j))
             (λ j. c .union2 .ensures j ∙ ap (λ (x : Bool). bit (getD first (b .end2 .result) 0) j || x) (c .before .only2 .ensures j))
             (loop .inv .1 .1),
@@ -110,7 +111,11 @@ returns : tie.Need-returns Inv-loop μ-loop
 returns c =
     let start = c .before .before .before .args in
     let loop = c .before .loop in
-    rows-all (start .n) (start .count) (start .links .now) (outage (start .failed)) (c .before .before .working-nodes .result) (c .before .before .working-nodes .ensures) (loop .i) (loop .rows) (loop .inv .0) (c .loop-test .left) (loop .inv .1 .1)
+    let nodes = c .before .before .working-nodes in
+    rows-all (start .n) (start .count) (start .links .now) (outage (start .failed)) (nodes .result) (nodes .ensures) (loop .i) (loop .rows)
+    (loop .inv .0)
+    (c .loop-test .left)
+    (loop .inv .1 .1)
 
 pub neighbours-spec : {M : Type 1} → statement M
 neighbours-spec =

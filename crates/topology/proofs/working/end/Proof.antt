@@ -20,7 +20,9 @@ wide-requires c κs = search needs
 returns : tie.Need-returns
 returns c =
     let a = c .before .before .args in
-    (c .wide .ensures, omega (arith, c .wide .ensures, end-below (a .n) (a .count) (a .links .now) (a .i) (a .side) (c .before .before .pre .0 .ends-below) (c .before .before .pre .1 .0) (c .before .before .pre .1 .1)))
+    let pre = c .before .before .pre in
+    let below = end-below (a .n) (a .count) (a .links .now) (a .i) (a .side) (pre .0 .ends-below) (pre .1 .0) (pre .1 .1) in
+    (c .wide .ensures, omega (arith, c .wide .ensures))
 
 pub end-spec : {M : Type 1} → statement M
 end-spec = tie.close (tie.spec mul-wide add-wide element-copy-out-wide wide-requires returns)

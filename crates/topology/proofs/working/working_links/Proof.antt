@@ -1,8 +1,8 @@
 -- `topology::working::working_links` meets its contract. The loop's invariant: the set holds the working links below i. Assumes nothing.
 use borrow.Author.Needs.{needs}
-use mathlib.Core.Path.{_≡_, sym, ap, _∙_}
-use mathlib.Core.Bool.{Bool, _&&_, _||_}
-use Prim.Native.Nat.{ℕ, _-_, _≤_, _<_}
+use mathlib.Core.Path.{_≡_, _∙_}
+use mathlib.Core.Bool.{_&&_}
+use Prim.Native.Nat.{ℕ, _-_, _≤_}
 use native.Mathlib.Omega.{arith}
 use lib.Dec.{ltb}
 use Rattle.sets.specs.Sets.{bit, joined, digit}
@@ -35,16 +35,6 @@ end-requires-2 c κs = search needs
 link-on-requires : tie.Need-link-on-requires Inv-loop μ-loop
 link-on-requires c κs = search needs
 
--- the digit says whether the link works
-on : (c : tie.After-link-on Inv-loop μ-loop) →
-    let start = c .before .before .before .before .before .before .args in
-    c .link-on .result ≡ digit (worksBy (c .before .before .before .before .before .working-nodes .result) (joined (start .failed .low) (start .failed .high)) (start .links .now) (c .before .before .before .before .loop .i))
-on c =
-    let start = c .before .before .before .before .before .before .args in
-    on-is (c .before .before .before .before .before .working-nodes .result) (joined (start .failed .low) (start .failed .high)) (start .links .now) (c .before .before .before .before .loop .i)
-    (c .before .before .end .result) (c .before .end2 .result) (c .link-on .result)
-    (c .before .before .end .ensures .0) (c .before .end2 .ensures .0) (c .link-on .ensures .0)
-
 with-link-requires : tie.Need-with-link-requires Inv-loop μ-loop
 with-link-requires c κs = (c .link-on .ensures .1, omega arith)
 
@@ -56,18 +46,31 @@ loop-less c = omega arith
 
 loop-again : tie.Need-loop-again Inv-loop μ-loop
 loop-again c =
-    let start = c .before .before .before .before .before .before .before .args in
-    let loop = c .before .before .before .before .before .loop in
-    let works = worksBy (c .before .before .before .before .before .before .working-nodes .result) (joined (start .failed .low) (start .failed .high)) (start .links .now) in
-    (omega arith, decided-next works (c .before .link-on .result) (loop .i) (joined (loop .up .low) (loop .up .high)) (joined (c .with-link .result .low) (c .with-link .result .high)) (on (c .before)) (loop .inv .1) (c .with-link .ensures))
+    let on = c .before in
+    let b = on .before in
+    let a = b .before in
+    let loop = a .before .before .loop in
+    let nodes = a .before .before .before .working-nodes .result in
+    let start = a .before .before .before .before .args in
+    let cut = joined (start .failed .low) (start .failed .high) in
+    let link = on-is nodes cut (start .links .now) (loop .i) (a .end .result) (b .end2 .result) (on .link-on .result) in (
+      omega arith,
+      decided-next (worksBy nodes cut (start .links .now)) (on .link-on .result) (loop .i)
+          (joined (loop .up .low) (loop .up .high))
+          (joined (c .with-link .result .low) (c .with-link .result .high))
+          (link (a .end .ensures .0) (b .end2 .ensures .0) (on .link-on .ensures .0))
+          (loop .inv .1)
+          (c .with-link .ensures),
+    )
 
 returns : tie.Need-returns Inv-loop μ-loop
-returns c =
+returns c = λ j.
     let start = c .before .before .before .args in
     let loop = c .before .loop in
-    let nodes = c .before .before .working-nodes .result in
-    λ j. decided-all (worksBy nodes (joined (start .failed .low) (start .failed .high)) (start .links .now)) (loop .i) (start .count) (joined (loop .up .low) (loop .up .high)) (loop .inv .0) (c .loop-test .left) (loop .inv .1) j
-    ∙ works-is (start .n) (start .count) (start .links .now) (outage (start .failed)) nodes (c .before .before .working-nodes .ensures) j
+    let nodes = c .before .before .working-nodes in
+    let works = worksBy (nodes .result) (joined (start .failed .low) (start .failed .high)) (start .links .now) in
+    decided-all works (loop .i) (start .count) (joined (loop .up .low) (loop .up .high)) (loop .inv .0) (c .loop-test .left) (loop .inv .1) j
+    ∙ works-is (start .n) (start .count) (start .links .now) (outage (start .failed)) (nodes .result) (nodes .ensures) j
 
 pub working-links-spec : {M : Type 1} → statement M
 working-links-spec =
