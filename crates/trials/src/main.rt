@@ -2,15 +2,51 @@
 // hand; a difference is printed, and `trials ended` is the last line. Its stored output is that line alone.
 mod check;
 mod compare;
+mod reading;
 mod split;
+mod unwritten;
+mod vectors;
+mod writing;
 
 fn main() {
     split::vectors();
+    check_vectors();
+    reading_vectors();
+    writing_vectors();
+    io::write_all(1, b"trials ended\n");
+}
+
+fn check_vectors() {
     check::header();
     check::ranges();
     check::links();
     check::events();
     check::members();
     check::lengths();
-    io::write_all(1, b"trials ended\n");
+}
+
+fn reading_vectors() {
+    reading::triangle();
+    reading::one_node();
+    reading::wide_numbers();
+    reading::large();
+    reading::short_lists();
+    reading::refused_headers();
+    reading::refused_entries();
+}
+
+fn writing_vectors() {
+    writing::triangle();
+    writing::large();
+    writing::past_the_counts();
+    writing::header_alone();
+    writing::read_then_written();
+    writing::longest();
+    unwritten::counts();
+    unwritten::threshold_and_cap();
+    unwritten::short_lists();
+    unwritten::short_output();
+    unwritten::ends();
+    unwritten::probabilities();
+    unwritten::sets();
 }
