@@ -1,6 +1,6 @@
 -- Sets as numbers. Document 01, section "Plan file": "Element i is bit i of a set, of value 2^i."
 -- Assumes nothing.
-use mathlib.Core.Bool.{Bool}
+use mathlib.Core.Bool.{Bool, true, false}
 use Prim.Native.Nat.{ℕ, _+_, _*_, _/_, _%_, _^_}
 use lib.Dec.{eqb}
 
@@ -11,3 +11,8 @@ bit s i = eqb (s / 2 ^ i % 2) 1
 -- the set of up to 128 elements that two words hold, elements 64 to 127 in the high one
 abbrev pub joined : ℕ → ℕ → ℕ
 joined low high = high * 2 ^ 64 + low
+
+-- a Bool as a digit
+abbrev pub digit : Bool → ℕ
+digit true = 1
+digit false = 0

@@ -1,0 +1,2 @@
+-- Laws that the proofs of the crate `sets` share.
+pub mod Digits

@@ -1,0 +1,92 @@
+-- Rows that show a network: their paths are its paths of working links, and what a node reaches by them is what it is connected to.
+-- Assumes nothing.
+use mathlib.Core.Path.{_≡_, refl, sym, ap, _∙_}
+use mathlib.Core.Bool.{Bool, true, false, not, _&&_}
+use mathlib.Core.List.{List}
+use mathlib.Core.Logic.{_↔_}
+use Prim.Native.Nat.{ℕ, _+_}
+use native.Mathlib.Omega.{arith}
+use lib.Dec.{ltb, eqb}
+use lib.ListN.{getD}
+use borrow.Author.Tests.{ltb-true, ltb-false, lt-ltb, le-ltb}
+use Rattle.sets.specs.Sets.{bit, digit}
+use Rattle.sets.specs.Bools.{same-bool, not-of, of-not}
+use Rattle.plan.specs.Plan.{Link}
+use Rattle.topology.specs.Outage.{Outage}
+use Rattle.topology.specs.Topology.{Network, networkOf, nodeWorks, adjacent}
+use Rattle.topology.specs.Paths.{WorkingLink, Reaches, disconnected}
+use Rattle.topology.specs.Chains.{chain-map}
+use Rattle.topology.specs.Works.{adjacent-link, link-adjacent, adjacent-sym, link-nodes}
+use Rattle.topology.specs.Connection.{connected-is}
+use Rattle.topology.specs.Laws.{path-leads}
+use Rattle.topology.specs.RowPaths.{RowStep, Reached, Joining}
+
+-- ---- what a node reaches is what it is connected to
+
+module _ (net : Network) where
+  pub connected-bit : (v set w : ℕ) → (bit set w ≡ true) ↔ Reaches net v w → bit set w ≡ not (disconnected net v w)
+  connected-bit v set w reached = same-bool _ _ there back
+    where
+      there : bit set w ≡ true → not (disconnected net v w) ≡ true
+      there e =
+          let h = reached .0 e in
+          not-of _ (connected-is net v w .1 (h .0, path-leads net (h .1) (h .0), h .1))
+
+      back : not (disconnected net v w) ≡ true → bit set w ≡ true
+      back e =
+          let h = connected-is net v w .0 (of-not _ e) in
+          reached .1 (h .0, h .2)
+
+-- ---- rows that show a network
+
+-- the set of working nodes
+pub nodes-shown : (n : ℕ) (links : List Link) (out : Outage) (nodes : ℕ) → ((v : ℕ) → bit nodes v ≡ (ltb v n && not (bit (out .nodes) v)))
+    → (v : ℕ) → bit nodes v ≡ nodeWorks (networkOf n links out) v
+unfolding nodeWorks
+nodes-shown n links out nodes law v = law v
+
+module _ (net : Network) (nodes : ℕ) (rows : List ℕ)
+    (up : (v : ℕ) → bit nodes v ≡ nodeWorks net v)
+    (row : (v w : ℕ) → bit (getD rows v 0) w ≡ adjacent net v w)
+  where
+    step-link : (v w : ℕ) → RowStep rows v w → WorkingLink net v w
+    step-link v w s = adjacent-link net v w (sym (row v w) ∙ s)
+
+    link-step : (v w : ℕ) → WorkingLink net v w → RowStep rows v w
+    link-step v w s = row v w ∙ link-adjacent net v w s
+
+    pub joining : Joining nodes rows
+    joining = record {
+      both-ways = λ v w s. row w v ∙ adjacent-sym net w v ∙ sym (row v w) ∙ s;
+      within = λ v w s. up w ∙ link-nodes net v w (step-link v w s) .1;
+    }
+
+    pub reached-is : (v set : ℕ) → Reached nodes rows v set → (w : ℕ) → (bit set w ≡ true) ↔ Reaches net v w
+    reached-is v set reached w = (
+      λ e. (sym (up v) ∙ reached w .0 e .0, chain-map step-link (reached w .0 e .1)),
+      λ h. reached w .1 (up v ∙ h .0, chain-map link-step (h .1)),
+    )
+
+-- ---- small facts of the pair's functions
+
+pub absent : (found set w : ℕ) (cut : Bool) → found ≡ digit (bit set w) → bit set w ≡ not cut → eqb found 0 ≡ cut
+absent found set w cut e f = ap (λ (x : ℕ). eqb x 0) (e ∙ ap digit f) ∙ cases cut
+  where
+    cases : (c : Bool) → eqb (digit (not c)) 0 ≡ c
+    cases true = refl
+    cases false = refl
+
+pub above : (v w n : ℕ) (p : Bool) → ((ltb w n && not (ltb w (v + 1))) && not p) ≡ (ltb v w && (ltb w n && not p))
+above v w n p = ap (λ (x : Bool). (ltb w n && x) && not p) later ∙ cases (ltb w n) (ltb v w) (not p)
+  where
+    later : not (ltb w (v + 1)) ≡ ltb v w
+    later =
+        same-bool _ _
+        (λ e. lt-ltb v w (omega (arith, ltb-false w (v + 1) (of-not _ e))))
+        (λ e. not-of _ (le-ltb w (v + 1) (omega (arith, ltb-true v w e))))
+
+    cases : (a b q : Bool) → ((a && b) && q) ≡ (b && (a && q))
+    cases true true q = refl
+    cases true false q = refl
+    cases false true q = refl
+    cases false false q = refl

@@ -1,0 +1,29 @@
+-- `topology::pairs::reach_from` meets its contract: the rows show the network. Assumes nothing.
+use borrow.Author.Needs.{needs}
+use Rattle.plan.specs.Lists.{linksOf}
+use Rattle.topology.specs.Code.{outage, networkIn}
+use Rattle.topology.proofs.Shown.{nodes-shown, reached-is}
+use Rattle.topology.proofs.pairs.reach_from.Statement.{statement}
+use Rattle.topology.proofs.pairs.reach_from.Tie as tie
+
+neighbours-requires : tie.Need-neighbours-requires
+neighbours-requires c κs = search needs
+
+working-nodes-requires : tie.Need-working-nodes-requires
+working-nodes-requires c κs = search needs
+
+reach-requires : tie.Need-reach-requires
+reach-requires c κs = search needs
+
+returns : tie.Need-returns
+returns c =
+    let a = c .before .before .before .args in
+    let net = networkIn (a .n) (a .failed) (a .links .now) (a .count) in
+    let nodes = c .before .working-nodes in
+    let up = nodes-shown (a .n) (linksOf (a .count) (a .links .now)) (outage (a .failed)) (nodes .result) (nodes .ensures) in
+    let rows = c .before .before .neighbours in
+    reached-is net (nodes .result) (rows .result) up (rows .ensures) (a .v) (c .reach .result .set) (c .reach .ensures)
+
+pub reach-from-spec : {M : Type 1} → statement M
+reach-from-spec =
+    tie.close (tie.spec neighbours-requires working-nodes-requires reach-requires returns)

@@ -1,0 +1,50 @@
+-- Small networks whose answer is known, computed from the definitions.
+-- Assumes nothing.
+use mathlib.Core.Path.{_≡_, refl}
+use mathlib.Core.Bool.{Bool, true, false}
+use mathlib.Core.List.{List, [], _∷_}
+use Prim.Native.Nat.{ℕ}
+use Rattle.sets.specs.Sets.{bit}
+use Rattle.sets.specs.Bools.{anyBelow}
+use Rattle.plan.specs.Plan.{Link, Event}
+use Rattle.topology.specs.Outage.{unionOf, outageOf}
+use Rattle.topology.specs.Topology.{networkOf, nodeWorks, linkWorks, joins, adjacent}
+use Rattle.topology.specs.Paths.{via, disconnected}
+
+-- the triangle of document 01: links 0-1, 0-2, 1-2
+triangle : List Link
+triangle = record { low = 0; high = 1 } ∷ record { low = 0; high = 2 } ∷ record { low = 1; high = 2 } ∷ []
+
+-- whether nodes v and w of a network of 3 nodes are disconnected when the sets `nodes` and `links` have failed
+cut : List Link → ℕ → ℕ → ℕ → ℕ → Bool
+cut links nodes failed v w = disconnected (networkOf 3 links (record { nodes = nodes; links = failed })) v w
+
+answers : List Bool
+answers =
+    -- nothing failed
+    cut triangle 0 0 0 1
+    -- link 0-1 failed: the path goes by node 2
+    ∷ cut triangle 0 1 0 1
+    -- links 0-1 and 0-2 failed: node 0 is alone, and 1 and 2 are joined
+    ∷ cut triangle 0 3 0 1
+    ∷ cut triangle 0 3 1 2
+    -- link 0-1 and node 2 failed: both links of node 2 are down
+    ∷ cut triangle 4 1 0 1
+    -- node 2 failed: it is disconnected even from itself
+    ∷ cut triangle 4 0 2 2
+    -- no links: a node without a link works, and reaches itself alone
+    ∷ cut [] 0 0 0 0
+    ∷ cut [] 0 0 0 1
+    ∷ []
+
+known-answers : answers ≡ false ∷ false ∷ true ∷ false ∷ true ∷ true ∷ false ∷ true ∷ []
+unfolding answers cut triangle disconnected via adjacent joins linkWorks nodeWorks anyBelow bit
+known-answers = refl
+
+-- events 0 and 2 of three fail, beside node 5 that had failed at the start
+events : List Event
+events = record { probability = 9; nodes = 1; links = 6 } ∷ record { probability = 8; nodes = 2; links = 8 } ∷ record { probability = 7; nodes = 4; links = 2 } ∷ []
+
+known-outage : outageOf (record { nodes = 32; links = 0 }) events 5 ≡ record { nodes = 37; links = 6 }
+unfolding events unionOf bit
+known-outage = refl
