@@ -19,7 +19,7 @@ pub fn same_part(label: &[u8], part: &[u8], got: u64, want: u64) {
 }
 
 // The same for the element of a list at a position.
-fn same_at(label: &[u8], at: usize, got: u64, want: u64) {
+pub fn same_at(label: &[u8], at: usize, got: u64, want: u64) {
     if got != want {
         io::write_all(1, label);
         io::write_all(1, b", at ");

@@ -2,6 +2,8 @@
 // hand; a difference is printed, and `trials ended` is the last line. Its stored output is that line alone.
 mod check;
 mod compare;
+mod network;
+mod networks;
 mod reading;
 mod split;
 mod unwritten;
@@ -13,6 +15,7 @@ fn main() {
     check_vectors();
     reading_vectors();
     writing_vectors();
+    network_vectors();
     io::write_all(1, b"trials ended\n");
 }
 
@@ -49,4 +52,17 @@ fn writing_vectors() {
     unwritten::ends();
     unwritten::probabilities();
     unwritten::sets();
+}
+
+fn network_vectors() {
+    networks::triangle();
+    networks::end_nodes();
+    networks::parallel();
+    networks::without_links();
+    networks::ring();
+    networks::islands();
+    networks::top_bits();
+    networks::word_ends();
+    networks::cut_off();
+    networks::outages();
 }
