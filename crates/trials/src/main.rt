@@ -12,6 +12,7 @@ mod writing;
 
 fn main() {
     split::vectors();
+    split::refusals();
     check_vectors();
     reading_vectors();
     writing_vectors();
@@ -21,10 +22,12 @@ fn main() {
 
 fn check_vectors() {
     check::header();
-    check::ranges();
+    check::counts();
+    check::threshold_and_cap();
     check::links();
     check::events();
     check::members();
+    check::rising_members();
     check::lengths();
 }
 
@@ -57,12 +60,15 @@ fn writing_vectors() {
 fn network_vectors() {
     networks::triangle();
     networks::end_nodes();
+    networks::end_node_pairs();
     networks::parallel();
     networks::without_links();
     networks::ring();
+    networks::ring_nodes();
     networks::islands();
     networks::top_bits();
     networks::word_ends();
+    networks::word_end_pairs();
     networks::cut_off();
     networks::outages();
 }

@@ -71,6 +71,11 @@ pub fn end_nodes() {
         0,
         &[1, 2, 0],
     );
+}
+
+// Pairs of the triangle with node 2 down.
+pub fn end_node_pairs() {
+    let l = links(b"\x00\x01\x00\x02\x01\x02");
     pair(
         b"two ends of a link that works",
         3,
@@ -161,6 +166,10 @@ pub fn ring() {
         0,
         &[49, 14, 14, 14, 49, 49],
     );
+}
+
+pub fn ring_nodes() {
+    let l = links(b"\x00\x01\x01\x02\x02\x03\x03\x04\x04\x05\x00\x05");
     // nodes 0 and 3 down: links 1-2 and 4-5 are left (2 + 16 = 18), with nodes 1, 2 (6) and 4, 5 (48)
     works(
         b"ring, two nodes down",
@@ -250,6 +259,12 @@ pub fn word_ends() {
         9_223_372_036_854_775_808,
         1,
     );
+}
+
+// Node 43 reaches node 44 by node 21, over both links.
+pub fn word_end_pairs() {
+    let l = many_links();
+    let down = 18_446_717_685_428_387_839;
     pair(
         b"43 by 21 to 44",
         64,
