@@ -43,6 +43,10 @@ pub fn vectors() {
     // marked plan 11
     split(b"split one unit at 10^-9", 1, 1, 0, 0, 0);
     split(b"split nothing", 0, 500_000_000, 0, 0, 0);
+}
+
+pub fn refusals() {
+    let whole = 1_000_000_000_000_000_000;
     split(b"split above one whole", whole + 1, 0, 16, 0, 0);
     split(
         b"split the greatest word",

@@ -1,0 +1,2 @@
+-- Laws that the proofs of the crate `trials` share.
+pub mod Held
