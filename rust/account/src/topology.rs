@@ -9,21 +9,24 @@ pub struct Topology {
     pub links: u128,
 }
 
-/// The effective topology of a set of failing events.
+/// The effective topology of a set of failing events: a node works if no failing event names it, a link if none
+/// names it and both its end nodes work.
 pub fn effective(plan: &Plan, failing: u128) -> Topology {
-    let fails = |i: &usize| failing >> i & 1 == 1;
-    let failed: Vec<_> = (0..plan.events.len())
-        .filter(fails)
-        .map(|i| plan.events[i])
-        .collect();
-    let node_works = |node: usize| failed.iter().all(|event| event.nodes >> node & 1 == 0);
-    let link_named = |link: usize| failed.iter().any(|event| event.links >> link & 1 == 1);
+    let (mut named_nodes, mut named_links) = (0u64, 0u128);
+    for (i, event) in plan.events.iter().enumerate() {
+        if failing >> i & 1 == 1 {
+            named_nodes |= event.nodes;
+            named_links |= event.links;
+        }
+    }
+    let node_works = |node: usize| named_nodes >> node & 1 == 0;
     let mut topology = Topology { nodes: 0, links: 0 };
     for node in 0..plan.nodes {
         topology.nodes |= u64::from(node_works(node)) << node;
     }
     for (link, &(first, second)) in plan.links.iter().enumerate() {
-        let works = !link_named(link) && node_works(first) && node_works(second);
+        let named = named_links >> link & 1 == 1;
+        let works = !named && node_works(first) && node_works(second);
         topology.links |= u128::from(works) << link;
     }
     topology

@@ -152,15 +152,27 @@ pub fn halves() -> Plan {
 
 #[cfg(test)]
 mod tests {
-    use super::*;
+    use std::path::Path;
+
     use account::calls::check;
     use account::walk::walk;
+
+    use super::*;
 
     #[test]
     fn each_file_is_what_its_name_says() {
         for example in examples() {
             let refused = example.name.starts_with("refused");
             assert_eq!(check(&example.bytes), if refused { 9 } else { 0 });
+        }
+    }
+
+    #[test]
+    fn the_folder_has_these_bytes() {
+        let folder = Path::new(env!("CARGO_MANIFEST_DIR")).join("../../examples");
+        for example in examples() {
+            let bytes = std::fs::read(folder.join(example.name));
+            assert_eq!(bytes.ok(), Some(example.bytes), "{}", example.name);
         }
     }
 

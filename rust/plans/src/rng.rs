@@ -33,7 +33,7 @@ impl Rng {
     /// A number from `least` to `most`, both included.
     pub fn between(&mut self, least: u64, most: u64) -> u64 {
         let range = u128::from(most - least) + 1;
-        least + (u128::from(self.bits()) * range >> 64) as u64
+        least + ((u128::from(self.bits()) * range) >> 64) as u64
     }
 
     /// An index below a length that is not 0.

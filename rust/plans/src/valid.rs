@@ -144,7 +144,7 @@ fn random_threshold(rng: &mut Rng, plan: &Plan) -> u64 {
 /// How many ends a test affords for a plan: fewer where there are many pairs.
 fn affordable_ends(rng: &mut Rng, plan: &Plan) -> u64 {
     let work = plan.nodes * plan.nodes + 4 * plan.links.len() + 4 * plan.events.len() + 20;
-    let effort = if rng.one_in(50) { 1_000_000 } else { 100_000 };
+    let effort = if rng.one_in(50) { 2_000_000 } else { 200_000 };
     effort / work as u64 + 1
 }
 

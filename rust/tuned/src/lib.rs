@@ -1,9 +1,14 @@
 //! A tuned Rust program that does the same as the run, as the benchmark's measure.
 //!
-//! It takes lists that meet every rule. The walk keeps its pending branches on a stack in an array and reaches every
-//! end one by one; nothing is allocated. Products are split over 64 bits.
+//! It takes lists that meet every rule and tests nothing. The walk keeps its pending branches on a stack in an array
+//! and reaches every end one by one; products are split over 64 bits; nothing is allocated.
+//!
+//! Tried and slower on at least one of the three plans, none faster on any by more than the noise: the stack as
+//! separate arrays; failing events on the stack, their elements gathered at the end; "works" as what is left of the
+//! mass; working links found by trailing zeros; shifts in place of the table of bits; links by node; two arrays of
+//! neighbours joined at the end; an array of components before the rows.
 
-mod components;
+mod pairs;
 mod walk;
 
 pub use walk::run;
