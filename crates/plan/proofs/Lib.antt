@@ -1,6 +1,8 @@
 -- Laws that the proofs of the crate `plan` share.
 pub mod TestLaws
 pub mod FileLaws
+pub mod FileLawsSteps
+pub mod FileLawsAccepted
 pub mod ListLaws
 pub mod LayoutNumbers
 pub mod LayoutSets

@@ -3,7 +3,7 @@
 use mathlib.Core.Path.{_≡_, refl, sym, ap, _∙_}
 use mathlib.Core.Bool.{Bool, true, false, _||_}
 use mathlib.Core.List.{List, [], _∷_, _++_}
-use Prim.Native.Nat.{ℕ, zero, suc, _+_, _-_, _*_, _≤_, _<_}
+use Prim.Native.Nat.{ℕ, zero, suc, _+_, _-_, _≤_, _<_}
 use native.Mathlib.Nat.{add-zero}
 use native.Mathlib.Numerals.{add-one}
 use native.Mathlib.Omega.{arith}
@@ -28,8 +28,12 @@ sets-append (x ∷ a) b l i =
     shift : (n m : ℕ) → suc n + m ≡ n + suc m
     shift n m = omega arith
 
+pub sets-then : (a b l l′ : List ℕ) (i i′ : ℕ) → l′ ≡ sets l i a → i′ ≡ i + length a → sets l′ i′ b ≡ sets l i (a ++ b)
+sets-then a b l l′ i i′ e n = rw (e, n) (sym (sets-append a b l i))
+
 -- one more element copied
-pub copy-next : (from to out : List ℕ) (at i : ℕ) → out ≡ sets to at (take i from) → i < length from → set out (at + i) (getD from i 0) ≡ sets to at (take (i + 1) from)
+pub copy-next : (from to out : List ℕ) (at i : ℕ) → out ≡ sets to at (take i from) → i < length from
+    → set out (at + i) (getD from i 0) ≡ sets to at (take (i + 1) from)
 copy-next from to out at i e h =
     let n : length (take i from) ≡ i = length-take-le i from (omega arith) in
     rw (e, add-one, take-suc from i 0, sets-append, n)
@@ -46,7 +50,7 @@ eventAt words at =
       links = joined (getD words (at + 2) 0) (getD words (at + 3) 0);
     }
 
-less-one : (k : ℕ) → suc k - 1 ≡ k
+pub less-one : (k : ℕ) → suc k - 1 ≡ k
 less-one k = omega arith
 
 -- the links from a position on: the next one, then the others

@@ -12,6 +12,10 @@ unfoldable pub linksOf : ℕ → List ℕ → List Link
 linksOf zero bytes = []
 linksOf (suc count) bytes = record { low = getD bytes 0 0; high = getD bytes 1 0 } ∷ linksOf count (drop 2 bytes)
 
+-- the event that four words stand for
+abbrev pub eventOf : ℕ → ℕ → ℕ → ℕ → Event
+eventOf probability nodes low high = record { probability = probability; nodes = nodes; links = joined low high }
+
 -- the first `count` events of a list of words
 unfoldable pub eventsOf : ℕ → List ℕ → List Event
 eventsOf zero words = []

@@ -57,7 +57,6 @@ pub fn header_of(s: &[u8]) -> Header
 
 // Each link, 1 then 7.
 pub fn links_refusal(s: &[u8], start: usize, count: u64, nodes: u64) -> u32
-    requires { ⌜ start ≤ length (now s) ⌝ }
     ensures { λ r. ⌜ r ≡ linksRefusal nodes count (drop start (now (s .entry))) ⌝ }
 {
     let mut at = start;
@@ -124,7 +123,6 @@ pub fn rank_at(s: &[u8], at: usize) -> u64
 
 // Each member, 1 then 10.
 pub fn members_refusal(s: &[u8], start: usize, count: u64, nodes: u64, links: u64) -> u32
-    requires { ⌜ start ≤ length (now s) ⌝ }
     ensures { λ r. ⌜ r ≡ membersRefusal nodes links 0 count (drop start (now (s .entry))) ⌝ }
 {
     let mut at = start;
@@ -144,7 +142,6 @@ pub fn members_refusal(s: &[u8], start: usize, count: u64, nodes: u64, links: u6
 
 // An event: 1, 8, 9, then each member.
 pub fn event_refusal(s: &[u8], at: usize, nodes: u64, links: u64, before: u64) -> u32
-    requires { ⌜ at ≤ length (now s) ⌝ }
     ensures { λ r. ⌜ r ≡ eventRefusal nodes links before (drop at (now (s .entry))) ⌝ }
 {
     let short = tests::short_test(left_of(s, at), 5);
@@ -173,7 +170,6 @@ pub fn event_size(s: &[u8], at: usize) -> usize
 
 // All events, then 11.
 pub fn events_refusal(s: &[u8], start: usize, count: u64, nodes: u64, links: u64) -> u32
-    requires { ⌜ start ≤ length (now s) ⌝ }
     ensures { λ r. ⌜ r ≡ eventsRefusal nodes links certain count (drop start (now (s .entry))) ⌝ }
 {
     let mut at = start;

@@ -3,9 +3,9 @@
 use mathlib.Core.Path.{_≡_, ap₂, _∙_}
 use Prim.Native.Nat.{ℕ, _+_, _-_, _*_, _^_, _≤_, _<_}
 use native.Mathlib.Omega.{arith}
-use lib.ListN.{take, drop, getD}
+use lib.ListN.{take, drop}
 use Rattle.plan.specs.Layout.{value}
-use Rattle.plan.proofs.FileLaws.{number-step, number-fits, number-below, number-start, number-end}
+use Rattle.plan.proofs.FileLaws.{number-end, number-step, number-fits, number-below, number-start}
 use Rattle.plan.proofs.bytes.number_at.Statement.{statement}
 use Rattle.plan.proofs.bytes.number_at.Tie as tie
 

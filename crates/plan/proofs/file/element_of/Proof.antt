@@ -1,5 +1,5 @@
 -- `plan::file::element_of` meets its contract. Assumes nothing.
-use Rattle.plan.proofs.FileLaws.{element-link}
+use Rattle.plan.proofs.FileLawsSteps.{element-link}
 use Rattle.plan.proofs.file.element_of.Statement.{statement}
 use Rattle.plan.proofs.file.element_of.Tie as tie
 

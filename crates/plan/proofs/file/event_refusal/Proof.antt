@@ -6,7 +6,9 @@ use lib.ListN.{length, drop}
 use Rattle.mass.specs.Split.{probabilityTest}
 use Rattle.plan.specs.Tests.{shortTest, orderTest}
 use Rattle.plan.specs.File.{probabilityIn, membersRefusal}
-use Rattle.plan.proofs.FileLaws.{stop, skip, last, on, short-fits, event-step}
+use Rattle.plan.proofs.FileLaws.{stop, skip, last, on}
+use Rattle.plan.proofs.FileLawsSteps.{event-step}
+use Rattle.plan.proofs.FileLawsAccepted.{short-fits}
 use Rattle.plan.proofs.file.event_refusal.Statement.{statement}
 use Rattle.plan.proofs.file.event_refusal.Tie as tie
 
@@ -79,7 +81,7 @@ byte-at-requires : tie.Need-byte-at-requires
 byte-at-requires c κs = omega (arith, there (c .before .before .before .before .before))
 
 members-refusal-requires : tie.Need-members-refusal-requires
-members-refusal-requires c κs = there (c .before .before .before .before .before .before)
+members-refusal-requires c κs = tt
 
 returns-4 : tie.Need-returns-4
 returns-4 c =

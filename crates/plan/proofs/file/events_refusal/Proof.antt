@@ -1,28 +1,30 @@
 -- `plan::file::events_refusal` meets its contract. The loop's invariant: the events from `at` on are refused as all of them are. The measure is
 -- how many events are left. Assumes nothing.
-use mathlib.Core.Path.{_≡_, refl, sym, _∙_, ap, ap₂}
+use mathlib.Core.Path.{_≡_, refl, sym, _∙_, ap₂}
 use Prim.Native.Nat.{ℕ, _+_, _-_, _≤_}
 use native.Mathlib.Omega.{arith}
 use lib.ListN.{length, drop}
 use Rattle.mass.specs.Split.{certain}
 use Rattle.plan.specs.Tests.{leftTest}
 use Rattle.plan.specs.File.{eventsRefusal}
-use Rattle.plan.proofs.FileLaws.{stop, skip, last, on, event-head, event-fits, events-step, events-none}
+use Rattle.plan.proofs.FileLaws.{stop, skip, last, on}
+use Rattle.plan.proofs.FileLawsSteps.{events-step, events-none}
+use Rattle.plan.proofs.FileLawsAccepted.{event-head, event-fits}
 use Rattle.plan.proofs.file.events_refusal.Statement.{statement}
 use Rattle.plan.proofs.file.events_refusal.Tie as tie
 
 abbrev Inv-loop : tie.InvT-loop
 Inv-loop s start count nodes links at₀ left₀ before₀ at left before =
-    (at ≤ length s) × (eventsRefusal nodes links before left (drop at s) ≡ eventsRefusal nodes links certain count (drop start s))
+    eventsRefusal nodes links before left (drop at s) ≡ eventsRefusal nodes links certain count (drop start s)
 
 abbrev μ-loop : tie.MeasureT-loop
 μ-loop s start count nodes links at₀ left₀ before₀ at left before = left
 
 loop-holds : tie.Need-loop-holds Inv-loop μ-loop
-loop-holds c = (c .before .pre, refl)
+loop-holds c = refl
 
 event-refusal-requires : tie.Need-event-refusal-requires Inv-loop μ-loop
-event-refusal-requires c κs = c .before .loop .inv .0
+event-refusal-requires c κs = tt
 
 returns : tie.Need-returns Inv-loop μ-loop
 returns c =
@@ -30,7 +32,7 @@ returns c =
     let a = l .before .before .args in
     stop _ (c .before .event-refusal .ensures) (c .if1 .taken)
     ∙ sym (events-step (a .nodes) (a .links) (l .loop .before) (l .loop .left) (l .loop .at) (a .s .now) (c .before .before .loop-test .taken))
-    ∙ l .loop .inv .1
+    ∙ l .loop .inv
 
 -- the event's bytes are there
 head-there :
@@ -69,13 +71,11 @@ loop-less c = omega arith
 loop-again : tie.Need-loop-again Inv-loop μ-loop
 loop-again c =
     let l = c .before .before .before .before .before in
-    let a = l .before .before .args in (
-      there c,
-      ap₂ (λ (q n : ℕ). eventsRefusal (a .nodes) (a .links) q (l .loop .left - 1) (drop (l .loop .at + n) (a .s .now))) (c .before .number-at .ensures) (c .event-size .ensures)
-          ∙ skip _ (c .before .before .before .event-refusal .ensures) (c .before .before .if1 .left) (last refl)
-          ∙ sym (events-step (a .nodes) (a .links) (l .loop .before) (l .loop .left) (l .loop .at) (a .s .now) (c .before .before .before .before .loop-test .taken))
-          ∙ l .loop .inv .1,
-    )
+    let a = l .before .before .args in
+    ap₂ (λ (q n : ℕ). eventsRefusal (a .nodes) (a .links) q (l .loop .left - 1) (drop (l .loop .at + n) (a .s .now))) (c .before .number-at .ensures) (c .event-size .ensures)
+    ∙ skip _ (c .before .before .before .event-refusal .ensures) (c .before .before .if1 .left) (last refl)
+    ∙ sym (events-step (a .nodes) (a .links) (l .loop .before) (l .loop .left) (l .loop .at) (a .s .now) (c .before .before .before .before .loop-test .taken))
+    ∙ l .loop .inv
 
 left-of-requires : tie.Need-left-of-requires Inv-loop μ-loop
 left-of-requires c κs = tt
@@ -87,7 +87,7 @@ returns-2 : tie.Need-returns-2 Inv-loop μ-loop
 returns-2 c =
     on leftTest (c .left-test .ensures) (c .before .left-of .ensures)
     ∙ events-none _ _ _ _ _ (c .before .before .loop-test .left)
-    ∙ c .before .before .before .loop .inv .1
+    ∙ c .before .before .before .loop .inv
 
 pub events-refusal-spec : {M : Type 1} → statement M
 events-refusal-spec =

@@ -6,19 +6,21 @@ use native.Mathlib.Omega.{arith}
 use lib.ListN.{length, getD, drop}
 use Rattle.plan.specs.File.{linksRefusal}
 use Rattle.plan.specs.Tests.{shortTest, endsTest}
-use Rattle.plan.proofs.FileLaws.{stop, skip, last, on, short-fits, links-step, links-none}
+use Rattle.plan.proofs.FileLaws.{stop, skip, last, on}
+use Rattle.plan.proofs.FileLawsSteps.{links-step, links-none}
+use Rattle.plan.proofs.FileLawsAccepted.{short-fits}
 use Rattle.plan.proofs.file.links_refusal.Statement.{statement}
 use Rattle.plan.proofs.file.links_refusal.Tie as tie
 
 abbrev Inv-loop : tie.InvT-loop
 Inv-loop s start count nodes at₀ left₀ at left =
-    (at ≤ length s) × (linksRefusal nodes left (drop at s) ≡ linksRefusal nodes count (drop start s))
+    linksRefusal nodes left (drop at s) ≡ linksRefusal nodes count (drop start s)
 
 abbrev μ-loop : tie.MeasureT-loop
 μ-loop s start count nodes at₀ left₀ at left = left
 
 loop-holds : tie.Need-loop-holds Inv-loop μ-loop
-loop-holds c = (c .before .pre, refl)
+loop-holds c = refl
 
 left-of-requires : tie.Need-left-of-requires Inv-loop μ-loop
 left-of-requires c κs = tt
@@ -58,7 +60,7 @@ returns c =
     let a = l .before .before .args in
     stop _ (short-is (c .before)) (c .if1 .taken)
     ∙ sym (links-step (a .nodes) (l .loop .left) (l .loop .at) (a .s .now) (c .before .before .before .loop-test .taken))
-    ∙ l .loop .inv .1
+    ∙ l .loop .inv
 
 byte-at-requires : tie.Need-byte-at-requires Inv-loop μ-loop
 byte-at-requires c κs = omega (arith, there c)
@@ -79,7 +81,7 @@ returns-2 c =
     let a = l .before .before .args in
     skip _ (short-is d) (c .before .before .before .before .if1 .left) (stop _ (ends-is (c .before)) (c .if2 .taken))
     ∙ sym (links-step (a .nodes) (l .loop .left) (l .loop .at) (a .s .now) (d .before .before .loop-test .taken))
-    ∙ l .loop .inv .1
+    ∙ l .loop .inv
 
 add-at : tie.Need-add-at Inv-loop μ-loop
 add-at c = omega (arith, there (c .before .before .before .before))
@@ -94,15 +96,13 @@ loop-again : tie.Need-loop-again Inv-loop μ-loop
 loop-again c =
     let d = c .before .before .before .before .before in
     let l = d .before .before .before in
-    let a = l .before .before .args in (
-      there (c .before .before .before .before),
-      skip _ (short-is d) (c .before .before .before .before .if1 .left) (skip _ (ends-is (c .before)) (c .if2 .left) (last refl))
-          ∙ sym (links-step (a .nodes) (l .loop .left) (l .loop .at) (a .s .now) (d .before .before .loop-test .taken))
-          ∙ l .loop .inv .1,
-    )
+    let a = l .before .before .args in
+    skip _ (short-is d) (c .before .before .before .before .if1 .left) (skip _ (ends-is (c .before)) (c .if2 .left) (last refl))
+    ∙ sym (links-step (a .nodes) (l .loop .left) (l .loop .at) (a .s .now) (d .before .before .loop-test .taken))
+    ∙ l .loop .inv
 
 returns-3 : tie.Need-returns-3 Inv-loop μ-loop
-returns-3 c = links-none _ _ _ (c .loop-test .left) ∙ c .before .loop .inv .1
+returns-3 c = links-none _ _ _ (c .loop-test .left) ∙ c .before .loop .inv
 
 pub links-refusal-spec : {M : Type 1} → statement M
 links-refusal-spec =

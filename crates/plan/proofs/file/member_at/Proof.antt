@@ -4,7 +4,9 @@ use native.Mathlib.Omega.{arith}
 use lib.ListN.{length, getD, drop}
 use Rattle.plan.specs.Tests.{shortTest, memberTest}
 use Rattle.plan.specs.Calls.{elementOf}
-use Rattle.plan.proofs.FileLaws.{stop, skip, last, none, on, short-fits, member-step, step-stop, step-go}
+use Rattle.plan.proofs.FileLaws.{stop, skip, none, on}
+use Rattle.plan.proofs.FileLawsSteps.{step-stop, step-go, member-step}
+use Rattle.plan.proofs.FileLawsAccepted.{short-fits}
 use Rattle.plan.proofs.file.member_at.Statement.{statement}
 use Rattle.plan.proofs.file.member_at.Tie as tie
 

@@ -6,19 +6,21 @@ use native.Mathlib.Omega.{arith}
 use lib.ListN.{length, drop}
 use Rattle.plan.specs.File.{memberRefusal, membersRefusal}
 use Rattle.plan.specs.Calls.{stepNumber}
-use Rattle.plan.proofs.FileLaws.{stop, skip, last, member-fits, step-number, members-step, members-none}
+use Rattle.plan.proofs.FileLaws.{stop, skip, last}
+use Rattle.plan.proofs.FileLawsSteps.{step-number, members-step, members-none}
+use Rattle.plan.proofs.FileLawsAccepted.{member-fits}
 use Rattle.plan.proofs.file.members_refusal.Statement.{statement}
 use Rattle.plan.proofs.file.members_refusal.Tie as tie
 
 abbrev Inv-loop : tie.InvT-loop
 Inv-loop s start count nodes links at₀ left₀ least₀ at left least =
-    (at ≤ length s) × (membersRefusal nodes links least left (drop at s) ≡ membersRefusal nodes links 0 count (drop start s))
+    membersRefusal nodes links least left (drop at s) ≡ membersRefusal nodes links 0 count (drop start s)
 
 abbrev μ-loop : tie.MeasureT-loop
 μ-loop s start count nodes links at₀ left₀ least₀ at left least = left
 
 loop-holds : tie.Need-loop-holds Inv-loop μ-loop
-loop-holds c = (c .before .pre, refl)
+loop-holds c = refl
 
 member-at-requires : tie.Need-member-at-requires Inv-loop μ-loop
 member-at-requires c κs = tt
@@ -50,7 +52,7 @@ returns c =
     let a = l .before .before .args in
     stop _ (number-is (c .before)) (c .if1 .taken)
     ∙ sym (members-step (a .nodes) (a .links) (l .loop .least) (l .loop .left) (l .loop .at) (a .s .now) (c .before .before .before .loop-test .taken))
-    ∙ l .loop .inv .1
+    ∙ l .loop .inv
 
 rank-at-requires : tie.Need-rank-at-requires Inv-loop μ-loop
 rank-at-requires c κs = there c
@@ -70,16 +72,14 @@ loop-less c = omega arith
 loop-again : tie.Need-loop-again Inv-loop μ-loop
 loop-again c =
     let l = c .before .before .before .before .before in
-    let a = l .before .before .args in (
-      there (c .before),
-      ap (λ (k : ℕ). membersRefusal (a .nodes) (a .links) (k + 1) (l .loop .left - 1) (drop (l .loop .at + 2) (a .s .now))) (c .rank-at .ensures .0)
-          ∙ skip _ (number-is (c .before .before)) (c .before .if1 .left) (last refl)
-          ∙ sym (members-step (a .nodes) (a .links) (l .loop .least) (l .loop .left) (l .loop .at) (a .s .now) (c .before .before .before .before .loop-test .taken))
-          ∙ l .loop .inv .1,
-    )
+    let a = l .before .before .args in
+    ap (λ (k : ℕ). membersRefusal (a .nodes) (a .links) (k + 1) (l .loop .left - 1) (drop (l .loop .at + 2) (a .s .now))) (c .rank-at .ensures .0)
+    ∙ skip _ (number-is (c .before .before)) (c .before .if1 .left) (last refl)
+    ∙ sym (members-step (a .nodes) (a .links) (l .loop .least) (l .loop .left) (l .loop .at) (a .s .now) (c .before .before .before .before .loop-test .taken))
+    ∙ l .loop .inv
 
 returns-2 : tie.Need-returns-2 Inv-loop μ-loop
-returns-2 c = members-none _ _ _ _ _ (c .loop-test .left) ∙ c .before .loop .inv .1
+returns-2 c = members-none _ _ _ _ _ (c .loop-test .left) ∙ c .before .loop .inv
 
 pub members-refusal-spec : {M : Type 1} → statement M
 members-refusal-spec =

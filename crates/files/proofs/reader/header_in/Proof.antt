@@ -1,0 +1,23 @@
+-- `files::reader::header_in` meets its contract. Assumes nothing.
+use mathlib.Core.Path.{sym, ap}
+use borrow.Author.Needs.{needs}
+use Rattle.plan.specs.Calls.{headerIn}
+use Rattle.files.proofs.reader.header_in.Statement.{statement}
+use Rattle.files.proofs.reader.header_in.Tie as tie
+use Rattle.files.proofs.reader.header_in.Reads as reads
+use Rattle.files.proofs.reader.header_in.Lts as lts
+
+enum-told : tie.Need-enum-told
+enum-told c = search needs
+
+enum-known-answer : tie.Need-enum-known-answer
+enum-known-answer c = search needs
+
+returns : tie.Need-returns
+returns c = sym (ap headerIn (c .enum-told .given .1))
+
+returns-2 : tie.Need-returns-2
+returns-2 c = search needs
+
+pub header-in-spec : {M : Type 1} → statement M
+header-in-spec = tie.close (tie.spec enum-told enum-known-answer returns returns-2)

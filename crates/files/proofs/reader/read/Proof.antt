@@ -1,0 +1,114 @@
+-- `files::reader::read` meets its contract: the header of the answer says how much is copied, and where the plan is refused that is nothing.
+-- Assumes nothing.
+use mathlib.Core.Path.{_≡_, sym, _∙_, ap}
+use mathlib.Core.List.{List}
+use Prim.Native.Nat.{ℕ, _*_, _/_, _≤_}
+use native.Mathlib.Omega.{arith}
+use borrow.Author.Needs.{needs}
+use lib.ListN.{length, take, replicate}
+use lib.Seq.{sets}
+use Rattle.plan.specs.Lists.{linkBytes, eventWords}
+use Rattle.plan.specs.File.{planOf}
+use Rattle.plan.specs.Calls.{headerOf, headerIn, readRefusal, readAnswer}
+use Rattle.files.proofs.ReaderLawsAnswer.{length-filled, header-bounds, read-links, read-events}
+use Rattle.files.proofs.reader.read.Statement.{statement}
+use Rattle.files.proofs.reader.read.Tie as tie
+
+read-core-requires : tie.Need-read-core-requires
+read-core-requires c κs = tt
+
+header-in-requires : tie.Need-header-in-requires
+header-in-requires c κs = tt
+
+-- the arrays keep their lengths, and the header is that of the answer
+bytes-long : (c : tie.After-read-core) → 256 ≡ length (c .read-core .last .1 .1 .1 .0)
+bytes-long c =
+    let a = c .before .before .before .before .before .before .args in
+    sym
+    (ap length (c .read-core .ensures .1 .0)
+    ∙ length-filled (readRefusal (length (a .links .now)) (length (a .events .now) / 4) (a .s .now)) (linkBytes ((planOf (a .s .now)) .links)) (replicate 256 0))
+
+words-long : (c : tie.After-read-core) → 512 ≡ length (c .read-core .last .1 .1 .1 .1 .0)
+words-long c =
+    let a = c .before .before .before .before .before .before .args in
+    sym
+    (ap length (c .read-core .ensures .1 .1)
+    ∙ length-filled (readRefusal (length (a .links .now)) (length (a .events .now) / 4) (a .s .now)) (eventWords ((planOf (a .s .now)) .events)) (replicate 512 0))
+
+header-is :
+    (c : tie.After-header-in)
+    → c .header-in .result
+    ≡ headerIn
+    (readAnswer (readRefusal (length (c .before .before .before .before .before .before .before .args .links .now)) (length (c .before .before .before .before .before .before .before .args .events .now) / 4) (c .before .before .before .before .before .before .before .args .s .now))
+    (headerOf (c .before .before .before .before .before .before .before .args .s .now)))
+header-is c = c .header-in .ensures ∙ ap headerIn (c .before .read-core .ensures .0)
+
+bounds :
+    (c : tie.After-header-in)
+    → (2 * c .header-in .result .links ≤ length (c .before .before .before .before .before .before .before .args .links .now))
+    × (c .header-in .result .events ≤ length (c .before .before .before .before .before .before .before .args .events .now) / 4)
+    × (c .header-in .result .links ≤ 128)
+    × (c .header-in .result .events ≤ 128)
+bounds c =
+    let a = c .before .before .before .before .before .before .before .args in
+    header-bounds (length (a .links .now)) (length (a .events .now) / 4) (a .s .now) (c .header-in .result) (header-is c)
+
+slice-aggregate-copy-bytes : tie.Need-slice-aggregate-copy-bytes
+slice-aggregate-copy-bytes c = bytes-long (c .before .before)
+
+mul-copy-bytes : tie.Need-mul-copy-bytes
+mul-copy-bytes c = omega (arith, bounds (c .before .before))
+
+copy-bytes-requires : tie.Need-copy-bytes-requires
+copy-bytes-requires c κs =
+    let b = bounds (c .before .before) in (omega (arith, b, bytes-long (c .before .before .before)), b .0)
+
+slice-aggregate-copy-words : tie.Need-slice-aggregate-copy-words
+slice-aggregate-copy-words c = words-long (c .before .before .before .before .before .before .before)
+
+mul-copy-words : tie.Need-mul-copy-words
+mul-copy-words c = omega (arith, bounds (c .before .before .before .before .before .before .before))
+
+copy-words-requires : tie.Need-copy-words-requires
+copy-words-requires c κs =
+    let b = bounds (c .before .before .before .before .before .before .before) in (omega (arith, b, words-long (c .before .before .before .before .before .before .before .before)), omega (arith, b))
+
+same-length : tie.Need-same-length
+same-length c = search needs
+
+same-length-2 : tie.Need-same-length-2
+same-length-2 c = search needs
+
+returns : tie.Need-returns
+returns c =
+    let r = c .before .before .before .before .before .before .before .before .before .before .before in
+    let h = c .before .before .before .before .before .before .before .before .before .before in
+    let a = r .before .before .before .before .before .before .args in
+    let n = length (a .links .now) in
+    let k = length (a .events .now) / 4 in (
+      r .read-core .ensures .0,
+      (
+        c .before .before .before .before .before .before .before .copy-bytes .ensures
+            ∙ ap (λ (l : List ℕ). sets (a .links .now) 0 (take (2 * h .header-in .result .links) l)) (r .read-core .ensures .1 .0)
+            ∙ read-links n k (a .s .now) (h .header-in .result) (header-is h) (replicate 256 0) (a .links .now) (omega arith),
+        c .before .before .copy-words .ensures
+            ∙ ap (λ (l : List ℕ). sets (a .events .now) 0 (take (4 * h .header-in .result .events) l)) (r .read-core .ensures .1 .1)
+            ∙ read-events n k (a .s .now) (h .header-in .result) (header-is h) (replicate 512 0) (a .events .now) (omega arith),
+      ),
+    )
+
+pub read-spec : {M : Type 1} → statement M
+read-spec =
+    tie.close
+    (tie.spec
+    read-core-requires
+    header-in-requires
+    slice-aggregate-copy-bytes
+    mul-copy-bytes
+    copy-bytes-requires
+    slice-aggregate-copy-words
+    mul-copy-words
+    copy-words-requires
+    same-length
+    same-length-2
+    returns)
