@@ -1,9 +1,9 @@
 //! The example files and the plans that document 01 names.
 
 use account::file::{layout, parse};
-use account::{Event, Plan, WHOLE};
+use account::{Plan, WHOLE};
 use conformance::{compare, probe};
-use plans::examples::{examples, halves, triangle};
+use plans::examples::{examples, halves, longest, longest_with_last_count_255, triangle};
 use plans::{Lists, Rng};
 
 #[test]
@@ -46,25 +46,10 @@ fn halves_at_three_caps() {
 
 #[test]
 fn the_longest_plan_and_its_last_count() {
-    let event = Event {
-        probability: 5,
-        nodes: u64::MAX,
-        links: u128::MAX,
-    };
-    let plan = Plan {
-        nodes: 64,
-        links: vec![(62, 63); 128],
-        events: vec![event; 128],
-        threshold: 1,
-        cap: 1_000,
-    };
-    let mut bytes = layout(&plan);
+    let bytes = layout(&longest());
     assert_eq!((bytes.len(), compare::check(&bytes)), (50_068, 0));
-    let last_count = bytes.len() - 2 * 192 - 1;
-    bytes[last_count] = 255;
     for (more, refusal) in [(0, 1), (1, 1), (2, 10), (1_000, 10)] {
-        let mut longer = bytes.clone();
-        longer.resize(bytes.len() + more, 0);
-        assert_eq!(compare::check(&longer), refusal);
+        let damaged = longest_with_last_count_255(more);
+        assert_eq!(compare::check(&damaged), refusal);
     }
 }

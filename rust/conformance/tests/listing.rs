@@ -2,10 +2,9 @@
 #![cfg(feature = "listing")]
 
 use account::file::layout;
-use account::{Event, Plan};
 use conformance::listing::listing;
 use plans::damage::damaged_file;
-use plans::examples::{examples, triangle};
+use plans::examples::{examples, longest, longest_with_last_count_255, triangle};
 use plans::valid::{plan_of_size, random_plan, FULL};
 use plans::Rng;
 
@@ -58,27 +57,12 @@ fn inputs_of_any_length() {
 
 #[test]
 fn the_longest_plan_and_its_last_count() {
-    let event = Event {
-        probability: 5,
-        nodes: u64::MAX,
-        links: u128::MAX,
-    };
-    let plan = Plan {
-        nodes: 64,
-        links: vec![(62, 63); 128],
-        events: vec![event; 128],
-        threshold: 1,
-        cap: 1_000,
-    };
-    let mut bytes = layout(&plan);
+    let bytes = layout(&longest());
     assert_eq!(bytes.len(), 50_068);
     expect(&bytes);
-    let last_count = bytes.len() - 2 * 192 - 1;
-    bytes[last_count] = 255;
     for (more, refusal) in [(0, 1), (1, 1), (2, 10), (1_000, 10)] {
-        let mut longer = bytes.clone();
-        longer.resize(bytes.len() + more, 0);
-        let text = listing(&longer).expect("the program target/bin/listing runs");
+        let text = listing(&longest_with_last_count_255(more));
+        let text = text.expect("the program target/bin/listing runs");
         assert_eq!(text, format!("refused {refusal}\n"));
     }
 }

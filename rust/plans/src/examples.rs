@@ -150,6 +150,26 @@ pub fn halves() -> Plan {
     }
 }
 
+/// The longest plan, of 50,068 bytes: every event names every element. It is no example file.
+pub fn longest() -> Plan {
+    Plan {
+        nodes: 64,
+        links: vec![(62, 63); 128],
+        events: vec![event(5, u64::MAX, u128::MAX); 128],
+        threshold: 1,
+        cap: 1_000,
+    }
+}
+
+/// The longest plan's file with the last event's count of members set to 255, and some zero bytes after it.
+pub fn longest_with_last_count_255(more: usize) -> Vec<u8> {
+    let mut bytes = layout(&longest());
+    let last_count = bytes.len() - 2 * 192 - 1;
+    bytes[last_count] = 255;
+    bytes.resize(bytes.len() + more, 0);
+    bytes
+}
+
 #[cfg(test)]
 mod tests {
     use std::path::Path;
