@@ -3,10 +3,10 @@
 //! It takes lists that meet every rule and tests nothing. The walk keeps its pending branches on a stack in an array
 //! and reaches every end one by one; products are split over 64 bits; nothing is allocated.
 //!
-//! Tried and slower on at least one of the three plans, none faster on any by more than the noise: the stack as
-//! separate arrays; failing events on the stack, their elements gathered at the end; "works" as what is left of the
-//! mass; working links found by trailing zeros; shifts in place of the table of bits; links by node; two arrays of
-//! neighbours joined at the end; an array of components before the rows.
+//! Tried and slower by 5 to 70 in 100 on a plan: an array of components before the rows; shifts in place of the table
+//! of bits; links by node; two arrays of neighbours joined at the end; failing events on the stack, their elements
+//! gathered at the end. Tried and no better over the three plans: the stack as separate arrays; "works" as what is
+//! left of the mass; working links found by trailing zeros; a dropped branch tested before it is copied.
 
 mod pairs;
 mod walk;

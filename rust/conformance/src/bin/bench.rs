@@ -1,7 +1,8 @@
 //! The benchmark: the proved run beside the tuned Rust program, on the three plans of `examples/`.
 //!
-//! Each plan is run once by both to compare their answers, then five times by each in turn. The best time of each
-//! counts: processor time of this thread, so that other work on the machine counts little.
+//! Each plan is run once by both to compare their answers, then five times by each in turn, or as often as an
+//! argument says. The best time of each counts: processor time of this thread, so that other work on the machine
+//! counts little.
 
 use std::path::Path;
 
@@ -10,7 +11,6 @@ use conformance::probe;
 use plans::examples::BENCHMARK;
 use plans::Lists;
 
-const ROUNDS: usize = 5;
 const PAIRS: usize = 2016;
 
 /// The lists of bounds; they are cleared before each run.
@@ -96,8 +96,15 @@ fn timed(program: Program, lent: &Lent) -> ([u64; 3], Bounds, Bounds, f64) {
     (result, lower, upper, time)
 }
 
+/// How often each program is run.
+fn rounds() -> usize {
+    let argument = std::env::args().nth(1);
+    argument.map_or(5, |text| text.parse().expect("the number of rounds"))
+}
+
 fn main() {
-    println!("best of {ROUNDS} alternating runs, milliseconds of processor time");
+    let rounds = rounds();
+    println!("best of {rounds} alternating runs, milliseconds of processor time");
     for name in BENCHMARK {
         let lists = lists_of(name);
         let lent = lists.lent();
@@ -105,7 +112,7 @@ fn main() {
         let same = (proved.0, proved.1, proved.2) == (tuned.0, tuned.1, tuned.2);
         assert!(same, "{name}: the two programs differ");
         let (mut proved_best, mut tuned_best) = (f64::MAX, f64::MAX);
-        for _ in 0..ROUNDS {
+        for _ in 0..rounds {
             proved_best = proved_best.min(timed(run_proved, &lent).3);
             tuned_best = tuned_best.min(timed(run_tuned, &lent).3);
         }
