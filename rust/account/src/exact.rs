@@ -1,0 +1,90 @@
+//! Demand 3: the exact sums over all 2^n sets of events, and the three inequalities.
+
+use std::collections::HashSet;
+
+use crate::bounds::Bounds;
+use crate::plan::Plan;
+use crate::topology::components;
+use crate::walk::walk;
+use crate::wide::Wide;
+use crate::{CERTAIN, WHOLE};
+
+/// The sums of document 01 under "Bounds of a pair", in units of 10^-9n.
+pub struct ExactSums {
+    /// The number of events, n.
+    pub events: usize,
+    /// The number of examined scenarios.
+    pub count: u64,
+    /// D of each pair: all sets whose effective topology disconnects it.
+    pub disconnected: Vec<Wide>,
+    /// R: all sets whose scenario is not examined.
+    pub not_examined: Wide,
+    /// All sets together, 10^(9n).
+    pub total: Wide,
+}
+
+/// The exact probability of a set of events.
+pub fn probability(plan: &Plan, failing: u128) -> Wide {
+    let factor = |(i, event): (usize, &crate::Event)| match failing >> i & 1 {
+        1 => event.probability,
+        _ => CERTAIN - event.probability,
+    };
+    let factors = plan.events.iter().enumerate().map(factor);
+    factors.fold(Wide::from(1), Wide::times)
+}
+
+/// The exact sums of a plan with few events.
+pub fn exact_sums(plan: &Plan) -> ExactSums {
+    let examined: HashSet<u128> = walk(plan).examined.iter().map(|s| s.failing).collect();
+    let pairs = plan.pairs();
+    let mut sums = ExactSums {
+        events: plan.events.len(),
+        count: examined.len() as u64,
+        disconnected: vec![Wide::default(); pairs.len()],
+        not_examined: Wide::default(),
+        total: Wide::default(),
+    };
+    for failing in 0..1u128 << plan.events.len() {
+        let probability = probability(plan, failing);
+        let components = components(plan, failing);
+        for (sum, &(v, w)) in sums.disconnected.iter_mut().zip(&pairs) {
+            if components.disconnects(v, w) {
+                *sum = *sum + probability;
+            }
+        }
+        if !examined.contains(&failing) {
+            sums.not_examined = sums.not_examined + probability;
+        }
+        sums.total = sums.total + probability;
+    }
+    sums
+}
+
+impl ExactSums {
+    /// A mass times 10^(9n).
+    fn scaled(&self, mass: u64) -> Wide {
+        Wide::from(mass).times_power(CERTAIN, self.events)
+    }
+
+    /// lower × 10^(9n) ≤ D × 10^18.
+    pub fn lower_holds(&self, pair: usize, bounds: Bounds) -> bool {
+        self.scaled(bounds.lower) <= self.disconnected[pair].times(WHOLE)
+    }
+
+    /// D × 10^18 ≤ upper × 10^(9n).
+    pub fn upper_holds(&self, pair: usize, bounds: Bounds) -> bool {
+        self.disconnected[pair].times(WHOLE) <= self.scaled(bounds.upper)
+    }
+
+    /// (upper − lower) × 10^(9n) ≤ R × 10^18 + n × count × 10^(9n).
+    pub fn gap_holds(&self, bounds: Bounds) -> bool {
+        let lost = self.scaled(self.count).times(self.events as u64);
+        let gap = bounds.upper.checked_sub(bounds.lower);
+        gap.is_some_and(|gap| self.scaled(gap) <= self.not_examined.times(WHOLE) + lost)
+    }
+
+    /// The three inequalities of demand 3 for one pair.
+    pub fn enclose(&self, pair: usize, bounds: Bounds) -> bool {
+        self.lower_holds(pair, bounds) && self.upper_holds(pair, bounds) && self.gap_holds(bounds)
+    }
+}

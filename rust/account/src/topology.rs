@@ -1,0 +1,79 @@
+//! Effective topologies, and connectivity by union-find.
+
+use crate::plan::Plan;
+
+/// The working nodes and the working links. Element i is bit i.
+#[derive(Clone, Copy, Debug, PartialEq, Eq, Hash)]
+pub struct Topology {
+    pub nodes: u64,
+    pub links: u128,
+}
+
+/// The effective topology of a set of failing events: a node works if no failing event names it, a link if none
+/// names it and both its end nodes work.
+pub fn effective(plan: &Plan, failing: u128) -> Topology {
+    let (mut named_nodes, mut named_links) = (0u64, 0u128);
+    for (i, event) in plan.events.iter().enumerate() {
+        if failing >> i & 1 == 1 {
+            named_nodes |= event.nodes;
+            named_links |= event.links;
+        }
+    }
+    let node_works = |node: usize| named_nodes >> node & 1 == 0;
+    let mut topology = Topology { nodes: 0, links: 0 };
+    for node in 0..plan.nodes {
+        topology.nodes |= u64::from(node_works(node)) << node;
+    }
+    for (link, &(first, second)) in plan.links.iter().enumerate() {
+        let named = named_links >> link & 1 == 1;
+        let works = !named && node_works(first) && node_works(second);
+        topology.links |= u128::from(works) << link;
+    }
+    topology
+}
+
+/// The component of each node, named by one of its nodes; none for a node that is down.
+pub struct Components {
+    names: Vec<Option<usize>>,
+}
+
+impl Components {
+    /// The components of a topology.
+    pub fn of(plan: &Plan, topology: &Topology) -> Components {
+        let mut parents: Vec<usize> = (0..plan.nodes).collect();
+        for (link, &(first, second)) in plan.links.iter().enumerate() {
+            if topology.links >> link & 1 == 1 {
+                let (a, b) = (find(&mut parents, first), find(&mut parents, second));
+                parents[a] = b;
+            }
+        }
+        let works = |node: usize| topology.nodes >> node & 1 == 1;
+        let names = (0..plan.nodes).map(|node| works(node).then(|| find(&mut parents, node)));
+        Components {
+            names: names.collect(),
+        }
+    }
+
+    /// Whether either node is down or no path of working links joins them.
+    pub fn disconnects(&self, v: usize, w: usize) -> bool {
+        match (self.names[v], self.names[w]) {
+            (Some(a), Some(b)) => a != b,
+            _ => true,
+        }
+    }
+}
+
+/// The root of a node's tree; the path to it is halved on the way.
+fn find(parents: &mut [usize], node: usize) -> usize {
+    let mut at = node;
+    while parents[at] != at {
+        parents[at] = parents[parents[at]];
+        at = parents[at];
+    }
+    at
+}
+
+/// The components under a set of failing events.
+pub fn components(plan: &Plan, failing: u128) -> Components {
+    Components::of(plan, &effective(plan, failing))
+}

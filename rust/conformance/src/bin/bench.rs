@@ -1,0 +1,122 @@
+//! The benchmark: the proved run beside the tuned Rust program, on the three plans of `examples/`.
+//!
+//! Each plan is run once by both to compare their answers, then five times by each in turn, or as often as an
+//! argument says. The best time of each counts: processor time of this thread, so that other work on the machine
+//! counts little.
+
+use std::path::Path;
+
+use account::{Header, Lent};
+use conformance::probe;
+use plans::examples::BENCHMARK;
+use plans::Lists;
+
+const PAIRS: usize = 2016;
+
+/// The lists of bounds; they are cleared before each run.
+type Bounds = [u64; PAIRS];
+
+/// Seconds and nanoseconds, as the C library gives them.
+#[repr(C)]
+struct Timespec {
+    seconds: i64,
+    nanoseconds: i64,
+}
+
+extern "C" {
+    fn clock_gettime(clock: i32, time: *mut Timespec) -> i32;
+}
+
+/// The processor time of this thread, on Linux, in milliseconds.
+fn processor_time() -> f64 {
+    const CLOCK_THREAD_CPUTIME_ID: i32 = 3;
+    let mut time = Timespec {
+        seconds: 0,
+        nanoseconds: 0,
+    };
+    // Safety: the pointer is to a timespec of the C library's layout.
+    let answer = unsafe { clock_gettime(CLOCK_THREAD_CPUTIME_ID, &mut time) };
+    assert_eq!(
+        answer, 0,
+        "there is no clock of the thread's processor time"
+    );
+    time.seconds as f64 * 1e3 + time.nanoseconds as f64 / 1e6
+}
+
+/// The lists of an example file, by the proved reader.
+fn lists_of(name: &str) -> Lists {
+    let path = Path::new(env!("CARGO_MANIFEST_DIR")).join("../../examples");
+    let bytes = std::fs::read(path.join(name)).expect("an example file");
+    let (mut links, mut events) = (vec![0; 256], vec![0; 512]);
+    let (refusal, n) = probe::read(&bytes, &mut links, &mut events);
+    assert_eq!(refusal, 0, "{name} is refused");
+    links.truncate(2 * n[1] as usize);
+    events.truncate(4 * n[2] as usize);
+    let header = Header {
+        nodes: n[0],
+        links: n[1],
+        events: n[2],
+        threshold: n[3],
+        cap: n[4],
+    };
+    Lists {
+        header,
+        links,
+        events,
+    }
+}
+
+fn run_proved(lent: &Lent, lower: &mut Bounds, upper: &mut Bounds) -> [u64; 3] {
+    let (refusal, result) = probe::run(lent, lower, upper);
+    assert_eq!(refusal, 0);
+    result
+}
+
+fn run_tuned(lent: &Lent, lower: &mut Bounds, upper: &mut Bounds) -> [u64; 3] {
+    let lists = tuned::Lists {
+        nodes: lent.header.nodes as usize,
+        links: lent.links,
+        events: lent.events,
+        threshold: lent.header.threshold,
+        cap: lent.header.cap,
+    };
+    let outcome = tuned::run(&lists, lower, upper);
+    [outcome.count, outcome.complete, outcome.mass]
+}
+
+/// One of the two programs.
+type Program = fn(&Lent, &mut Bounds, &mut Bounds) -> [u64; 3];
+
+/// The answer of one run and its time in milliseconds.
+fn timed(program: Program, lent: &Lent) -> ([u64; 3], Bounds, Bounds, f64) {
+    let (mut lower, mut upper) = ([0; PAIRS], [0; PAIRS]);
+    let start = processor_time();
+    let result = program(lent, &mut lower, &mut upper);
+    let time = processor_time() - start;
+    (result, lower, upper, time)
+}
+
+/// How often each program is run.
+fn rounds() -> usize {
+    let argument = std::env::args().nth(1);
+    argument.map_or(5, |text| text.parse().expect("the number of rounds"))
+}
+
+fn main() {
+    let rounds = rounds();
+    println!("best of {rounds} alternating runs, milliseconds of processor time");
+    for name in BENCHMARK {
+        let lists = lists_of(name);
+        let lent = lists.lent();
+        let (proved, tuned) = (timed(run_proved, &lent), timed(run_tuned, &lent));
+        let same = (proved.0, proved.1, proved.2) == (tuned.0, tuned.1, tuned.2);
+        assert!(same, "{name}: the two programs differ");
+        let (mut proved_best, mut tuned_best) = (f64::MAX, f64::MAX);
+        for _ in 0..rounds {
+            proved_best = proved_best.min(timed(run_proved, &lent).3);
+            tuned_best = tuned_best.min(timed(run_tuned, &lent).3);
+        }
+        let ratio = proved_best / tuned_best;
+        println!("{name}: proved {proved_best:.2}, Rust {tuned_best:.2}, ratio {ratio:.2}");
+    }
+}

@@ -1,0 +1,125 @@
+//! Each call of `probe` beside the account's, on the same input and on lent memory with the same pattern. Each
+//! function returns the refusal's number and panics where anything differs.
+
+use account::{calls, number, Header};
+use plans::{Lists, Rng};
+
+use crate::probe;
+
+/// A length for a lent list: most often enough, sometimes too short.
+pub fn lent_length(rng: &mut Rng, needed: usize) -> usize {
+    match rng.below(12) {
+        0 => needed.saturating_sub(1),
+        1 => rng.below(needed + 1),
+        2..=6 => needed,
+        _ => needed + rng.below(9),
+    }
+}
+
+/// Lent words with a random pattern.
+pub fn words(rng: &mut Rng, length: usize) -> Vec<u64> {
+    (0..length).map(|_| rng.bits()).collect()
+}
+
+fn numbers_of(header: Header) -> [u64; 5] {
+    [
+        header.nodes,
+        header.links,
+        header.events,
+        header.threshold,
+        header.cap,
+    ]
+}
+
+/// The check of a file.
+pub fn check(bytes: &[u8]) -> u32 {
+    let refusal = probe::check(bytes);
+    assert_eq!(refusal, calls::check(bytes), "check of {bytes:?}");
+    refusal
+}
+
+/// The reader.
+pub fn read(rng: &mut Rng, bytes: &[u8]) -> u32 {
+    let count = |at: usize| usize::from(bytes.get(at).copied().unwrap_or(0));
+    let length = lent_length(rng, 2 * count(6));
+    let mut links = rng.bytes(length);
+    let length = lent_length(rng, 4 * count(7));
+    let mut events = words(rng, length);
+    let (mut own_links, mut own_events) = (links.clone(), events.clone());
+    let expected = calls::read(bytes, &mut own_links, &mut own_events);
+    let (refusal, numbers) = probe::read(bytes, &mut links, &mut events);
+    assert_eq!(refusal, number(&expected), "read of {bytes:?}");
+    assert_eq!(
+        numbers,
+        expected.map_or([0; 5], numbers_of),
+        "read of {bytes:?}"
+    );
+    assert_eq!(
+        (links, events),
+        (own_links, own_events),
+        "read of {bytes:?}"
+    );
+    refusal
+}
+
+/// The writer.
+pub fn write(rng: &mut Rng, lists: &Lists) -> u32 {
+    let lent = lists.lent();
+    let needed = lent
+        .plan()
+        .map_or(40, |plan| account::file::layout(&plan).len());
+    let length = lent_length(rng, needed);
+    let mut out = rng.bytes(length);
+    let mut own_out = out.clone();
+    let expected = calls::write(&lent, &mut own_out);
+    let (refusal, size) = probe::write(&lent, &mut out);
+    assert_eq!(refusal, number(&expected), "write of {lists:?}");
+    assert_eq!(size, expected.map_or(0, |n| n as u64), "write of {lists:?}");
+    assert_eq!(out, own_out, "write of {lists:?}");
+    refusal
+}
+
+/// The run.
+pub fn run(rng: &mut Rng, lists: &Lists) -> u32 {
+    let lent = lists.lent();
+    let needed = lent.plan().map_or(10, |plan| plan.pairs().len());
+    let lengths = [lent_length(rng, needed), lent_length(rng, needed)];
+    let (mut lower, mut upper) = (words(rng, lengths[0]), words(rng, lengths[1]));
+    let (mut own_lower, mut own_upper) = (lower.clone(), upper.clone());
+    let expected = calls::run(&lent, &mut own_lower, &mut own_upper);
+    let (refusal, result) = probe::run(&lent, &mut lower, &mut upper);
+    assert_eq!(refusal, number(&expected), "run of {lists:?}");
+    let own_result = expected.map_or([0; 3], |run| [run.count, run.complete, run.mass]);
+    assert_eq!(result, own_result, "run of {lists:?}");
+    assert_eq!((lower, upper), (own_lower, own_upper), "run of {lists:?}");
+    refusal
+}
+
+/// Two numbers for a pair: most often a pair of the plan, sometimes none.
+pub fn random_pair(rng: &mut Rng, nodes: u64) -> (u64, u64) {
+    let past = [
+        0,
+        nodes.wrapping_sub(1),
+        nodes,
+        nodes.wrapping_add(1),
+        63,
+        64,
+        u64::MAX,
+    ];
+    if rng.one_in(4) || !(2..=64).contains(&nodes) {
+        return (rng.pick(&past), rng.pick(&past));
+    }
+    let w = rng.between(1, nodes - 1);
+    (rng.between(0, w - 1), w)
+}
+
+/// The bounds of one pair.
+pub fn pair(rng: &mut Rng, lists: &Lists) -> u32 {
+    let (v, w) = random_pair(rng, lists.header.nodes);
+    let expected = calls::pair(&lists.lent(), v, w);
+    let (refusal, result) = probe::pair(&lists.lent(), v, w);
+    assert_eq!(refusal, number(&expected), "pair {v} {w} of {lists:?}");
+    let own_result = expected.map_or([0; 2], |bounds| [bounds.lower, bounds.upper]);
+    assert_eq!(result, own_result, "pair {v} {w} of {lists:?}");
+    refusal
+}

@@ -1,0 +1,20 @@
+//! How often each answer was met.
+
+/// A counter for 0, accepted, and for each refusal from 1 to 16.
+#[derive(Default)]
+pub struct Tally([u64; 17]);
+
+impl Tally {
+    /// Counts one answer.
+    pub fn add(&mut self, number: u32) {
+        self.0[number as usize] += 1;
+    }
+
+    /// Asserts that exactly these answers were met.
+    #[track_caller]
+    pub fn expect(&self, numbers: impl IntoIterator<Item = u32>) {
+        let expected: Vec<u32> = numbers.into_iter().collect();
+        let met: Vec<u32> = (0..17).filter(|&n| self.0[n as usize] > 0).collect();
+        assert_eq!(met, expected, "answers met: {:?}", self.0);
+    }
+}

@@ -1,0 +1,10 @@
+//! Plans for the tests and the benchmark: random ones, valid and damaged, and the example files.
+
+pub mod damage;
+pub mod examples;
+pub mod lists;
+pub mod rng;
+pub mod valid;
+
+pub use lists::Lists;
+pub use rng::Rng;
