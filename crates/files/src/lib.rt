@@ -3,6 +3,7 @@
 mod reader;
 mod writer;
 
+pub use reader::header_in;
 pub use reader::read;
 pub use reader::read_core;
 pub use writer::write;

@@ -1,6 +1,6 @@
 // The check of a plan file: document 01, "Plan file" and "Refused". A header is 20 bytes: RSG, version 1, nodes, links, events, the threshold
 // in 8 bytes and the cap in 4, here 1 and 100 unless the vector is about them.
-use crate::compare::same;
+use vectors::same;
 
 fn number(label: &[u8], plan: &[u8], want: u64) {
     same(label, plan::check(plan) as u64, want);

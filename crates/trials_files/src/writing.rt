@@ -1,0 +1,141 @@
+// Writing a plan from lent lists: document 01, "Plan file". The output holds a pattern, byte 170, before the call.
+use crate::reading::accepted;
+use plan::Writing;
+use vectors::BYTE;
+use vectors::WORD;
+use vectors::full_events;
+use vectors::header;
+use vectors::large_events;
+use vectors::large_file;
+use vectors::many_links;
+use vectors::same;
+use vectors::same_bytes;
+use vectors::same_words;
+
+// Holds the answer of a writing to how many bytes it should lay down.
+pub fn written(label: &[u8], answer: Writing, want: u64) {
+    match answer {
+        Writing::Refused(number) => {
+            same(label, number as u64, 0);
+        }
+        Writing::Written(count) => {
+            same(label, count as u64, want);
+        }
+    }
+}
+
+// The triangle of document 01: 20 bytes, 6 for the links and 7 for each event. Three bytes are left over.
+pub fn triangle() {
+    let mut out = [BYTE; 50];
+    let answer = files::write(
+        header(3, 3, 3, 1, 100),
+        b"\x00\x01\x00\x02\x01\x02",
+        &[1, 0, 1, 0, 1, 0, 2, 0, 1, 0, 4, 0],
+        &mut out,
+    );
+    written(b"write the triangle", answer, 47);
+    same_bytes(
+        b"the written triangle",
+        &out,
+        b"RSG\x01\x00\x03\x03\x03\x01\x00\x00\x00\x00\x00\x00\x00\x64\x00\x00\x00\x00\x01\x00\x02\x01\x02\x01\x00\x00\x00\x01\x01\x00\x01\x00\x00\x00\x01\x01\x01\x01\x00\x00\x00\x01\x01\x02\xaa\xaa\xaa",
+    );
+}
+
+// Node 63, link 127 and both words of the links. Two bytes are left over.
+pub fn large() {
+    let mut out = [BYTE; 304];
+    let answer = files::write(
+        header(64, 128, 2, 1_000_000_000_000_000_000, 1_000_000),
+        &many_links(),
+        &large_events(),
+        &mut out,
+    );
+    written(b"write the large plan", answer, 302);
+    same_bytes(b"the written large plan", &out[0..302], &large_file());
+    same_bytes(b"past the written large plan", &out[302..304], b"\xaa\xaa");
+}
+
+// What stands past a count is not used: links that 7 would refuse, an event that 8 and 10 would refuse, and three words that make no event.
+pub fn past_the_counts() {
+    let mut out = [BYTE; 32];
+    let answer = files::write(
+        header(2, 1, 1, 1, 100),
+        b"\x00\x01\xff\xff\x01",
+        &[
+            5,
+            1,
+            1,
+            0,
+            18_446_744_073_709_551_615,
+            18_446_744_073_709_551_615,
+            18_446_744_073_709_551_615,
+            18_446_744_073_709_551_615,
+            9,
+            9,
+            9,
+        ],
+        &mut out,
+    );
+    // the event has q = 5, node 0 and link 0
+    written(b"write one link and one event of more", answer, 31);
+    same_bytes(
+        b"the written one link and one event",
+        &out,
+        b"RSG\x01\x00\x02\x01\x01\x01\x00\x00\x00\x00\x00\x00\x00\x64\x00\x00\x00\x00\x01\x05\x00\x00\x00\x02\x00\x00\x01\x00\xaa",
+    );
+}
+
+// No link and no event, whatever the lists hold, into an output of exactly 20 bytes: t = 0x0102030405060708 and cap = 658,188 = 0x000a0b0c.
+pub fn header_alone() {
+    let mut out = [BYTE; 20];
+    let answer = files::write(
+        header(64, 0, 0, 72_623_859_790_382_856, 658_188),
+        b"\xff\xff",
+        &[18_446_744_073_709_551_615, 1, 1, 1],
+        &mut out,
+    );
+    written(b"write a header alone", answer, 20);
+    same_bytes(
+        b"the written header alone",
+        &out,
+        b"RSG\x01\x00\x40\x00\x00\x08\x07\x06\x05\x04\x03\x02\x01\x0c\x0b\x0a\x00",
+    );
+}
+
+// A file that is read is written again as the same bytes.
+pub fn read_then_written() {
+    let mut links = [BYTE; 256];
+    let mut events = [WORD; 9];
+    let mut out = [BYTE; 302];
+    let h = header(64, 128, 2, 1_000_000_000_000_000_000, 1_000_000);
+    accepted(
+        b"read and write again",
+        files::read(&large_file(), &mut links, &mut events),
+        h,
+    );
+    written(
+        b"write again what was read",
+        files::write(h, &links, &events, &mut out),
+        302,
+    );
+    same_bytes(b"what was read and written again", &out, &large_file());
+}
+
+// The longest plan, 50,068 bytes (document 01): 20, 256 for the links, and 128 events of 5 bytes and 192 members. What is written reads back
+// equal.
+pub fn longest() {
+    let mut out = [BYTE; 50069];
+    let mut links = [BYTE; 256];
+    let mut events = [WORD; 512];
+    let h = header(64, 128, 128, 1, 1);
+    let answer = files::write(h, &many_links(), &full_events(), &mut out);
+    written(b"write the longest plan", answer, 50_068);
+    same_bytes(b"past the longest plan", &out[50_068..50_069], b"\xaa");
+    accepted(
+        b"read the longest plan",
+        files::read(&out[0..50_068], &mut links, &mut events),
+        h,
+    );
+    same_bytes(b"the longest plan: links", &links, &many_links());
+    same_words(b"the longest plan: events", &events, &full_events());
+}

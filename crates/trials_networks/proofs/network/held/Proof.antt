@@ -1,0 +1,16 @@
+-- `trials_networks::network::held` meets its contract. Assumes nothing.
+use mathlib.Core.Path.{sym, _∙_}
+use borrow.Author.Needs.{needs}
+use borrow.Author.Tests.{eqb-true}
+use Rattle.trials_networks.proofs.Held.{links-held}
+use Rattle.trials_networks.proofs.network.held.Statement.{statement}
+use Rattle.trials_networks.proofs.network.held.Tie as tie
+
+lists-refusal-requires : tie.Need-lists-refusal-requires
+lists-refusal-requires c κs = search needs
+
+returns : tie.Need-returns
+returns c = λ e. links-held _ _ _ _ _ (sym (c .lists-refusal .ensures) ∙ eqb-true _ _ e)
+
+pub held-spec : {M : Type 1} → statement M
+held-spec = tie.close (tie.spec lists-refusal-requires returns)
