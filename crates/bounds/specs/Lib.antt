@@ -5,3 +5,4 @@ pub mod Bounds
 pub mod Adding
 pub mod Tallied
 pub mod Calls
+pub mod Marked

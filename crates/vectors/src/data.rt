@@ -1,5 +1,8 @@
 // What the vectors on reading and writing share.
+use crate::compare::same;
+use crate::compare::same_part;
 use plan::Header;
+use plan::Reading;
 use plan::put_bytes;
 
 // What a lent list holds before a call.
@@ -69,4 +72,20 @@ pub fn full_events() -> [u64; 512] {
         words[4 * i] = 1_000_000_000;
     }
     words
+}
+
+// Holds the answer of a reading to the numbers of an accepted plan.
+pub fn accepted(label: &[u8], answer: Reading, want: Header) {
+    match answer {
+        Reading::Refused(number) => {
+            same(label, number as u64, 0);
+        }
+        Reading::Accepted(h) => {
+            same_part(label, b"nodes", h.nodes, want.nodes);
+            same_part(label, b"links", h.links, want.links);
+            same_part(label, b"events", h.events, want.events);
+            same_part(label, b"threshold", h.threshold, want.threshold);
+            same_part(label, b"cap", h.limit, want.limit);
+        }
+    }
 }

@@ -12,6 +12,7 @@ pub use compare::same_part;
 pub use compare::same_words;
 pub use data::BYTE;
 pub use data::WORD;
+pub use data::accepted;
 pub use data::full_events;
 pub use data::header;
 pub use data::large_events;

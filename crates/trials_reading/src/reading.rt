@@ -1,8 +1,8 @@
 // Reading a plan into lent lists: document 01, "Plan file". Lists hold a pattern, byte 170 and word 77, before the call.
-use plan::Header;
 use plan::Reading;
 use vectors::BYTE;
 use vectors::WORD;
+use vectors::accepted;
 use vectors::all_bytes;
 use vectors::all_words;
 use vectors::header;
@@ -13,22 +13,6 @@ use vectors::same;
 use vectors::same_bytes;
 use vectors::same_part;
 use vectors::same_words;
-
-// Holds the answer of a reading to the numbers of an accepted plan.
-pub fn accepted(label: &[u8], answer: Reading, want: Header) {
-    match answer {
-        Reading::Refused(number) => {
-            same(label, number as u64, 0);
-        }
-        Reading::Accepted(h) => {
-            same_part(label, b"nodes", h.nodes, want.nodes);
-            same_part(label, b"links", h.links, want.links);
-            same_part(label, b"events", h.events, want.events);
-            same_part(label, b"threshold", h.threshold, want.threshold);
-            same_part(label, b"cap", h.limit, want.limit);
-        }
-    }
-}
 
 // Holds the answer of a reading to the number of a refusal.
 fn refused(label: &[u8], answer: Reading, want: u64) {

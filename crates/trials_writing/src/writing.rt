@@ -1,8 +1,8 @@
 // Writing a plan from lent lists: document 01, "Plan file". The output holds a pattern, byte 170, before the call.
-use crate::reading::accepted;
 use plan::Writing;
 use vectors::BYTE;
 use vectors::WORD;
+use vectors::accepted;
 use vectors::full_events;
 use vectors::header;
 use vectors::large_events;
