@@ -18,6 +18,7 @@ pub use lists::copy_words;
 pub use lists::lists_refusal;
 pub use lists::load;
 pub use lists::put_bytes;
+pub use lists::smaller;
 pub use tests::room_test;
 
 // The numbers of a plan: the counts of nodes, links and events, the threshold, and the greatest number of ends of the walk (cap).

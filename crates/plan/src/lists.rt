@@ -52,7 +52,7 @@ pub fn load(links: &[u8], events: &[u64], bytes: &mut [u8; 256], words: &mut [u6
 }
 
 // The smaller of two numbers.
-fn smaller(a: usize, b: usize) -> usize
+pub fn smaller(a: usize, b: usize) -> usize
     ensures { λ r. ⌜ r ≡ min a b ⌝ }
 {
     if a < b {

@@ -1,0 +1,2 @@
+-- Laws that the proofs of the crate `runs` share.
+pub mod RunLaws
