@@ -50,7 +50,7 @@ mul-copy-bytes c = omega (arith, bounds (c .before .before))
 
 copy-bytes-requires : tie.Need-copy-bytes-requires
 copy-bytes-requires c κs =
-    let b = bounds (c .before .before) in (omega (arith, b, bytes-long (c .before .before .before)), b .0)
+    let b = bounds (c .before .before) in (omega (arith, b, bytes-long (c .before .before .before)), omega (arith, b))
 
 same-length : tie.Need-same-length
 same-length c = search needs
