@@ -1,158 +1,223 @@
--- One turn of the loop that adds a mass to the rows of all nodes.
+-- One turn of the loop that adds a mass to the pairs of one component after another.
 -- Assumes nothing.
-use mathlib.Core.Path.{_≡_, refl, sym, ap, subst, _∙_}
-use mathlib.Core.Bool.{Bool, true, false, not, _&&_, and-true, and-false}
+use mathlib.Core.Path.{_≡_, refl, sym, ap, _∙_}
+use mathlib.Core.Bool.{Bool, true, false, not, _&&_}
 use mathlib.Core.List.{List}
-use Prim.Native.Nat.{ℕ, zero, suc, _+_, _-_, _*_, _^_, _<_, _≤_}
-use native.Mathlib.Nat.{mul-le-mul-left}
-use native.Mathlib.Decide.{ℕ-discrete, decLe, decLt}
-use native.Mathlib.Numerals.{add-one}
+use mathlib.Core.Logic.{_⊎_, inl, inr, ⊎-elim}
+use Prim.Native.Nat.{ℕ, _+_, _*_, _<_, _≤_}
 use native.Mathlib.Omega.{arith}
-use borrow.Author.Tests.{ltb-true, le-leb, lt-leb, lt-ltb, le-ltb}
-use lib.Dec.{leb, ltb}
+use borrow.Author.Tests.{ltb-true, lt-ltb}
+use lib.Dec.{ltb}
 use lib.ListN.{length, getD}
 use Rattle.mass.specs.Split.{whole}
 use Rattle.sets.specs.Sets.{bit}
-use Rattle.sets.specs.Bools.{and-left, and-right}
+use Rattle.sets.specs.Laws.{bit-none}
+use Rattle.sets.specs.Bools.{and-left, and-right, and-both, which, clash, not-of, of-not, not-so}
+use Rattle.topology.specs.Chains.{chain-append, chain-back, chain-keeps}
+use Rattle.topology.specs.Paths.{here}
+use Rattle.topology.specs.RowPaths.{RowPath, Reached, Joining}
 use Rattle.walk.specs.Scenario.{digit}
-use Rattle.bounds.specs.Pairs.{start, place, pairCount}
-use Rattle.bounds.specs.PairLaws.{start-zero, start-suc, start-mono, place-is, place-before, place-lt, pairs-most}
-use Rattle.bounds.specs.Adding.{AddingRow, AddedRow, AddingCut, AddedCut}
-use Rattle.bounds.proofs.Row.{gain, at-most}
+use Rattle.bounds.specs.Pairs.{place, pairCount}
+use Rattle.bounds.specs.Adding.{AddingRows, AddedRows, Joined, AddingCut, AddedCut}
 
--- in the loop: the rows of the first v nodes are done, and the others untouched
-pub record CutTurn (list₀ : List ℕ) (n mass : ℕ) (parts list : List ℕ) (v at : ℕ) : Type 0 where
-  pub asked : AddingCut n mass list₀
+-- what the pair (v, w) is to gain
+pub record Settled (nodes mass : ℕ) (rows : List ℕ) (v w old new : ℕ) : Type 0 where
+  pub joined : Joined nodes rows v w → new ≡ old
+  pub apart : (Joined nodes rows v w → ⊥) → new ≡ old + mass
+
+-- in the loop: the pairs of the working nodes that are not left are done, the others untouched, and no path leads out of what is left
+pub record CutTurn (list₀ : List ℕ) (n nodes mass : ℕ) (rows list : List ℕ) (left : ℕ) : Type 0 where
+  pub asked : AddingCut n nodes mass rows list₀
   pub sized : length list ≡ 2016
-  pub low : v ≤ n
-  pub begins : at ≡ start n v
-  pub below : (i : ℕ) → getD list i 0 ≤ getD list₀ i 0 + mass
-  pub untouched : (i : ℕ) → at ≤ i → getD list i 0 ≡ getD list₀ i 0
-  pub done : (u w : ℕ) → u < v → u < w → w < n
-      → getD list (place n u w) 0 ≡ getD list₀ (place n u w) 0 + mass * digit (not (bit (getD parts u 0) w))
+  pub sub : (v : ℕ) → bit left v ≡ true → bit nodes v ≡ true
+  pub closed : (v w : ℕ) → bit left v ≡ true → RowPath rows v w → bit left w ≡ true
+  pub done : (v w : ℕ) → v < w → w < n → bit nodes v ≡ true → bit left v ≡ false
+      → Settled nodes mass rows v w (getD list₀ (place n v w) 0) (getD list (place n v w) 0)
+  pub untouched : (v w : ℕ) → v < w → w < n → (bit left v ≡ true) ⊎ (bit nodes v ≡ false) → getD list (place n v w) 0 ≡ getD list₀ (place n v w) 0
+  pub past : (i : ℕ) → pairCount n ≤ i → getD list i 0 ≡ getD list₀ i 0
 
-pub cut-begins : (list : List ℕ) (n mass : ℕ) (parts : List ℕ) → AddingCut n mass list → CutTurn list n mass parts list 0 0
-cut-begins list n mass parts a =
+pub cut-begins : (list : List ℕ) (n nodes mass : ℕ) (rows : List ℕ) → AddingCut n nodes mass rows list → CutTurn list n nodes mass rows list nodes
+cut-begins list n nodes mass rows a =
     record {
       asked = a;
       sized = a .sized;
-      low = omega arith;
-      begins = sym (start-zero n);
-      below = λ i. omega arith;
-      untouched = λ i h. refl;
-      done = λ u w l h k. absurd (omega arith);
+      sub = λ v e. e;
+      closed = λ v w e p. chain-keeps (λ x. bit nodes x ≡ true) (λ x y s k. a .joining .within x y s) p e;
+      done = λ v w h k e f. absurd (clash e f);
+      untouched = λ v w h k e. refl;
+      past = λ i h. refl;
     }
 
-module _ (list₀ : List ℕ) (n mass : ℕ) (parts list : List ℕ) (v at : ℕ) (g : CutTurn list₀ n mass parts list v at) where
-  pub cut-done : n ≤ v → AddedCut n mass parts list₀ list
-  cut-done h = record { sized = g .sized; most = g .below; each = λ u w l k. g .done u w (omega (arith, g .low)) l k }
+-- nothing, or one mass
+times : (mass : ℕ) (b : Bool) → b ≡ true → mass * digit b ≡ mass
+times mass b e = ap (λ (x : Bool). mass * digit x) e ∙ omega arith
 
-  module _ (more : v < n) where
-    pub start-low : at ≤ 2016
-    start-low =
-        let e : v + (n - v) ≡ n = omega arith in
-        omega (arith, g .begins, rw e at (start-mono n v (n - v)), pairs-most n (g .asked .few))
+nothing : (mass : ℕ) (b : Bool) → b ≡ false → mass * digit b ≡ 0
+nothing mass b e = ap (λ (x : Bool). mass * digit x) e ∙ omega arith
 
-    pub next-begins : at + (n - (v + 1)) ≡ start n (v + 1)
-    next-begins = rw (add-one v) (omega (arith, g .begins, start-suc n v))
+module _ (list₀ : List ℕ) (n nodes mass : ℕ) (rows list : List ℕ) (left : ℕ) (g : CutTurn list₀ n nodes mass rows list left)
+    (all : ℕ) (alls : (w : ℕ) → bit all w ≡ ltb w n) where
+  -- the component of a node that is left
+  module _ (t part : ℕ) (found : bit left t ≡ true) (reached : Reached nodes rows t part) where
+    back-way : (v w : ℕ) → RowPath rows v w → RowPath rows w v
+    back-way v w p = chain-back (g .asked .joining .both-ways) p
 
-    module _ (cut : ℕ) (is : (w : ℕ) → bit cut w ≡ (ltb v w && (ltb w n && not (bit (getD parts v 0) w)))) where
-      cut-after : (w : ℕ) → bit cut w ≡ true → v < w
-      cut-after w e = ltb-true v w (and-left (ltb v w) (ltb w n && not (bit (getD parts v 0) w)) (sym (is w) ∙ e))
+    to : (v : ℕ) → bit part v ≡ true → RowPath rows t v
+    to v e = reached v .0 e .1
 
-      cut-within : (w : ℕ) → bit cut w ≡ true → w < n
-      cut-within w e =
-          ltb-true w n
-          (and-left (ltb w n) (not (bit (getD parts v 0) w)) (and-right (ltb v w) (ltb w n && not (bit (getD parts v 0) w)) (sym (is w) ∙ e)))
+    -- it is part of what is left
+    pub part-left : (v : ℕ) → bit part v ≡ true → bit left v ≡ true
+    part-left v e = g .closed t v found (to v e)
 
-      pub row-asked : AddingRow at (v + 1) cut mass list
-      row-asked =
+    in-part : (v : ℕ) → RowPath rows t v → bit part v ≡ true
+    in-part v p = reached v .1 (g .sub t found, p)
+
+    pub has-first : bit part t ≡ true
+    has-first = in-part t here
+
+    -- a node of it is joined exactly with its nodes
+    same : (v w : ℕ) → bit part v ≡ true → Joined nodes rows v w → bit part w ≡ true
+    same v w e j = in-part w (chain-append (to v e) (j .1))
+
+    within : (v w : ℕ) → bit part v ≡ true → bit part w ≡ true → Joined nodes rows v w
+    within v w e f = (g .sub v (part-left v e), chain-append (back-way t v (to v e)) (to w f))
+
+    module _ (others : ℕ) (rest : (w : ℕ) → bit others w ≡ (bit all w && not (bit part w))) where
+      outside : (w : ℕ) → w < n → bit part w ≡ false → bit others w ≡ true
+      outside w h e = rest w ∙ and-both (bit all w) _ (alls w ∙ lt-ltb w n h) (not-of (bit part w) e)
+
+      -- it has all nodes: every pair is joined
+      pub all-joined : others ≡ 0 → AddedCut n nodes mass rows list₀ list
+      all-joined none =
           record {
             sized = g .sized;
-            low = start-low;
-            above = λ w e. omega (arith, cut-after w e);
-            within =
-                λ w e.
-                rw (add-one v)
-                (omega (
-                  arith,
-                  g .begins,
-                  place-is n v w,
-                  place-lt n v w (g .asked .few) (cut-after w e) (cut-within w e),
-                  pairs-most n (g .asked .few),
-                ));
-            fits = λ i. omega (arith, g .below i, g .asked .fits i, g .asked .light);
+            joined = λ v w h k j. g .untouched v w h k (inl (part-left v (has v (omega arith))));
+            apart = λ v w h k a. absurd (a (within v w (has v (omega arith)) (has w k)));
+            past = g .past;
+          }
+        where
+          has : (w : ℕ) → w < n → bit part w ≡ true
+          has w h = ⊎-elim (λ e. e) (λ e. absurd (clash (outside w h e) (ap (λ (x : ℕ). bit x w) none ∙ bit-none w))) (which (bit part w))
+
+      pub part-asked : AddingRows n part others mass list
+      part-asked =
+          record {
+            few = g .asked .few;
+            sized = g .sized;
+            nodes = λ v e. g .asked .nodes-within v (g .sub v (part-left v e));
+            within = λ w e. ltb-true w n (sym (alls w) ∙ and-left (bit all w) _ (sym (rest w) ∙ e));
+            fits = λ v w h k e. omega (arith, g .asked .fits (place n v w), g .untouched v w h k (inl (part-left v e)));
           }
 
-      module _ (list′ : List ℕ) (r : AddedRow at (v + 1) cut mass list list′) where
-        -- an entry before the row gains nothing
-        before : (i : ℕ) → i < at → getD list′ i 0 ≡ getD list i 0
-        before i h =
-            let none : gain at (v + 1) cut i ≡ 0 = ap (λ (b : Bool). digit (b && bit cut (v + 1 + (i - at)))) (lt-leb at i h) in
-            omega (arith, r .each i, ap (λ (x : ℕ). mass * x) none)
+      module _ (list′ : List ℕ) (r : AddedRows n part others mass list list′) (left′ : ℕ) (less : (v : ℕ) → bit left′ v ≡ (bit left v && not (bit part v))) where
+        still : (v : ℕ) → bit left′ v ≡ true → (bit left v ≡ true) × (bit part v ≡ false)
+        still v e =
+            let both = sym (less v) ∙ e in
+            (and-left (bit left v) _ both, of-not _ (and-right (bit left v) _ both))
 
-        -- nor does one after it
-        after : (i : ℕ) → at + (n - (v + 1)) ≤ i → getD list′ i 0 ≡ getD list i 0
-        after i h =
-            let past : n ≤ v + 1 + (i - at) = omega arith in
-            let none : gain at (v + 1) cut i ≡ 0 =
-            ap digit
-            (ap (λ (b : Bool). leb at i && b)
-            (is (v + 1 + (i - at))
-            ∙ ap (λ (b : Bool). ltb v (v + 1 + (i - at)) && (b && not (bit (getD parts v 0) (v + 1 + (i - at))))) (le-ltb (v + 1 + (i - at)) n past)
-            ∙ and-false (ltb v (v + 1 + (i - at))))
-            ∙ and-false (leb at i)) in
-            omega (arith, r .each i, ap (λ (x : ℕ). mass * x) none)
+        -- the pairs of a node that is not in it gain nothing
+        kept : (v w : ℕ) → v < w → w < n → bit part v ≡ false → getD list′ (place n v w) 0 ≡ getD list (place n v w) 0
+        kept v w h k e = omega (arith, r .each v w h k, nothing mass (bit part v && bit others w) (ap (λ (b : Bool). b && bit others w) e))
 
-        -- an entry of the row gains the mass where the pair is cut
-        own : (w : ℕ) → v < w → w < n
-            → getD list′ (place n v w) 0 ≡ getD list₀ (place n v w) 0 + mass * digit (not (bit (getD parts v 0) w))
-        own w h k =
-            let i : ℕ = place n v w in
-            let far : at ≤ place n v w = omega (arith, g .begins, place-is n v w) in
-            let back : v + 1 + (place n v w - at) ≡ w = omega (arith, g .begins, place-is n v w) in
-            let gained : gain at (v + 1) cut (place n v w) ≡ digit (not (bit (getD parts v 0) w)) =
-            ap digit
-            (ap (λ (b : Bool). b && bit cut (v + 1 + (place n v w - at))) (le-leb at (place n v w) far)
-            ∙ ap (bit cut) back
-            ∙ is w
-            ∙ ap (λ (b : Bool). b && (ltb w n && not (bit (getD parts v 0) w))) (lt-ltb v w h)
-            ∙ ap (λ (b : Bool). b && not (bit (getD parts v 0) w)) (lt-ltb w n k)) in
-            omega (arith, r .each (place n v w), ap (λ (x : ℕ). mass * x) gained, g .untouched (place n v w) far)
+        -- those of its nodes gain the mass where the other node is outside
+        own : (v w : ℕ) → v < w → w < n → bit part v ≡ true → Settled nodes mass rows v w (getD list₀ (place n v w) 0) (getD list′ (place n v w) 0)
+        own v w h k e =
+            record {
+              joined = λ j. omega (arith, r .each v w h k, old, nothing mass (bit part v && bit others w) (ap (λ (b : Bool). b && bit others w) e ∙ inner (same v w e j)));
+              apart =
+                  λ a.
+                  omega (
+                    arith,
+                    r .each v w h k,
+                    old,
+                    times mass (bit part v && bit others w) (and-both (bit part v) _ e (outside w k (not-so (bit part w) (λ f. a (within v w e f))))),
+                  );
+            }
+          where
+            old : getD list (place n v w) 0 ≡ getD list₀ (place n v w) 0
+            old = g .untouched v w h k (inl (part-left v e))
 
-        earlier : (u w : ℕ) → u < v → u < w → w < n → place n u w < at
-        earlier u w l h k =
-            let e : suc u + (v - suc u) ≡ v = omega arith in
-            omega (arith, g .begins, place-before n u w h k, rw e at (start-mono n (suc u) (v - suc u)))
+            inner : bit part w ≡ true → bit others w ≡ false
+            inner f = not-so (bit others w) (λ o. clash f (of-not _ (and-right (bit all w) _ (sym (rest w) ∙ o))))
 
-        done-turn : (u w : ℕ) → u < v + 1 → u < w → w < n → Dec (u < v)
-            → getD list′ (place n u w) 0 ≡ getD list₀ (place n u w) 0 + mass * digit (not (bit (getD parts u 0) w))
-        done-turn u w l h k (yes m) = before (place n u w) (earlier u w m h k) ∙ g .done u w m h k
-        done-turn u w l h k (no m) =
-            let same : v ≡ u = omega arith in
-            subst
-            (λ (x : ℕ). getD list′ (place n x w) 0 ≡ getD list₀ (place n x w) 0 + mass * digit (not (bit (getD parts x 0) w)))
-            same
-            (own w (omega arith) k)
+        earlier : (v w : ℕ) → v < w → w < n → bit nodes v ≡ true → bit left′ v ≡ false → (bit part v ≡ true) ⊎ (bit part v ≡ false)
+            → Settled nodes mass rows v w (getD list₀ (place n v w) 0) (getD list′ (place n v w) 0)
+        earlier v w h k e f (inl p) = own v w h k p
+        earlier v w h k e f (inr p) =
+            let gone : bit left v ≡ false = not-so (bit left v) (λ l. clash (less v ∙ and-both (bit left v) _ l (not-of (bit part v) p)) f) in
+            let s = g .done v w h k e gone in
+            let stays = kept v w h k p in
+            record { joined = λ j. stays ∙ s .joined j; apart = λ a. stays ∙ s .apart a }
 
-        below-turn : (i : ℕ) → Dec (i < at) → getD list′ i 0 ≤ getD list₀ i 0 + mass
-        below-turn i (yes h) = omega (arith, before i h, g .below i)
-        below-turn i (no h) =
-            omega (
-              arith,
-              r .each i,
-              g .untouched i (omega arith),
-              mul-le-mul-left mass (at-most (leb at i && bit cut (v + 1 + (i - at)))),
-            )
+        not-in-part : (v : ℕ) → (bit left′ v ≡ true) ⊎ (bit nodes v ≡ false) → bit part v ≡ false
+        not-in-part v (inl e) = still v e .1
+        not-in-part v (inr e) = not-so (bit part v) (λ p. clash (g .sub v (part-left v p)) e)
 
-        pub cut-turned : CutTurn list₀ n mass parts list′ (v + 1) (at + (n - (v + 1)))
+        was-left : (v : ℕ) → (bit left′ v ≡ true) ⊎ (bit nodes v ≡ false) → (bit left v ≡ true) ⊎ (bit nodes v ≡ false)
+        was-left v (inl e) = inl (still v e .0)
+        was-left v (inr e) = inr e
+
+        pub cut-turned : CutTurn list₀ n nodes mass rows list′ left′
         cut-turned =
             record {
               asked = g .asked;
               sized = r .sized;
-              low = omega arith;
-              begins = next-begins;
-              below = λ i. below-turn i (decLt i at);
-              untouched = λ i h. after i h ∙ g .untouched i (omega arith);
-              done = λ u w l h k. done-turn u w l h k (decLt u v);
+              sub = λ v e. g .sub v (still v e .0);
+              closed =
+                  λ v w e p.
+                  less w
+                  ∙ and-both (bit left w) _ (g .closed v w (still v e .0) p)
+                  (not-of (bit part w) (not-so (bit part w) (λ f. clash (in-part v (chain-append (to w f) (back-way v w p))) (still v e .1))));
+              done = λ v w h k e f. earlier v w h k e f (which (bit part v));
+              untouched = λ v w h k e. kept v w h k (not-in-part v e) ∙ g .untouched v w h k (was-left v e);
+              past = λ i h. r .past i h ∙ g .past i h;
             }
+
+  -- no node is left: the nodes that do not work are cut off from all others
+  module _ (down : ℕ) (downs : (v : ℕ) → bit down v ≡ (bit all v && not (bit nodes v))) where
+    not-up : (v : ℕ) → bit down v ≡ true → bit nodes v ≡ false
+    not-up v e = of-not _ (and-right (bit all v) _ (sym (downs v) ∙ e))
+
+    pub down-asked : AddingRows n down all mass list
+    down-asked =
+        record {
+          few = g .asked .few;
+          sized = g .sized;
+          nodes = λ v e. ltb-true v n (sym (alls v) ∙ and-left (bit all v) _ (sym (downs v) ∙ e));
+          within = λ w e. ltb-true w n (sym (alls w) ∙ e);
+          fits = λ v w h k e. omega (arith, g .asked .fits (place n v w), g .untouched v w h k (inr (not-up v e)));
+        }
+
+    module _ (list′ : List ℕ) (r : AddedRows n down all mass list list′) (none : left ≡ 0) where
+      settled : (v w : ℕ) → v < w → w < n → (bit nodes v ≡ true) ⊎ (bit nodes v ≡ false)
+          → Settled nodes mass rows v w (getD list₀ (place n v w) 0) (getD list′ (place n v w) 0)
+      settled v w h k (inl e) =
+          let s = g .done v w h k e (ap (λ (x : ℕ). bit x v) none ∙ bit-none v) in
+          let up : bit down v ≡ false = not-so (bit down v) (λ d. clash e (not-up v d)) in
+          let stays : getD list′ (place n v w) 0 ≡ getD list (place n v w) 0 =
+          omega (arith, r .each v w h k, nothing mass (bit down v && bit all w) (ap (λ (b : Bool). b && bit all w) up)) in
+          record { joined = λ j. stays ∙ s .joined j; apart = λ a. stays ∙ s .apart a }
+      settled v w h k (inr e) =
+          record {
+            joined = λ j. absurd (clash (j .0) e);
+            apart =
+                λ a.
+                omega (
+                  arith,
+                  r .each v w h k,
+                  g .untouched v w h k (inr e),
+                  times mass (bit down v && bit all w) (and-both (bit down v) _ is-down (alls w ∙ lt-ltb w n k)),
+                );
+          }
+        where
+          is-down : bit down v ≡ true
+          is-down = downs v ∙ and-both (bit all v) _ (alls v ∙ lt-ltb v n (omega arith)) (not-of (bit nodes v) e)
+
+      pub cut-done : AddedCut n nodes mass rows list₀ list′
+      cut-done =
+          record {
+            sized = r .sized;
+            joined = λ v w h k. settled v w h k (which (bit nodes v)) .joined;
+            apart = λ v w h k. settled v w h k (which (bit nodes v)) .apart;
+            past = λ i h. r .past i h ∙ g .past i h;
+          }

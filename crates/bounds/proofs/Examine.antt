@@ -1,62 +1,115 @@
--- One end examined: from the connections of its topology to the pairs that it disconnects.
+-- One end examined: from the neighbours of its topology to the pairs that it disconnects.
 -- Assumes nothing.
 use mathlib.Core.Path.{_≡_, refl, sym, ap, _∙_}
-use mathlib.Core.Bool.{Bool, true, false, not, Bool·not-not}
+use mathlib.Core.Bool.{Bool, true, false, not, _&&_}
 use mathlib.Core.List.{List}
+use mathlib.Core.Logic.{_⊎_, inl, inr}
 use Prim.Native.Nat.{ℕ, _+_, _*_, _^_, _<_, _≤_}
-use native.Mathlib.Nat.{add-zero}
+use native.Mathlib.Nat.{add-zero, mul-le-mul-left}
+use native.Mathlib.Decide.{decLt}
 use native.Mathlib.Omega.{arith}
+use borrow.Author.Tests.{ltb-true}
+use lib.Dec.{ltb}
 use lib.ListN.{length, getD}
 use Rattle.sets.specs.Sets.{bit, joined}
+use Rattle.sets.specs.Bools.{and-left, which, clash}
 use Rattle.plan.specs.Lists.{linksOf, eventsOf}
 use Rattle.plan.specs.Records.{planOfLists}
 use Rattle.plan.specs.declared.Header.{Header}
 use Rattle.topology.specs.Outage.{Outage, outageOf}
-use Rattle.topology.specs.Topology.{networkOf}
-use Rattle.topology.specs.Paths.{disconnected}
+use Rattle.topology.specs.Topology.{Network, networkOf, nodeWorks, adjacent}
+use Rattle.topology.specs.Paths.{WorkingLink, disconnected}
+use Rattle.topology.specs.Chains.{chain-map}
+use Rattle.topology.specs.Works.{adjacent-link, link-adjacent}
+use Rattle.topology.specs.Connection.{connected-is}
+use Rattle.topology.specs.Laws.{path-leads}
+use Rattle.topology.specs.RowPaths.{RowStep}
 use Rattle.topology.specs.Code.{outage, networkIn}
 use Rattle.topology.specs.declared.Failed.{Failed}
+use Rattle.topology.proofs.Shown.{nodes-shown, joining}
 use Rattle.walk.specs.Scenario.{Scenario, digit, number, scenarioOf, number-scenario}
 use Rattle.walk.specs.Ends.{End, relevant, dropped}
 use Rattle.walk.specs.Stack.{endOf}
-use Rattle.bounds.specs.Pairs.{place}
+use Rattle.bounds.specs.Pairs.{place, pairCount}
+use Rattle.bounds.specs.PairLaws.{unplace}
 use Rattle.bounds.specs.Bounds.{intact, cuts}
-use Rattle.bounds.specs.Adding.{AddingCut, AddedCut}
+use Rattle.bounds.specs.Adding.{Joined, AddingCut, AddedCut}
 use Rattle.bounds.specs.Tallied.{Held, Sums, Examined}
+use Rattle.bounds.proofs.Row.{at-most}
 
-pub adding : (h : Header) (links words : List ℕ) (sum mass : ℕ) (lower : List ℕ) → Held h links words → Sums sum mass lower → AddingCut (h .nodes) mass lower
-adding h links words sum mass lower held s =
-    record {
-      few = held .links-held .nodes-fit;
-      sized = s .sized;
-      light = omega (arith, s .fits);
-      fits = λ i. omega (arith, s .below i, s .fits);
-    }
+module _ (h : Header) (links words : List ℕ) (mass : ℕ) (lower : List ℕ) (failed : Failed) (nodes : ℕ) (rows : List ℕ)
+    (up : (v : ℕ) → bit nodes v ≡ (ltb v (h .nodes) && not (bit (failed .nodes) v)))
+    (row : (v w : ℕ) → bit (getD rows v 0) w ≡ adjacent (networkIn (h .nodes) failed links (h .links)) v w) where
+  abbrev net : Network
+  net = networkIn (h .nodes) failed links (h .links)
 
-module _ (h : Header) (links words : List ℕ) (low high mass : ℕ) (lower lower′ : List ℕ) where
-  abbrev s : Scenario
-  s = scenarioOf (h .events) (joined low high)
+  works : (v : ℕ) → bit nodes v ≡ nodeWorks net v
+  works = nodes-shown (h .nodes) (linksOf (h .links) links) (outage failed) nodes up
 
-  module _ (decided : joined low high < 2 ^ h .events) (failed : Failed)
-      (gathered : outage failed ≡ outageOf intact (eventsOf (h .events) words) (joined low high))
-      (parts : List ℕ)
-      (connected : (v w : ℕ) → bit (getD parts v 0) w ≡ not (disconnected (networkIn (h .nodes) failed links (h .links)) v w))
-      (added : AddedCut (h .nodes) mass parts lower lower′) where
-    is-cut : (v w : ℕ) → not (bit (getD parts v 0) w) ≡ cuts (planOfLists h links words) v w s
-    unfolding planOfLists
-    is-cut v w =
-        ap not (connected v w)
-        ∙ Bool·not-not (disconnected (networkIn (h .nodes) failed links (h .links)) v w)
-        ∙ ap (λ (o : Outage). disconnected (networkOf (h .nodes) (linksOf (h .links) links) o) v w)
-        (gathered ∙ ap (outageOf intact (eventsOf (h .events) words)) (sym (number-scenario (h .events) (joined low high) decided)))
+  pub adding : (sum : ℕ) → Held h links words → Sums sum mass lower → AddingCut (h .nodes) nodes mass rows lower
+  adding sum held s =
+      record {
+        few = held .links-held .nodes-fit;
+        sized = s .sized;
+        fits = λ i. omega (arith, s .below i, s .fits);
+        nodes-within = λ v e. ltb-true v (h .nodes) (and-left (ltb v (h .nodes)) _ (sym (up v) ∙ e));
+        joining = joining net nodes rows works row;
+      }
 
-    pub examined : Examined h links words (relevant s mass) mass lower lower′
-    examined =
-        record {
-          sized = added .sized;
-          most = added .most;
-          each = λ v w l k. added .each v w l k ∙ ap (λ (b : Bool). getD lower (place (h .nodes) v w) 0 + mass * digit b) (is-cut v w);
-        }
+  module _ (lower′ : List ℕ) (added : AddedCut (h .nodes) nodes mass rows lower lower′) where
+    step-link : (v w : ℕ) → RowStep rows v w → WorkingLink net v w
+    step-link v w s = adjacent-link net v w (sym (row v w) ∙ s)
+
+    link-step : (v w : ℕ) → WorkingLink net v w → RowStep rows v w
+    link-step v w s = row v w ∙ link-adjacent net v w s
+
+    connected : (v w : ℕ) → Joined nodes rows v w → disconnected net v w ≡ false
+    connected v w j =
+        let here = sym (works v) ∙ j .0 in
+        let path = chain-map step-link (j .1) in
+        connected-is net v w .1 (here, path-leads net path here, path)
+
+    -- each pair gains the mass where the topology disconnects it
+    gains : (v w : ℕ) → v < w → w < h .nodes → (disconnected net v w ≡ true) ⊎ (disconnected net v w ≡ false)
+        → getD lower′ (place (h .nodes) v w) 0 ≡ getD lower (place (h .nodes) v w) 0 + mass * digit (disconnected net v w)
+    gains v w l k (inl e) =
+        omega (arith, added .apart v w l k (λ j. clash e (connected v w j)), ap (λ (b : Bool). mass * digit b) e)
+    gains v w l k (inr e) =
+        let c = connected-is net v w .0 e in
+        omega (arith, added .joined v w l k (works v ∙ c .0, chain-map link-step (c .2)), ap (λ (b : Bool). mass * digit b) e)
+
+    most : (i : ℕ) → Dec (i < pairCount (h .nodes)) → getD lower′ i 0 ≤ getD lower i 0 + mass
+    most i (no m) = omega (arith, added .past i (omega arith))
+    most i (yes m) =
+        let p = unplace (h .nodes) (h .nodes) i (omega arith) m in
+        rw (p .4)
+        (omega (
+          arith,
+          gains (p .0) (p .1) (p .2) (p .3) (which (disconnected net (p .0) (p .1))),
+          mul-le-mul-left mass (at-most (disconnected net (p .0) (p .1))),
+        ))
+
+    module _ (low high : ℕ) (decided : joined low high < 2 ^ h .events)
+        (gathered : outage failed ≡ outageOf intact (eventsOf (h .events) words) (joined low high)) where
+      abbrev s : Scenario
+      s = scenarioOf (h .events) (joined low high)
+
+      is-cut : (v w : ℕ) → disconnected net v w ≡ cuts (planOfLists h links words) v w s
+      unfolding planOfLists
+      is-cut v w =
+          ap (λ (o : Outage). disconnected (networkOf (h .nodes) (linksOf (h .links) links) o) v w)
+          (gathered ∙ ap (outageOf intact (eventsOf (h .events) words)) (sym (number-scenario (h .events) (joined low high) decided)))
+
+      pub examined : Examined h links words (relevant s mass) mass lower lower′
+      examined =
+          record {
+            sized = added .sized;
+            most = λ i. most i (decLt i (pairCount (h .nodes)));
+            each =
+                λ v w l k.
+                gains v w l k (which (disconnected net v w))
+                ∙ ap (λ (b : Bool). getD lower (place (h .nodes) v w) 0 + mass * digit b) (is-cut v w);
+          }
 
 -- a dropped end adds nothing
 pub passed : (h : Header) (links words : List ℕ) (mass : ℕ) (lower : List ℕ) → length lower ≡ 2016 → Examined h links words dropped mass lower lower

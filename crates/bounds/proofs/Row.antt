@@ -71,7 +71,8 @@ module _ (list₀ : List ℕ) (start skip all mass : ℕ) (list : List ℕ) (lef
         let e = g .each (start + w - skip) in
         let one : mass * gain start skip left (start + w - skip) ≡ mass * 1 = ap (λ (x : ℕ). mass * x) here in
         let most : mass * gain start skip all (start + w - skip) ≤ mass * 1 = mul-le-mul-left mass (at-most (leb start (start + w - skip) && bit all (skip + ((start + w - skip) - start)))) in
-        omega (arith, g .asked .fits (start + w - skip))
+        let there : start + (w - skip) ≡ start + w - skip = omega (arith, high) in
+        omega (arith, rw there at (g .asked .fits w (g .sub w found)))
 
     module _ (left′ : ℕ) (others : (j : ℕ) → bit left′ j ≡ (bit left j && not (eqb j w))) where
       list′ : List ℕ

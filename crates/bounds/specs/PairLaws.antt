@@ -164,6 +164,28 @@ start-most n v few h =
     let e : v + (n - v) ≡ n = omega arith in
     omega (arith, rw e at (start-mono n v (n - v)), pairs-most n few)
 
+-- law: the place of node v's first pair, by a product; d is 2n − v
+start-twice : (n v : ℕ) → v ≤ n → 2 * start n v + v * v + v ≡ 2 * (n * v)
+unfolding start
+start-twice n zero h = omega arith
+start-twice n (suc v) h = omega (arith, start-twice n v (omega arith))
+
+pub start-closed : (n v d : ℕ) → v ≤ n → d + v ≡ 2 * n → v * d ≡ 2 * start n v + v
+start-closed n v d h e = omega (arith, ap (λ (x : ℕ). v * x) e, start-twice n v h)
+
+-- law: each place before node k's pairs is that of a pair of a node before k
+pub unplace : (n k i : ℕ) → k ≤ n → i < start n k → (v : ℕ) × (w : ℕ) × (v < w) × (w < n) × (i ≡ place n v w)
+unfolding start
+unplace n zero i h l = absurd (omega arith)
+unplace n (suc k) i h l = go (decLt i (start n k)) (unplace n k i (omega arith))
+  where
+    go : Dec (i < start n k) → (i < start n k → (v : ℕ) × (w : ℕ) × (v < w) × (w < n) × (i ≡ place n v w))
+        → (v : ℕ) × (w : ℕ) × (v < w) × (w < n) × (i ≡ place n v w)
+    go (yes m) rest = rest m
+    go (no m) rest =
+        let w : ℕ = suc k + (i - start n k) in
+        (k, w, omega arith, omega arith, omega (arith, place-is n k w))
+
 -- law: a function of each entry of a table
 map-row : (g : ℕ → ℕ) (f : ℕ → ℕ → ℕ) (v w count : ℕ) → map g (row f v w count) ≡ row (λ a b. g (f a b)) v w count
 unfolding row

@@ -1,6 +1,7 @@
 // Adding a scenario's mass to the entries of the pairs that its topology disconnects. Only those pairs are visited.
+use crate::places::start_of;
 ghost use mathlib.Core.Path.{_≡_};
-ghost use Rattle.bounds.specs.Adding.{AddingRow, AddedRow, AddingCut, AddedCut};
+ghost use Rattle.bounds.specs.Adding.{AddingRow, AddedRow, AddingRows, AddedRows, AddingCut, AddedCut};
 
 // Adds to the entry start + (w - skip) for each element w of a set.
 fn add_row(lower: &mut [u64; 2016], start: usize, skip: usize, set: u64, mass: u64)
@@ -15,17 +16,36 @@ fn add_row(lower: &mut [u64; 2016], start: usize, skip: usize, set: u64, mass: u
     }
 }
 
-// Adds to the entries of all pairs of n nodes that are not connected.
-pub fn add_cut(lower: &mut [u64; 2016], n: usize, parts: [u64; 64], mass: u64)
-    requires { ⌜ AddingCut n mass (now lower) ⌝ }
-    ensures { λ r. ⌜ AddedCut n mass parts (now (lower .entry)) (now (lower .exit)) ⌝ }
+// Adds to the entries of the pairs of each node of a set, of n nodes, with the nodes after it of another set.
+fn add_rows(lower: &mut [u64; 2016], n: usize, set: u64, others: u64, mass: u64)
+    requires { ⌜ AddingRows n set others mass (now lower) ⌝ }
+    ensures { λ r. ⌜ AddedRows n set others mass (now (lower .entry)) (now (lower .exit)) ⌝ }
 {
-    let mut v = 0;
-    let mut at = 0;
-    while v < n {
-        let cut = topology::cut_after(n, parts[v], v);
-        add_row(&mut *lower, at, v + 1, cut, mass);
-        at += n - (v + 1);
-        v += 1;
+    let mut left = set;
+    while left != 0 {
+        let v = sets::lowest(left);
+        let later = sets::less(others, sets::first(v + 1));
+        add_row(&mut *lower, start_of(n, v), v + 1, later, mass);
+        left = sets::rest(left);
     }
+}
+
+// Adds to the entries of all pairs of n nodes that the rows of neighbours do not join: one component after another, then the nodes that do
+// not work. Where one component has all nodes there is nothing to add.
+pub fn add_cut(lower: &mut [u64; 2016], n: usize, rows: [u64; 64], nodes: u64, mass: u64)
+    requires { ⌜ AddingCut n nodes mass rows (now lower) ⌝ }
+    ensures { λ r. ⌜ AddedCut n nodes mass rows (now (lower .entry)) (now (lower .exit)) ⌝ }
+{
+    let all = sets::first(n);
+    let mut left = nodes;
+    while left != 0 {
+        let part = topology::reach_by_rows(rows, nodes, sets::lowest(left)).set;
+        let others = sets::less(all, part);
+        if others == 0 {
+            return;
+        }
+        add_rows(&mut *lower, n, part, others, mass);
+        left = sets::less(left, part);
+    }
+    add_rows(&mut *lower, n, sets::less(all, nodes), all, mass);
 }

@@ -34,8 +34,9 @@ fn examine(
     };
     let n = h.nodes as usize;
     let failed = topology::failed_by(words, h.events as usize, low, high, intact);
-    let parts = topology::connections(n, failed, links, h.links as usize);
-    add_cut(&mut *lower, n, parts, mass);
+    let nodes = topology::working_nodes(n, failed.nodes);
+    let rows = topology::neighbours(n, failed, links, h.links as usize);
+    add_cut(&mut *lower, n, rows, nodes, mass);
 }
 
 // Examines an end that is relevant, and passes over a dropped one.

@@ -9,13 +9,7 @@ pub fn start_of(n: usize, v: usize) -> usize
     requires { ⌜ (n ≤ 64) × (v ≤ n) ⌝ }
     ensures { λ r. ⌜ r ≡ start n v ⌝ }
 {
-    let mut at = 0;
-    let mut u = 0;
-    while u < v {
-        u += 1;
-        at += n - u;
-    }
-    at
+    (v * (2 * n - v) - v) / 2
 }
 
 // 13: a pair without v < w < N.

@@ -1,69 +1,63 @@
--- `bounds::add::add_cut` meets its contract: the invariant is `CutTurn`, the measure the nodes left. Assumes nothing.
-use Prim.Native.Nat.{_-_}
-use native.Mathlib.Omega.{arith}
+-- `bounds::add::add_cut` meets its contract: the invariant is `CutTurn`, the measure what is left of the nodes. Assumes nothing.
 use borrow.Author.Needs.{needs}
-use Rattle.bounds.proofs.Cut.{CutTurn, cut-begins, cut-done, start-low, row-asked, cut-turned}
+use Rattle.topology.proofs.Shares.{shrinks}
+use Rattle.bounds.proofs.Cut.{CutTurn, cut-begins, has-first, all-joined, part-asked, cut-turned, down-asked, cut-done}
 use Rattle.bounds.proofs.add.add_cut.Statement.{statement}
 use Rattle.bounds.proofs.add.add_cut.Tie as tie
-use Rattle.bounds.proofs.add.add_cut.Reads as reads
-use Rattle.bounds.proofs.add.add_cut.Lts as lts
-use Rattle.bounds.proofs.add.add_row.Reads as add-row-reads
-use Rattle.topology.proofs.cut_after.Reads as cut-after-reads
 
 abbrev Inv-loop : tie.InvT-loop
-Inv-loop lower₀ n mass parts v₀ at₀ lower v at = CutTurn lower₀ n mass parts lower v at
+Inv-loop lower₀ n rows nodes mass all left₀ lower left = CutTurn lower₀ n nodes mass rows lower left
 
 abbrev μ-loop : tie.MeasureT-loop
-μ-loop lower₀ n mass parts v₀ at₀ lower v at = n - v
+μ-loop lower₀ n rows nodes mass all left₀ lower left = left
+
+first-requires : tie.Need-first-requires Inv-loop μ-loop
+first-requires c κs = search needs
 
 loop-holds : tie.Need-loop-holds Inv-loop μ-loop
-loop-holds c = cut-begins _ _ _ _ (c .pre)
+loop-holds c = cut-begins _ _ _ _ _ (c .before .pre)
 
-mul-cut-after : tie.Need-mul-cut-after Inv-loop μ-loop
-mul-cut-after c = omega (arith, c .before .loop .inv .asked .few, c .loop-test .taken)
+lowest-requires : tie.Need-lowest-requires Inv-loop μ-loop
+lowest-requires c κs = search needs
 
-array-read-cut-after : tie.Need-array-read-cut-after Inv-loop μ-loop
-array-read-cut-after c = omega (arith, c .before .loop .inv .asked .few, c .loop-test .taken)
+reach-requires : tie.Need-reach-requires Inv-loop μ-loop
+reach-requires c κs = search needs
 
-cut-after-requires : tie.Need-cut-after-requires Inv-loop μ-loop
-cut-after-requires c κs = (c .before .loop .inv .asked .few, omega (arith, c .before .loop .inv .asked .few, c .loop-test .taken))
+less-requires : tie.Need-less-requires Inv-loop μ-loop
+less-requires c κs = search needs
 
-add-add-row : tie.Need-add-add-row Inv-loop μ-loop
-add-add-row c = omega (arith, c .before .before .before .loop .inv .asked .few, c .before .before .loop-test .taken)
+returns : tie.Need-returns Inv-loop μ-loop
+returns c =
+    all-joined _ _ _ _ _ _ _ (c .before .before .before .before .before .loop .inv) _ (c .before .before .before .before .before .before .first .ensures) _ _ (c .before .before .before .lowest .ensures .1 .1 .0) (c .before .before .reach .ensures) _ (c .before .less .ensures) (c .if1 .taken)
 
-add-row-requires : tie.Need-add-row-requires Inv-loop μ-loop
-add-row-requires c κs =
-    row-asked _ _ _ _ _ _ _ (c .before .before .before .loop .inv) (c .before .before .loop-test .taken) _ (c .before .cut-after .ensures)
+add-rows-requires : tie.Need-add-rows-requires Inv-loop μ-loop
+add-rows-requires c κs =
+    part-asked _ _ _ _ _ _ _ (c .before .before .before .before .before .before .loop .inv) _ (c .before .before .before .before .before .before .before .first .ensures) _ _ (c .before .before .before .before .lowest .ensures .1 .1 .0) (c .before .before .before .reach .ensures) _ (c .before .before .less .ensures)
 
-add-at : tie.Need-add-at Inv-loop μ-loop
-add-at c = omega (arith, c .before .before .before .before .loop .inv .asked .few, c .before .before .before .loop-test .taken)
-
-sub-at : tie.Need-sub-at Inv-loop μ-loop
-sub-at c = omega (arith, c .before .before .before .loop-test .taken)
-
-add-at-2 : tie.Need-add-at-2 Inv-loop μ-loop
-add-at-2 c =
-    omega (
-      arith,
-      start-low _ _ _ _ _ _ _ (c .before .before .before .before .loop .inv) (c .before .before .before .loop-test .taken),
-      c .before .before .before .before .loop .inv .asked .few,
-    )
-
-add-v : tie.Need-add-v Inv-loop μ-loop
-add-v c = omega (arith, c .before .before .before .before .loop .inv .asked .few, c .before .before .before .loop-test .taken)
+less-requires-2 : tie.Need-less-requires-2 Inv-loop μ-loop
+less-requires-2 c κs = search needs
 
 loop-less : tie.Need-loop-less Inv-loop μ-loop
-loop-less c = omega (arith, c .before .before .before .loop-test .taken)
+loop-less c =
+    let low = c .before .before .before .before .before .before .lowest in
+    let loop = c .before .before .before .before .before .before .before .before .loop in
+    shrinks (loop .left) (c .before .before .before .before .before .reach .result .set) (c .less2 .result) (low .result) (c .less2 .ensures) (low .ensures .1 .1 .0)
+    (has-first _ _ _ _ _ _ _ (loop .inv) _ (c .before .before .before .before .before .before .before .before .before .first .ensures) _ _ (low .ensures .1 .1 .0) (c .before .before .before .before .before .reach .ensures))
 
 loop-again : tie.Need-loop-again Inv-loop μ-loop
 loop-again c =
-    cut-turned _ _ _ _ _ _ _ (c .before .before .before .before .loop .inv) (c .before .before .before .loop-test .taken) _
-    (c .before .before .cut-after .ensures)
-    _
-    (c .add-row .ensures)
+    cut-turned _ _ _ _ _ _ _ (c .before .before .before .before .before .before .before .before .loop .inv) _ (c .before .before .before .before .before .before .before .before .before .first .ensures) _ _ (c .before .before .before .before .before .before .lowest .ensures .1 .1 .0) (c .before .before .before .before .before .reach .ensures) _ (c .before .before .before .before .less .ensures) _ (c .before .add-rows .ensures) _ (c .less2 .ensures)
 
-returns : tie.Need-returns Inv-loop μ-loop
-returns c = cut-done _ _ _ _ _ _ _ (c .before .loop .inv) (c .loop-test .left)
+less-requires-3 : tie.Need-less-requires-3 Inv-loop μ-loop
+less-requires-3 c κs = search needs
+
+add-rows-requires-2 : tie.Need-add-rows-requires-2 Inv-loop μ-loop
+add-rows-requires-2 c κs =
+    down-asked _ _ _ _ _ _ _ (c .before .before .before .loop .inv) _ (c .before .before .before .before .first .ensures) _ (c .less3 .ensures)
+
+returns-2 : tie.Need-returns-2 Inv-loop μ-loop
+returns-2 c =
+    cut-done _ _ _ _ _ _ _ (c .before .before .before .before .loop .inv) _ (c .before .before .before .before .before .first .ensures) _ (c .before .less3 .ensures) _ (c .add-rows2 .ensures) (c .before .before .before .loop-test .left)
 
 pub add-cut-spec : {M : Type 1} → statement M
 add-cut-spec =
@@ -71,16 +65,16 @@ add-cut-spec =
     (tie.spec
     Inv-loop
     μ-loop
+    first-requires
     loop-holds
-    mul-cut-after
-    array-read-cut-after
-    cut-after-requires
-    add-add-row
-    add-row-requires
-    add-at
-    sub-at
-    add-at-2
-    add-v
+    lowest-requires
+    reach-requires
+    less-requires
+    returns
+    add-rows-requires
+    less-requires-2
     loop-less
     loop-again
-    returns)
+    less-requires-3
+    add-rows-requires-2
+    returns-2)

@@ -1,0 +1,83 @@
+-- `bounds::add::add_rows` meets its contract: the invariant is `RowsTurn`, the measure what is left of the set. Assumes nothing.
+use mathlib.Core.Path.{ap, sym, _∙_}
+use mathlib.Core.Bool.{not, _&&_}
+use Prim.Native.Nat.{ℕ}
+use native.Mathlib.Omega.{arith}
+use lib.Dec.{eqb}
+use borrow.Author.Needs.{needs}
+use Rattle.sets.specs.Sets.{bit}
+use Rattle.bounds.proofs.Rows.{RowsTurn, rows-begin, rows-done, node, row-asked, rows-turned}
+use Rattle.bounds.proofs.add.add_rows.Statement.{statement}
+use Rattle.bounds.proofs.add.add_rows.Tie as tie
+
+abbrev Inv-loop : tie.InvT-loop
+Inv-loop lower₀ n set others mass left₀ lower left = RowsTurn lower₀ n set others mass lower left
+
+abbrev μ-loop : tie.MeasureT-loop
+μ-loop lower₀ n set others mass left₀ lower left = left
+
+loop-holds : tie.Need-loop-holds Inv-loop μ-loop
+loop-holds c = rows-begin _ _ _ _ _ (c .pre)
+
+lowest-requires : tie.Need-lowest-requires Inv-loop μ-loop
+lowest-requires c κs = search needs
+
+add-first : tie.Need-add-first Inv-loop μ-loop
+add-first c = search needs
+
+first-requires : tie.Need-first-requires Inv-loop μ-loop
+first-requires c κs = search needs
+
+less-requires : tie.Need-less-requires Inv-loop μ-loop
+less-requires c κs = search needs
+
+start-of-requires : tie.Need-start-of-requires Inv-loop μ-loop
+start-of-requires c κs =
+    let g = c .before .before .before .before .before .loop .inv in
+    (g .asked .few, omega (arith, g .asked .nodes _ (g .sub _ (c .before .before .before .lowest .ensures .1 .1 .0))))
+
+add-add-row : tie.Need-add-add-row Inv-loop μ-loop
+add-add-row c = search needs
+
+add-row-requires : tie.Need-add-row-requires Inv-loop μ-loop
+add-row-requires c κs =
+    rw (c .start-of .ensures)
+    (row-asked _ _ _ _ _ _ _ (c .before .before .before .before .before .before .loop .inv) _ (c .before .before .before .before .lowest .ensures .1 .1 .0) _ (c .before .before .before .first .ensures) _ (c .before .before .less .ensures))
+
+rest-requires : tie.Need-rest-requires Inv-loop μ-loop
+rest-requires c κs = search needs
+
+loop-less : tie.Need-loop-less Inv-loop μ-loop
+loop-less c = c .rest .ensures .0
+
+loop-again : tie.Need-loop-again Inv-loop μ-loop
+loop-again c =
+    let low = c .before .before .before .before .before .before .lowest in
+    rows-turned _ _ _ _ _ _ _ (c .before .before .before .before .before .before .before .before .loop .inv) _ (low .ensures .1 .1 .0) _ (c .before .before .before .before .before .first .ensures) _ (c .before .before .before .before .less .ensures) _
+    (rw (c .before .before .start-of .ensures) at (c .before .add-row .ensures))
+    _
+    (λ j.
+    c .rest .ensures .1 j
+    ∙ ap (λ (x : ℕ). bit (c .before .before .before .before .before .before .before .before .loop .left) j && not (eqb j x)) (sym (low .ensures .0)))
+
+returns : tie.Need-returns Inv-loop μ-loop
+returns c = rows-done _ _ _ _ _ _ _ (c .before .loop .inv) (c .loop-test .left)
+
+pub add-rows-spec : {M : Type 1} → statement M
+add-rows-spec =
+    tie.close
+    (tie.spec
+    Inv-loop
+    μ-loop
+    loop-holds
+    lowest-requires
+    add-first
+    first-requires
+    less-requires
+    start-of-requires
+    add-add-row
+    add-row-requires
+    rest-requires
+    loop-less
+    loop-again
+    returns)
