@@ -1,11 +1,13 @@
 -- Digits as Bools.
 -- Assumes nothing.
-use mathlib.Core.Path.{_≡_, refl}
+use mathlib.Core.Path.{_≡_, refl, ap, _∙_}
 use mathlib.Core.Bool.{Bool, true, false, not, _&&_}
-use Prim.Native.Nat.{ℕ, _<_}
+use Prim.Native.Nat.{ℕ, _*_, _≤_, _<_}
 use native.Mathlib.Omega.{arith}
+use native.Mathlib.Nat.{mul-one, mul-zero}
 use lib.Bits.{bitAnd, bitXor}
-use Rattle.sets.specs.Sets.{digit}
+use Rattle.sets.specs.Sets.{bit, digit}
+use Rattle.sets.specs.Laws.{bit-none}
 
 on-digit : (failed one other : Bool) → bitAnd (bitXor (digit failed) 1) (bitAnd (digit one) (digit other)) ≡ digit (not failed && (one && other))
 on-digit true true true = refl
@@ -27,3 +29,39 @@ pub on-from : (failed one other : Bool) (f a b : ℕ) → f ≡ digit failed →
 on-from failed one other f a b ef ea eb =
     let e : bitAnd (bitXor f 1) (bitAnd a b) ≡ digit (not failed && (one && other)) = rw (ef, ea, eb) (on-digit failed one other) in
     (e, rw e (digit-lt (not failed && (one && other))))
+
+-- two digits joined, and a digit turned
+pub both-digit : (one other : Bool) (a b : ℕ) → a ≡ digit one → b ≡ digit other → (bitAnd a b ≡ digit (one && other)) × (bitAnd a b < 2)
+both-digit one other a b ea eb =
+    let e : bitAnd a b ≡ digit (one && other) = rw (ea, eb) (cases one other) in
+    (e, rw e (digit-lt (one && other)))
+  where
+    cases : (x y : Bool) → bitAnd (digit x) (digit y) ≡ digit (x && y)
+    cases true true = refl
+    cases true false = refl
+    cases false true = refl
+    cases false false = refl
+
+pub turned-digit : (b : Bool) (d : ℕ) → d ≡ digit b → (bitXor d 1 ≡ digit (not b)) × (bitXor d 1 < 2) × (d < 2)
+turned-digit b d e =
+    let t : bitXor d 1 ≡ digit (not b) = rw e (cases b) in
+    (t, rw t (digit-lt (not b)), rw e (digit-lt b))
+  where
+    cases : (x : Bool) → bitXor (digit x) 1 ≡ digit (not x)
+    cases true = refl
+    cases false = refl
+
+-- a set times a digit: itself, or the empty set
+pub times-fits : (s d : ℕ) (b : Bool) → d ≡ digit b → s * d ≤ s
+times-fits s d b e = rw e (cases b)
+  where
+    cases : (x : Bool) → s * digit x ≤ s
+    cases true = omega arith
+    cases false = omega arith
+
+pub times-digit : (s d : ℕ) (b : Bool) → d ≡ digit b → (w : ℕ) → bit (s * d) w ≡ (b && bit s w)
+times-digit s d b e w = rw e (cases b)
+  where
+    cases : (x : Bool) → bit (s * digit x) w ≡ (x && bit s w)
+    cases true = ap (λ (y : ℕ). bit y w) (mul-one s)
+    cases false = ap (λ (y : ℕ). bit y w) (mul-zero s) ∙ bit-none w

@@ -1,19 +1,16 @@
--- The union of the rows of a set, and a row of an array for each element, element by element: what is left of the set, and what is done.
+-- The union of the rows of a set, element by element: what is left of the set, and what is done.
 -- Assumes nothing.
-use mathlib.Core.Path.{_≡_, refl, sym, ap, _∙_}
-use mathlib.Core.Bool.{true, false, not, _&&_, _||_}
+use mathlib.Core.Path.{_≡_, sym, ap, _∙_}
+use mathlib.Core.Bool.{true, not, _&&_, _||_}
 use mathlib.Core.List.{List}
 use mathlib.Core.Logic.{_⊎_, inl, inr, ⊎-elim, _↔_}
-use Prim.Native.Nat.{ℕ, _<_}
-use native.Mathlib.Omega.{arith}
-use native.Mathlib.Decide.{ℕ-discrete}
+use Prim.Native.Nat.{ℕ}
 use lib.Dec.{eqb}
-use lib.ListN.{length, getD, set, length-set}
-use lib.Seq.{getD-set-same, getD-set-other}
+use lib.ListN.{getD}
 use borrow.Author.Tests.{eqb-true}
 use Rattle.sets.specs.Sets.{bit}
 use Rattle.sets.specs.Laws.{bit-none}
-use Rattle.sets.specs.Bools.{and-left, and-both, or-either, or-left, or-right, which, clash, not-of, not-so}
+use Rattle.sets.specs.Bools.{and-left, and-both, or-either, or-left, or-right, which, clash, not-of}
 use Rattle.topology.specs.RowPaths.{InRows}
 
 -- a set without its element t
@@ -64,37 +61,3 @@ module _ (rows : List ℕ) (s : ℕ) where
 
   pub gathered-all : (all left : ℕ) → left ≡ 0 → Gathered rows s all left → (w : ℕ) → (bit all w ≡ true) ↔ InRows rows s w
   gathered-all all left e g w = (g .sound w, λ r. ⊎-elim (λ a. a) (λ r′. absurd (clash (r′ .1) (ap (λ (x : ℕ). bit x (r′ .0)) e ∙ bit-none (r′ .0)))) (g .whole w r))
-
--- ---- one set at each of its elements
-
--- the elements of the part hold it, but for those left, and the others hold what they held
-pub record Marked (parts : List ℕ) (part : ℕ) (all : List ℕ) (left : ℕ) : Type 0 where
-  pub size : length all ≡ 64
-  pub within : (j : ℕ) → bit left j ≡ true → bit part j ≡ true
-  pub marked : (v : ℕ) → bit part v ≡ true → bit left v ≡ false → getD all v 0 ≡ part
-  pub kept : (v : ℕ) → bit part v ≡ false → getD all v 0 ≡ getD parts v 0
-
-module _ (parts : List ℕ) (part : ℕ) where
-  pub marked-none : length parts ≡ 64 → Marked parts part parts part
-  marked-none h = record {
-    size = h;
-    within = λ j e. e;
-    marked = λ v e f. absurd (clash e f);
-    kept = λ v e. refl;
-  }
-
-  pub marked-next : (all : List ℕ) (left rest t found : ℕ) → found ≡ t → found < 64 → bit left found ≡ true
-      → ((j : ℕ) → bit rest j ≡ (bit left j && not (eqb j t)))
-      → Marked parts part all left → Marked parts part (set all found part) rest
-  marked-next all left rest t found is h there law m = record {
-    size = length-set all found part ∙ m .size;
-    within = λ j e. m .within j (rest-in left rest t found is law j e);
-    marked = λ v e f. marks v e f (ℕ-discrete v found);
-    kept = λ v e. getD-set-other all found v part 0 (λ s. clash (m .within found there) (ap (bit part) (sym s) ∙ e)) ∙ m .kept v e;
-  }
-    where
-      marks : (v : ℕ) → bit part v ≡ true → bit rest v ≡ false → Dec (v ≡ found) → getD (set all found part) v 0 ≡ part
-      marks v e f (yes s) = rw (s, getD-set-same all found part 0 (omega (arith, m .size)))
-      marks v e f (no d) =
-          getD-set-other all found v part 0 d
-          ∙ m .marked v e (not-so (bit left v) (λ l. ⊎-elim d (λ r. clash r f) (rest-or left rest t found is law v l)))

@@ -1,64 +1,24 @@
 -- The rows of neighbours, link by link.
 -- Assumes nothing.
 use mathlib.Core.Path.{_≡_, refl, sym, ap, ap₂, _∙_}
-use mathlib.Core.Bool.{Bool, true, false, not, _&&_, _||_, and-false, or-false, or-comm}
+use mathlib.Core.Bool.{Bool, true, false, not, _&&_, _||_, and-true, and-false, or-false}
 use mathlib.Core.List.{List}
-use Prim.Native.Nat.{ℕ, zero, suc, _+_, _*_, _≤_, _<_}
+use mathlib.Core.Logic.{_⊎_, inl, inr}
+use Prim.Native.Nat.{ℕ, zero, suc, _+_, _≤_, _<_}
 use native.Mathlib.Omega.{arith}
-use native.Mathlib.Decide.{ℕ-discrete}
-use native.Mathlib.Numerals.{add-one}
+use native.Mathlib.Decide.{decLt, ℕ-discrete}
 use lib.Dec.{eqb, ltb}
 use lib.ListN.{length, getD, set, replicate, length-set}
 use lib.Seq.{getD-set-same, getD-set-other}
-use borrow.Author.Tests.{eqb-true, eq-eqb, ne-eqb}
+use borrow.Author.Tests.{eqb-true, eq-eqb, ne-eqb, lt-ltb, le-ltb}
 use Rattle.sets.specs.Sets.{bit, digit}
 use Rattle.sets.specs.Laws.{bit-none}
-use Rattle.sets.specs.Bools.{same-bool, anyBelow}
-use Rattle.plan.specs.Plan.{Link}
-use Rattle.plan.specs.Lists.{linksOf}
-use Rattle.topology.specs.Outage.{Outage}
-use Rattle.topology.specs.Topology.{networkOf, ends, joins, adjacent}
-use Rattle.topology.proofs.LinkBytes.{worksBy, works-below, link-at, length-links, eqb-digit}
-
-eqb-sym : (m n : ℕ) → eqb m n ≡ eqb n m
-eqb-sym m n = same-bool _ _ (λ e. eq-eqb n m (sym (eqb-true m n e))) (λ e. eq-eqb m n (sym (eqb-true n m e)))
-
--- one row with one neighbour more
-row-grown : (rows : List ℕ) (a b on new : ℕ) → a < length rows → ((j : ℕ) → bit new j ≡ (bit (getD rows a 0) j || (eqb on 1 && eqb j b))) → (v w : ℕ)
-    → bit (getD (set rows a new) v 0) w ≡ (bit (getD rows v 0) w || (eqb on 1 && (eqb a v && eqb b w)))
-row-grown rows a b on new h law v w = at (ℕ-discrete v a)
-  where
-    at : Dec (v ≡ a) → bit (getD (set rows a new) v 0) w ≡ (bit (getD rows v 0) w || (eqb on 1 && (eqb a v && eqb b w)))
-    at (yes e) = rw (e, getD-set-same rows a new 0 h, eq-eqb a a refl, eqb-sym b w) (law w)
-    at (no d) =
-        rw (getD-set-other rows a v new 0 d, ne-eqb a v (λ e. d (sym e)), and-false (eqb on 1)) (sym (or-false (bit (getD rows v 0) w)))
-
--- a link's two ends, as bytes
-abbrev pub endsOf : ℕ → ℕ → Link
-endsOf a b = record { low = a; high = b }
-
--- both rows of a link
-both-grown : (rows : List ℕ) (a b on new new′ : ℕ) → a < length rows → b < length rows
-    → ((j : ℕ) → bit new j ≡ (bit (getD rows a 0) j || (eqb on 1 && eqb j b)))
-    → ((j : ℕ) → bit new′ j ≡ (bit (getD (set rows a new) b 0) j || (eqb on 1 && eqb j a))) → (v w : ℕ)
-    → bit (getD (set (set rows a new) b new′) v 0) w ≡ (bit (getD rows v 0) w || (eqb on 1 && ends (endsOf a b) v w))
-both-grown rows a b on new new′ ha hb one other v w =
-    row-grown (set rows a new) b a on new′ (rw length-set hb) other v w
-    ∙ ap (λ (x : Bool). x || (eqb on 1 && (eqb b v && eqb a w))) (row-grown rows a b on new ha one v w)
-    ∙ cases (bit (getD rows v 0) w) (eqb on 1) (eqb a v && eqb b w) (eqb b v && eqb a w)
-  where
-    cases : (r o x y : Bool) → ((r || (o && x)) || (o && y)) ≡ (r || (o && (x || y)))
-    cases true o x y = refl
-    cases false true x y = refl
-    cases false false x y = refl
-
--- whether link i works and joins v and w, from the sets and the bytes
-abbrev pub joinsBy : ℕ → ℕ → List ℕ → ℕ → ℕ → ℕ → Bool
-joinsBy nodes cut bytes v w i = worksBy nodes cut bytes i && ends (endsOf (getD bytes (2 * i + 0) 0) (getD bytes (2 * i + 1) 0)) v w
-
--- the rows of the links below i
-abbrev pub RowsBelow : ℕ → ℕ → List ℕ → ℕ → List ℕ → Type 0
-RowsBelow nodes cut bytes i rows = (v w : ℕ) → bit (getD rows v 0) w ≡ anyBelow (joinsBy nodes cut bytes v w) i
+use Rattle.sets.specs.Bools.{same-bool, which, clash, and-left, and-right, or-either}
+use Rattle.topology.specs.Topology.{ends}
+use Rattle.topology.specs.Whole.{endsOf, linkIn, joinedBy}
+use Rattle.topology.proofs.LinkBytes.{eqb-digit}
+use Rattle.topology.proofs.Gather.{rest-in}
+use Rattle.topology.proofs.Words.{any-rest, any-none}
 
 -- an array of empty sets
 pub empty-row : (n v : ℕ) → _≡_ {A = ℕ} (getD (replicate n 0) v 0) 0
@@ -66,37 +26,173 @@ empty-row zero v = refl
 empty-row (suc n) zero = refl
 empty-row (suc n) (suc v) = empty-row n v
 
-module _ (nodes cut : ℕ) (bytes : List ℕ) where
-  pub rows-none : RowsBelow nodes cut bytes 0 (replicate 64 0)
-  unfolding anyBelow
-  rows-none v w = rw (empty-row 64 v) (bit-none w)
+-- ---- the two rows of a link
 
-  pub rows-next : (rows : List ℕ) (i a b on new new′ : ℕ) → length rows ≡ 64 → a < 64 → b < 64
-      → a ≡ getD bytes (2 * i + 0) 0 → b ≡ getD bytes (2 * i + 1) 0 → on ≡ digit (worksBy nodes cut bytes i)
-      → ((j : ℕ) → bit new j ≡ (bit (getD rows a 0) j || (eqb on 1 && eqb j b)))
-      → ((j : ℕ) → bit new′ j ≡ (bit (getD (set rows a new) b 0) j || (eqb on 1 && eqb j a)))
-      → RowsBelow nodes cut bytes i rows → RowsBelow nodes cut bytes (i + 1) (set (set rows a new) b new′)
-  unfolding anyBelow
-  rows-next rows i a b on new new′ size ha hb ea eb e one other old v w =
-      both-grown rows a b on new new′ (omega arith) (omega arith) one other v w
-      ∙ ap₂ (λ (x y : Bool). x || (y && ends (endsOf a b) v w)) (old v w) (ap (λ (x : ℕ). eqb x 1) e ∙ eqb-digit (worksBy nodes cut bytes i))
-      ∙ ap₂ (λ (x y : ℕ). anyBelow (joinsBy nodes cut bytes v w) i || (worksBy nodes cut bytes i && ends (endsOf x y) v w)) ea eb
-      ∙ or-comm (anyBelow (joinsBy nodes cut bytes v w) i) (joinsBy nodes cut bytes v w i)
-      ∙ ap (anyBelow (joinsBy nodes cut bytes v w)) (sym (add-one i))
+eqb-sym : (m n : ℕ) → eqb m n ≡ eqb n m
+eqb-sym m n = same-bool _ _ (λ e. eq-eqb n m (sym (eqb-true m n e))) (λ e. eq-eqb m n (sym (eqb-true n m e)))
 
-any-same : (p q : ℕ → Bool) (k : ℕ) → ((i : ℕ) → i < k → p i ≡ q i) → anyBelow p k ≡ anyBelow q k
-unfolding anyBelow
-any-same p q zero h = refl
-any-same p q (suc k) h = ap₂ _||_ (h k (omega arith)) (any-same p q k (λ i l. h i (omega arith)))
+-- a row changed at one element: `change` says what becomes of a row that had it or not, and changes nothing elsewhere
+module _ (change : Bool → Bool → Bool) (nowhere : (x : Bool) → change x false ≡ x) where
+  row-changed : (rows : List ℕ) (a b new : ℕ) → a < length rows → ((j : ℕ) → bit new j ≡ change (bit (getD rows a 0) j) (eqb j b)) → (v w : ℕ)
+      → bit (getD (set rows a new) v 0) w ≡ change (bit (getD rows v 0) w) (eqb a v && eqb b w)
+  row-changed rows a b new h law v w = at (ℕ-discrete v a)
+    where
+      at : Dec (v ≡ a) → bit (getD (set rows a new) v 0) w ≡ change (bit (getD rows v 0) w) (eqb a v && eqb b w)
+      at (yes e) = rw (e, getD-set-same rows a new 0 h, eq-eqb a a refl, eqb-sym b w) (law w)
+      at (no d) = rw (getD-set-other rows a v new 0 d, ne-eqb a v (λ e. d (sym e))) (sym (nowhere (bit (getD rows v 0) w)))
 
--- the rows of all links are the neighbours
-pub rows-all : (n count : ℕ) (bytes : List ℕ) (out : Outage) (nodes : ℕ) → ((v : ℕ) → bit nodes v ≡ (ltb v n && not (bit (out .nodes) v)))
-    → (i : ℕ) (rows : List ℕ) → i ≤ count → count ≤ i → RowsBelow nodes (out .links) bytes i rows
-    → (v w : ℕ) → bit (getD rows v 0) w ≡ adjacent (networkOf n (linksOf count bytes) out) v w
-unfolding adjacent joins
-rows-all n count bytes out nodes law i rows h l all v w =
-    let e : i ≡ count = omega arith in
-    all v w ∙ ap (anyBelow (joinsBy nodes (out .links) bytes v w)) e
-    ∙ any-same (joinsBy nodes (out .links) bytes v w) (λ k. joins (networkOf n (linksOf count bytes) out) k v w) count
-    (λ k b. ap₂ (λ (x : Bool) (y : Link). x && ends y v w) (works-below n count bytes out nodes law k b) (sym (link-at count bytes k b)))
-    ∙ ap (anyBelow (λ k. joins (networkOf n (linksOf count bytes) out) k v w)) (sym (length-links count bytes))
+  -- both rows of a link
+  pub both-changed : ((r x y : Bool) → change (change r x) y ≡ change r (x || y)) → (rows : List ℕ) (a b new new′ : ℕ) → length rows ≡ 64 → a < 64 → b < 64
+      → ((j : ℕ) → bit new j ≡ change (bit (getD rows a 0) j) (eqb j b))
+      → ((j : ℕ) → bit new′ j ≡ change (bit (getD (set rows a new) b 0) j) (eqb j a)) → (v w : ℕ)
+      → bit (getD (set (set rows a new) b new′) v 0) w ≡ change (bit (getD rows v 0) w) (ends (endsOf a b) v w)
+  both-changed twice rows a b new new′ size ha hb one other v w =
+      row-changed (set rows a new) b a new′ (omega (arith, length-set rows a new)) other v w
+      ∙ ap (λ (x : Bool). change x (eqb b v && eqb a w)) (row-changed rows a b new (omega arith) one v w)
+      ∙ twice (bit (getD rows v 0) w) (eqb a v && eqb b w) (eqb b v && eqb a w)
+
+-- the two changes: put in where a digit is 1, and taken out
+pub grow-none : (o x : Bool) → (x || (o && false)) ≡ x
+grow-none o x = ap (λ (y : Bool). x || y) (and-false o) ∙ or-false x
+
+pub grow-twice : (o r x y : Bool) → ((r || (o && x)) || (o && y)) ≡ (r || (o && (x || y)))
+grow-twice o true x y = refl
+grow-twice true false x y = refl
+grow-twice false false x y = refl
+
+pub cut-none : (x : Bool) → (x && not false) ≡ x
+cut-none x = and-true x
+
+pub cut-twice : (r x y : Bool) → ((r && not x) && not y) ≡ (r && not (x || y))
+cut-twice false x y = refl
+cut-twice true true y = refl
+cut-twice true false y = refl
+
+-- ---- the links of a word, one after the other
+
+module _ (bytes : List ℕ) (base s : ℕ) (before : List ℕ) where
+  -- what is left to take out of the rows, taken out, gives what the whole set gives
+  pub record Taking (rows : List ℕ) (left : ℕ) : Type 0 where
+    pub size : length rows ≡ 64
+    pub within : (i : ℕ) → bit left i ≡ true → bit s i ≡ true
+    pub rest : (v w : ℕ) → (bit (getD rows v 0) w && not (joinedBy bytes base left v w)) ≡ (bit (getD before v 0) w && not (joinedBy bytes base s v w))
+
+  pub taking-none : length before ≡ 64 → Taking before s
+  taking-none h = record { size = h; within = λ i e. e; rest = λ v w. refl }
+
+  -- what is left to put in, put in, gives what the whole set gives
+  pub record Putting (nodes : ℕ) (rows : List ℕ) (left : ℕ) : Type 0 where
+    pub size : length rows ≡ 64
+    pub within : (i : ℕ) → bit left i ≡ true → bit s i ≡ true
+    pub rest : (v w : ℕ) → (bit (getD rows v 0) w || ((bit nodes v && bit nodes w) && joinedBy bytes base left v w))
+        ≡ (bit (getD before v 0) w || ((bit nodes v && bit nodes w) && joinedBy bytes base s v w))
+
+  pub putting-none : (nodes : ℕ) → length before ≡ 64 → Putting nodes before s
+  putting-none nodes h = record { size = h; within = λ i e. e; rest = λ v w. refl }
+
+  -- the next link
+  module _ (rows after : List ℕ) (left rest t found a b : ℕ) (is : found ≡ t) (small : found < 64) (there : bit left found ≡ true)
+      (law : (j : ℕ) → bit rest j ≡ (bit left j && not (eqb j t)))
+      (ea : a ≡ linkIn bytes (base + found) .low)
+      (eb : b ≡ linkIn bytes (base + found) .high)
+      (sized : length after ≡ 64)
+    where
+      next : (v w : ℕ) → joinedBy bytes base left v w ≡ (ends (endsOf a b) v w || joinedBy bytes base rest v w)
+      next v w =
+          any-rest (λ i. ends (linkIn bytes (base + i)) v w) left rest t found is small there law
+          ∙ ap₂ (λ (x y : ℕ). ends (endsOf x y) v w || joinedBy bytes base rest v w) (sym ea) (sym eb)
+
+      pub taking-next : ((v w : ℕ) → bit (getD after v 0) w ≡ (bit (getD rows v 0) w && not (ends (endsOf a b) v w))) → Taking rows left → Taking after rest
+      taking-next one old = record {
+        size = sized;
+        within = λ i e. old .within i (rest-in left rest t found is law i e);
+        rest = λ v w.
+            ap (λ (x : Bool). x && not (joinedBy bytes base rest v w)) (one v w)
+            ∙ cut-twice (bit (getD rows v 0) w) (ends (endsOf a b) v w) (joinedBy bytes base rest v w)
+            ∙ ap (λ (x : Bool). bit (getD rows v 0) w && not x) (sym (next v w))
+            ∙ old .rest v w;
+      }
+
+      -- two nodes that the link joins are among the nodes where its ends are
+      same-nodes : (nodes v w : ℕ) → ((bit nodes a && bit nodes b) && ends (endsOf a b) v w) ≡ ((bit nodes v && bit nodes w) && ends (endsOf a b) v w)
+      same-nodes nodes v w = at (which (ends (endsOf a b) v w))
+        where
+          swap : (x y : Bool) → (x && y) ≡ (y && x)
+          swap true true = refl
+          swap true false = refl
+          swap false true = refl
+          swap false false = refl
+
+          nodes-of : ((eqb a v && eqb b w) ≡ true) ⊎ ((eqb b v && eqb a w) ≡ true) → (bit nodes a && bit nodes b) ≡ (bit nodes v && bit nodes w)
+          nodes-of (inl h) = ap₂ (λ (x y : ℕ). bit nodes x && bit nodes y) (eqb-true a v (and-left _ _ h)) (eqb-true b w (and-right (eqb a v) _ h))
+          nodes-of (inr h) =
+              ap₂ (λ (x y : ℕ). bit nodes x && bit nodes y) (eqb-true a w (and-right (eqb b v) _ h)) (eqb-true b v (and-left _ _ h))
+              ∙ swap (bit nodes w) (bit nodes v)
+
+          at : (ends (endsOf a b) v w ≡ true) ⊎ (ends (endsOf a b) v w ≡ false)
+              → ((bit nodes a && bit nodes b) && ends (endsOf a b) v w) ≡ ((bit nodes v && bit nodes w) && ends (endsOf a b) v w)
+          at (inl e) = ap (λ (x : Bool). x && ends (endsOf a b) v w) (nodes-of (or-either (eqb a v && eqb b w) (eqb b v && eqb a w) e))
+          at (inr e) = rw (e, and-false (bit nodes a && bit nodes b), and-false (bit nodes v && bit nodes w))
+
+      pub putting-next : (nodes on : ℕ) → on ≡ digit (bit nodes a && bit nodes b)
+          → ((v w : ℕ) → bit (getD after v 0) w ≡ (bit (getD rows v 0) w || (eqb on 1 && ends (endsOf a b) v w))) → Putting nodes rows left → Putting nodes after rest
+      putting-next nodes on e one old = record {
+        size = sized;
+        within = λ i e. old .within i (rest-in left rest t found is law i e);
+        rest = λ v w.
+            ap (λ (x : Bool). x || ((bit nodes v && bit nodes w) && joinedBy bytes base rest v w))
+            (one v w
+            ∙ ap (λ (x : Bool). bit (getD rows v 0) w || (x && ends (endsOf a b) v w)) (ap (λ (x : ℕ). eqb x 1) e ∙ eqb-digit (bit nodes a && bit nodes b))
+            ∙ ap (λ (x : Bool). bit (getD rows v 0) w || x) (same-nodes nodes v w))
+            ∙ grow-twice (bit nodes v && bit nodes w) (bit (getD rows v 0) w) (ends (endsOf a b) v w) (joinedBy bytes base rest v w)
+            ∙ ap (λ (x : Bool). bit (getD rows v 0) w || ((bit nodes v && bit nodes w) && x)) (sym (next v w))
+            ∙ old .rest v w;
+      }
+
+  -- with nothing left
+  pub taking-all : (rows : List ℕ) (left : ℕ) → left ≡ 0 → Taking rows left
+      → (v w : ℕ) → bit (getD rows v 0) w ≡ (bit (getD before v 0) w && not (joinedBy bytes base s v w))
+  taking-all rows left e old v w =
+      sym (ap (λ (x : Bool). bit (getD rows v 0) w && not x) (any-none (λ i. ends (linkIn bytes (base + i)) v w) left e) ∙ and-true (bit (getD rows v 0) w))
+      ∙ old .rest v w
+
+  pub putting-all : (nodes : ℕ) (rows : List ℕ) (left : ℕ) → left ≡ 0 → Putting nodes rows left
+      → (v w : ℕ) → bit (getD rows v 0) w ≡ (bit (getD before v 0) w || ((bit nodes v && bit nodes w) && joinedBy bytes base s v w))
+  putting-all nodes rows left e old v w =
+      sym
+      (ap (λ (x : Bool). bit (getD rows v 0) w || ((bit nodes v && bit nodes w) && x)) (any-none (λ i. ends (linkIn bytes (base + i)) v w) left e)
+      ∙ grow-none (bit nodes v && bit nodes w) (bit (getD rows v 0) w))
+      ∙ old .rest v w
+
+-- ---- the nodes of a set kept, row by row
+
+module _ (all : List ℕ) (nodes : ℕ) where
+  abbrev pub KeptBelow : ℕ → List ℕ → Type 0
+  KeptBelow k rows = (v w : ℕ) → bit (getD rows v 0) w ≡ (ltb v k && (bit (getD all v 0) w && (bit nodes v && bit nodes w)))
+
+  pub kept-none : KeptBelow 0 (replicate 64 0)
+  kept-none v w = rw (empty-row 64 v, le-ltb v 0 (omega arith)) (bit-none w)
+
+  pub kept-next : (k new : ℕ) (rows : List ℕ) → k < length rows → ((w : ℕ) → bit new w ≡ (bit (getD all k 0) w && (bit nodes k && bit nodes w)))
+      → KeptBelow k rows → KeptBelow (k + 1) (set rows k new)
+  kept-next k new rows h law old v w = at (ℕ-discrete v k) (decLt v k)
+    where
+      at : Dec (v ≡ k) → Dec (v < k) → bit (getD (set rows k new) v 0) w ≡ (ltb v (k + 1) && (bit (getD all v 0) w && (bit nodes v && bit nodes w)))
+      at (yes e) d =
+          let last : k < k + 1 = omega arith in
+          rw (e, getD-set-same rows k new 0 h, lt-ltb k (k + 1) last) (law w)
+      at (no n) (yes l) =
+          let before : v < k + 1 = omega arith in
+          rw (getD-set-other rows k v new 0 n, lt-ltb v (k + 1) before) (old v w ∙ ap (λ (x : Bool). x && (bit (getD all v 0) w && (bit nodes v && bit nodes w))) (lt-ltb v k l))
+      at (no n) (no m) =
+          let past : k + 1 ≤ v = omega arith in
+          rw (getD-set-other rows k v new 0 n, le-ltb v (k + 1) past) (old v w ∙ ap (λ (x : Bool). x && (bit (getD all v 0) w && (bit nodes v && bit nodes w))) (le-ltb v k (omega arith)))
+
+  pub kept-all : (n k : ℕ) (rows : List ℕ) → n ≤ k → ((v : ℕ) → bit nodes v ≡ true → v < n) → KeptBelow k rows
+      → (v w : ℕ) → bit (getD rows v 0) w ≡ (bit (getD all v 0) w && (bit nodes v && bit nodes w))
+  kept-all n k rows h below old v w = old v w ∙ at (which (bit nodes v))
+    where
+      at : (bit nodes v ≡ true) ⊎ (bit nodes v ≡ false)
+          → (ltb v k && (bit (getD all v 0) w && (bit nodes v && bit nodes w))) ≡ (bit (getD all v 0) w && (bit nodes v && bit nodes w))
+      at (inl e) = ap (λ (x : Bool). x && (bit (getD all v 0) w && (bit nodes v && bit nodes w))) (lt-ltb v k (omega (arith, below v e)))
+      at (inr e) = rw (e, and-false (bit (getD all v 0) w), and-false (ltb v k))

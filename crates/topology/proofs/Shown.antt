@@ -4,11 +4,9 @@ use mathlib.Core.Path.{_≡_, refl, sym, ap, _∙_}
 use mathlib.Core.Bool.{Bool, true, false, not, _&&_}
 use mathlib.Core.List.{List}
 use mathlib.Core.Logic.{_↔_}
-use Prim.Native.Nat.{ℕ, _+_}
-use native.Mathlib.Omega.{arith}
+use Prim.Native.Nat.{ℕ}
 use lib.Dec.{ltb, eqb}
 use lib.ListN.{getD}
-use borrow.Author.Tests.{ltb-true, ltb-false, lt-ltb, le-ltb}
 use Rattle.sets.specs.Sets.{bit, digit}
 use Rattle.sets.specs.Bools.{same-bool, not-of, of-not}
 use Rattle.plan.specs.Plan.{Link}
@@ -67,7 +65,7 @@ module _ (net : Network) (nodes : ℕ) (rows : List ℕ)
       λ h. reached w .1 (up v ∙ h .0, chain-map link-step (h .1)),
     )
 
--- ---- small facts of the pair's functions
+-- ---- a node that is not among what another reaches
 
 pub absent : (found set w : ℕ) (cut : Bool) → found ≡ digit (bit set w) → bit set w ≡ not cut → eqb found 0 ≡ cut
 absent found set w cut e f = ap (λ (x : ℕ). eqb x 0) (e ∙ ap digit f) ∙ cases cut
@@ -75,18 +73,3 @@ absent found set w cut e f = ap (λ (x : ℕ). eqb x 0) (e ∙ ap digit f) ∙ c
     cases : (c : Bool) → eqb (digit (not c)) 0 ≡ c
     cases true = refl
     cases false = refl
-
-pub above : (v w n : ℕ) (p : Bool) → ((ltb w n && not (ltb w (v + 1))) && not p) ≡ (ltb v w && (ltb w n && not p))
-above v w n p = ap (λ (x : Bool). (ltb w n && x) && not p) later ∙ cases (ltb w n) (ltb v w) (not p)
-  where
-    later : not (ltb w (v + 1)) ≡ ltb v w
-    later =
-        same-bool _ _
-        (λ e. lt-ltb v w (omega (arith, ltb-false w (v + 1) (of-not _ e))))
-        (λ e. not-of _ (le-ltb w (v + 1) (omega (arith, ltb-true v w e))))
-
-    cases : (a b q : Bool) → ((a && b) && q) ≡ (b && (a && q))
-    cases true true q = refl
-    cases true false q = refl
-    cases false true q = refl
-    cases false false q = refl

@@ -47,7 +47,7 @@ pub fn link_on(nodes: u64, low: u64, high: u64, i: usize, a: usize, b: usize) ->
 }
 
 // A set of links with link i beside them where the digit `on` is 1.
-fn with_link(up: Links, on: u64, i: usize) -> Links
+pub fn with_link(up: Links, on: u64, i: usize) -> Links
     requires { ⌜ (on < 2) × (i < 128) ⌝ }
     ensures { λ r. ⌜ ((j : ℕ) → bit (joined (r .low) (r .high)) j ≡ (bit (joined (up .low) (up .high)) j || (eqb on 1 && eqb j i))) ⌝ }
 {

@@ -1,146 +1,137 @@
--- `topology::rows::neighbours` meets its contract. The loop's invariant: the rows hold the neighbours by the working links below i. Assumes nothing.
+-- `topology::rows::neighbours` meets its contract: each step changes the rows as the law of a scenario says. Assumes nothing.
 use borrow.Author.Needs.{needs}
-use mathlib.Core.Path.{_≡_, refl, ap, _∙_}
-use mathlib.Core.Bool.{Bool, _||_}
-use Prim.Native.Nat.{_-_, _≤_}
 use native.Mathlib.Omega.{arith}
-use lib.ListN.{length, getD, set, length-set}
-use Rattle.sets.specs.Sets.{bit, joined}
-use Rattle.topology.specs.Code.{outage}
-use Rattle.topology.proofs.LinkBytes.{on-is}
-use Rattle.topology.proofs.RowSets.{RowsBelow, rows-none, rows-next, rows-all}
+use lib.Dec.{ltb}
+use borrow.Author.Tests.{ltb-true}
+use mathlib.Core.Path.{sym, _∙_}
+use Rattle.sets.specs.Bools.{and-left}
+use Rattle.topology.proofs.Scenario.{Changes, out-low-below, out-high-below, in-low-below, in-high-below, scenario-rows}
 use Rattle.topology.proofs.rows.neighbours.Statement.{statement}
 use Rattle.topology.proofs.rows.neighbours.Tie as tie
 
-abbrev Inv-loop : tie.InvT-loop
-Inv-loop n links count nodes low high rows₀ i₀ rows i =
-    (i ≤ count) × ((length rows ≡ 64) × RowsBelow nodes (joined low high) links i rows)
-
-abbrev μ-loop : tie.MeasureT-loop
-μ-loop n links count nodes low high rows₀ i₀ rows i = count - i
-
-working-nodes-requires : tie.Need-working-nodes-requires Inv-loop μ-loop
+working-nodes-requires : tie.Need-working-nodes-requires
 working-nodes-requires c κs = search needs
 
-loop-holds : tie.Need-loop-holds Inv-loop μ-loop
-loop-holds c =
-    let f = c .before .args .failed in
-    (omega arith, (refl, rows-none (c .working-nodes .result) (joined (f .low) (f .high)) (c .before .args .links .now)))
+both-requires : tie.Need-both-requires
+both-requires c κs = search needs
 
-end-requires : tie.Need-end-requires Inv-loop μ-loop
-end-requires c κs = search needs
+both-requires-2 : tie.Need-both-requires-2
+both-requires-2 c κs = search needs
 
-end-requires-2 : tie.Need-end-requires-2 Inv-loop μ-loop
-end-requires-2 c κs = search needs
+less-requires : tie.Need-less-requires
+less-requires c κs = search needs
 
-link-on-requires : tie.Need-link-on-requires Inv-loop μ-loop
-link-on-requires c κs = search needs
+less-requires-2 : tie.Need-less-requires-2
+less-requires-2 c κs = search needs
 
-mul-union : tie.Need-mul-union Inv-loop μ-loop
-mul-union c = search needs
+-- the four sets of links
+changes : (w : tie.After-less2) → Changes (w .before .before .before .before .before .args .firsts)
+    (w .before .before .before .before .before .args .failed .low)
+    (w .before .before .before .before .before .args .failed .high)
+    (w .before .before .before .both .result)
+    (w .before .before .both2 .result)
+    (w .before .less .result)
+    (w .less2 .result)
+changes w = record {
+  fits-low = omega arith;
+  fits-first = omega arith;
+  fits-more = omega arith;
+  fits-out-low = omega arith;
+  fits-out-high = omega arith;
+  fits-in-low = omega arith;
+  fits-in-high = omega arith;
+  is-out-low = w .before .before .before .both .ensures;
+  is-out-high = w .before .before .both2 .ensures;
+  is-in-low = w .before .less .ensures;
+  is-in-high = w .less2 .ensures;
+}
 
-array-read-union : tie.Need-array-read-union Inv-loop μ-loop
-array-read-union c = search needs
+between-requires : tie.Need-between-requires
+between-requires c κs =
+    let a = c .before .before .before .before .before in (
+      a .pre .0 .nodes-fit,
+      λ v e. ltb-true v (a .args .n) (and-left (ltb v (a .args .n)) _ (sym (c .before .before .before .before .working-nodes .ensures v) ∙ e)),
+    )
 
-only-requires : tie.Need-only-requires Inv-loop μ-loop
-only-requires c κs = search needs
-
-union-requires : tie.Need-union-requires Inv-loop μ-loop
-union-requires c κs = search needs
-
-mul-rows : tie.Need-mul-rows Inv-loop μ-loop
-mul-rows c = search needs
-
-array-write-rows : tie.Need-array-write-rows Inv-loop μ-loop
-array-write-rows c = search needs
-
-mul-union-2 : tie.Need-mul-union-2 Inv-loop μ-loop
-mul-union-2 c = search needs
-
-array-read-union-2 : tie.Need-array-read-union-2 Inv-loop μ-loop
-array-read-union-2 c = search needs
-
-only-requires-2 : tie.Need-only-requires-2 Inv-loop μ-loop
-only-requires-2 c κs = search needs
-
-union-requires-2 : tie.Need-union-requires-2 Inv-loop μ-loop
-union-requires-2 c κs = search needs
-
-mul-rows-2 : tie.Need-mul-rows-2 Inv-loop μ-loop
-mul-rows-2 c = search needs
-
-array-write-rows-2 : tie.Need-array-write-rows-2 Inv-loop μ-loop
-array-write-rows-2 c = search needs
-
-add-i : tie.Need-add-i Inv-loop μ-loop
-add-i c = search needs
-
-loop-less : tie.Need-loop-less Inv-loop μ-loop
-loop-less c = search needs
-
-loop-again : tie.Need-loop-again Inv-loop μ-loop
-loop-again c =
-    let on = c .before .before .before .before in
-    let b = on .before in
-    let a = b .before in
-    let loop = a .before .before .loop in
-    let start = a .before .before .before .before .args in
-    let nodes = a .before .before .before .working-nodes .result in
-    let cut = joined (start .failed .low) (start .failed .high) in
-    let first = set (loop .rows) (a .end .result) (c .before .before .union .result) in
-    let link = on-is nodes cut (start .links .now) (loop .i) (a .end .result) (b .end2 .result) (on .link-on .result) in (
-      omega arith,
+take-out-requires : tie.Need-take-out-requires
+take-out-requires c κs =
+    let w = c .before .before in
+    let a = w .before .before .before .before .before .args in (
+      c .before .between .ensures .0,
       (
-        simp length-set (loop .inv .1 .0),
-        rows-next nodes cut (start .links .now) (loop .rows) (loop .i) (a .end .result) (b .end2 .result) (on .link-on .result)
-            (c .before .before .union .result)
-            (c .union2 .result)
-            (loop .inv .1 .0)
-            (a .end .ensures .1)
-            (b .end2 .ensures .1)
-            (a .end .ensures .0)
-            (b .end2 .ensures .0)
-            (link (a .end .ensures .0) (b .end2 .ensures .0) (on .link-on .ensures .0))
-            (λ j. c .before .before .union .ensures j ∙ ap (λ (x : Bool). bit (getD (loop .rows) (a .end .result) 0) j || x) (c .before .before .before .only .ensures j))
-            (λ j. c .union2 .ensures j ∙ ap (λ (x : Bool). bit (getD first (b .end2 .result) 0) j || x) (c .before .only2 .ensures j))
-            (loop .inv .1 .1),
+        w .before .before .before .before .before .pre .0,
+        out-low-below (a .count) (a .links .now) (a .firsts) (a .all .now) (w .before .before .before .before .before .pre .1) (a .failed .low) (a .failed .high)
+            (w .before .before .before .both .result) (w .before .before .both2 .result) (w .before .less .result) (w .less2 .result) (changes w),
       ),
     )
 
-returns : tie.Need-returns Inv-loop μ-loop
+take-out-requires-2 : tie.Need-take-out-requires-2
+take-out-requires-2 c κs =
+    let w = c .before .before .before .before in
+    let a = w .before .before .before .before .before .args in (
+      c .before .take-out .ensures .0,
+      (
+        w .before .before .before .before .before .pre .0,
+        out-high-below (a .count) (a .links .now) (a .firsts) (a .all .now) (w .before .before .before .before .before .pre .1) (a .failed .low) (a .failed .high)
+            (w .before .before .before .both .result) (w .before .before .both2 .result) (w .before .less .result) (w .less2 .result) (changes w),
+      ),
+    )
+
+put-in-requires : tie.Need-put-in-requires
+put-in-requires c κs =
+    let w = c .before .before .before .before .before .before in
+    let a = w .before .before .before .before .before .args in (
+      c .before .take-out2 .ensures .0,
+      (
+        w .before .before .before .before .before .pre .0,
+        in-low-below (a .count) (a .links .now) (a .firsts) (a .all .now) (w .before .before .before .before .before .pre .1) (a .failed .low) (a .failed .high)
+            (w .before .before .before .both .result) (w .before .before .both2 .result) (w .before .less .result) (w .less2 .result) (changes w),
+      ),
+    )
+
+put-in-requires-2 : tie.Need-put-in-requires-2
+put-in-requires-2 c κs =
+    let w = c .before .before .before .before .before .before .before .before in
+    let a = w .before .before .before .before .before .args in (
+      c .before .put-in .ensures .0,
+      (
+        w .before .before .before .before .before .pre .0,
+        in-high-below (a .count) (a .links .now) (a .firsts) (a .all .now) (w .before .before .before .before .before .pre .1) (a .failed .low) (a .failed .high)
+            (w .before .before .before .both .result) (w .before .before .both2 .result) (w .before .less .result) (w .less2 .result) (changes w),
+      ),
+    )
+
+returns : tie.Need-returns
 returns c =
-    let start = c .before .before .before .args in
-    let loop = c .before .loop in
-    let nodes = c .before .before .working-nodes in
-    rows-all (start .n) (start .count) (start .links .now) (outage (start .failed)) (nodes .result) (nodes .ensures) (loop .i) (loop .rows)
-    (loop .inv .0)
-    (c .loop-test .left)
-    (loop .inv .1 .1)
+    let four = c .before .before in
+    let three = four .before .before in
+    let two = three .before .before in
+    let one = two .before .before in
+    let w = one .before in
+    let a = w .before .before .before .before .before .args in
+    let nodes = w .before .before .before .before .working-nodes in
+    scenario-rows (a .count) (a .links .now) (a .firsts) (a .all .now) (w .before .before .before .before .before .pre .1) (a .failed .low) (a .failed .high)
+    (w .before .before .before .both .result) (w .before .before .both2 .result) (w .before .less .result) (w .less2 .result) (changes w)
+    (a .n) (a .failed .nodes) (nodes .result) (nodes .ensures)
+    (one .between .result) (two .take-out .last .0) (three .take-out2 .last .0) (four .put-in .last .0) (c .put-in2 .last .0)
+    (one .between .ensures .1)
+    (two .take-out .ensures .1)
+    (three .take-out2 .ensures .1)
+    (four .put-in .ensures .1)
+    (c .put-in2 .ensures .1)
 
 pub neighbours-spec : {M : Type 1} → statement M
 neighbours-spec =
     tie.close
     (tie.spec
-    Inv-loop
-    μ-loop
     working-nodes-requires
-    loop-holds
-    end-requires
-    end-requires-2
-    link-on-requires
-    mul-union
-    array-read-union
-    only-requires
-    union-requires
-    mul-rows
-    array-write-rows
-    mul-union-2
-    array-read-union-2
-    only-requires-2
-    union-requires-2
-    mul-rows-2
-    array-write-rows-2
-    add-i
-    loop-less
-    loop-again
+    both-requires
+    both-requires-2
+    less-requires
+    less-requires-2
+    between-requires
+    take-out-requires
+    take-out-requires-2
+    put-in-requires
+    put-in-requires-2
     returns)

@@ -1,0 +1,86 @@
+-- `topology::changes::take_out` meets its contract. The loop's invariant: with the links left taken out, the rows are what they are to be. Assumes nothing.
+use borrow.Author.Needs.{needs}
+use native.Mathlib.Omega.{arith}
+use Prim.Native.Nat.{_+_, _≤_, _<_}
+use Rattle.topology.proofs.RowSets.{Taking, taking-none, taking-next, taking-all}
+use Rattle.topology.proofs.changes.take_out.Statement.{statement}
+use Rattle.topology.proofs.changes.take_out.Tie as tie
+
+abbrev Inv-loop : tie.InvT-loop
+Inv-loop rows₀ n links count base set left₀ rows left = (left ≤ set) × Taking links base set rows₀ rows left
+
+abbrev μ-loop : tie.MeasureT-loop
+μ-loop rows₀ n links count base set left₀ rows left = left
+
+loop-holds : tie.Need-loop-holds Inv-loop μ-loop
+loop-holds c = (omega arith, taking-none _ _ _ _ (c .pre .0))
+
+lowest-requires : tie.Need-lowest-requires Inv-loop μ-loop
+lowest-requires c κs = search needs
+
+-- the element found is the number of a link
+below : (c : tie.After-lowest Inv-loop μ-loop) → c .before .before .before .args .base + c .lowest .result < c .before .before .before .args .count
+below c = c .before .before .before .pre .1 .1 (c .lowest .result) (c .before .before .loop .inv .1 .within (c .lowest .result) (c .lowest .ensures .1 .1 .0))
+
+add-i : tie.Need-add-i Inv-loop μ-loop
+add-i c = omega (arith, below c)
+
+end-requires : tie.Need-end-requires Inv-loop μ-loop
+end-requires c κs = (c .before .before .before .pre .1 .0, (below c, omega arith))
+
+end-requires-2 : tie.Need-end-requires-2 Inv-loop μ-loop
+end-requires-2 c κs = (c .before .before .before .before .pre .1 .0, (below (c .before), omega arith))
+
+part-requires : tie.Need-part-requires Inv-loop μ-loop
+part-requires c κs = (c .before .before .before .before .before .loop .inv .1 .size, (c .before .before .end .ensures .1, c .before .end2 .ensures .1))
+
+rest-requires : tie.Need-rest-requires Inv-loop μ-loop
+rest-requires c κs = search needs
+
+loop-less : tie.Need-loop-less Inv-loop μ-loop
+loop-less c = c .rest .ensures .0
+
+loop-again : tie.Need-loop-again Inv-loop μ-loop
+loop-again c =
+    let two = c .before .before .before in
+    let one = two .before in
+    let at = one .before in
+    let loop = at .before .before .loop in
+    let a = at .before .before .before .args in (
+      omega (arith, c .rest .ensures .0),
+      taking-next (a .links .now) (a .base) (a .set) (a .rows .now) (loop .rows) (c .before .part .last .0) (loop .left) (c .rest .result) _ (at .lowest .result)
+          (one .end .result)
+          (two .end2 .result)
+          (at .lowest .ensures .0)
+          (at .lowest .ensures .1 .0)
+          (at .lowest .ensures .1 .1 .0)
+          (c .rest .ensures .1)
+          (one .end .ensures .0)
+          (two .end2 .ensures .0)
+          (c .before .part .ensures .0)
+          (c .before .part .ensures .1)
+          (loop .inv .1),
+    )
+
+returns : tie.Need-returns Inv-loop μ-loop
+returns c =
+    let loop = c .before .loop in
+    let a = c .before .before .args in
+    (loop .inv .1 .size, taking-all (a .links .now) (a .base) (a .set) (a .rows .now) (loop .rows) (loop .left) (c .loop-test .left) (loop .inv .1))
+
+pub take-out-spec : {M : Type 1} → statement M
+take-out-spec =
+    tie.close
+    (tie.spec
+    Inv-loop
+    μ-loop
+    loop-holds
+    lowest-requires
+    add-i
+    end-requires
+    end-requires-2
+    part-requires
+    rest-requires
+    loop-less
+    loop-again
+    returns)
