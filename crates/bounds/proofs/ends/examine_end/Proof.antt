@@ -17,7 +17,7 @@ returns c = rw (c .before .before .if1 .taken) (c .examine .ensures)
 
 -- src/ends.rt:42:1
 returns-2 : tie.Need-returns-2
-returns-2 c = rw (c .if1 .left) (passed _ _ _ _ _ (c .before .pre .1 .1 .sized))
+returns-2 c = rw (c .if1 .left) (passed _ _ _ _ _ (c .before .pre .1 .1 .1 .sized))
 
 pub examine-end-spec : {M : Type 1} → statement M
 examine-end-spec = tie.close (tie.spec examine-requires returns returns-2)

@@ -11,15 +11,15 @@ use Rattle.bounds.proofs.ends.one_more.Reads as one-more-reads
 use Rattle.walk.proofs.next_end.Reads as next-end-reads
 
 abbrev Inv-loop : tie.InvT-loop
-Inv-loop h links words stack₀ lower₀ k at₀ number₀ mass₀ left₀ stack lower at number mass left =
+Inv-loop h links words all firsts stack₀ lower₀ k at₀ number₀ mass₀ left₀ stack lower at number mass left =
     Turn h links words at₀ stack₀ lower₀ number₀ mass₀ k stack lower at number mass left
 
 abbrev μ-loop : tie.MeasureT-loop
-μ-loop h links words stack₀ lower₀ k at₀ number₀ mass₀ left₀ stack lower at number mass left = left
+μ-loop h links words all firsts stack₀ lower₀ k at₀ number₀ mass₀ left₀ stack lower at number mass left = left
 
 -- src/ends.rt:91:5
 loop-holds : tie.Need-loop-holds Inv-loop μ-loop
-loop-holds c = record { numbers = refl; masses = refl; entries = λ v w l e. refl; rest = refl; ready = c .pre }
+loop-holds c = record { numbers = refl; masses = refl; entries = λ v w l e. refl; rest = refl; ready = c .pre .1 }
 
 -- src/ends.rt:93:13
 returns : tie.Need-returns Inv-loop μ-loop
@@ -36,7 +36,10 @@ examine-end-requires : tie.Need-examine-end-requires Inv-loop μ-loop
 examine-end-requires c κs =
     let g = c .before .before .before .before .before .loop .inv in (
       g .ready .held,
-      (c .before .next-end .ensures .decided, end-sums _ _ _ _ _ _ _ _ _ _ _ _ _ _ _ g (c .before .before .before .if1 .left) _ _ (c .before .next-end .ensures)),
+      (
+        c .before .before .before .before .before .before .pre .0,
+        (c .before .next-end .ensures .decided, end-sums _ _ _ _ _ _ _ _ _ _ _ _ _ _ _ g (c .before .before .before .if1 .left) _ _ (c .before .next-end .ensures)),
+      ),
     )
 
 -- src/ends.rt:107:9
