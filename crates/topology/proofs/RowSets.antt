@@ -13,7 +13,7 @@ use lib.Seq.{getD-set-same, getD-set-other}
 use borrow.Author.Tests.{eqb-true, eq-eqb, ne-eqb, lt-ltb, le-ltb}
 use Rattle.sets.specs.Sets.{bit, digit}
 use Rattle.sets.specs.Laws.{bit-none}
-use Rattle.sets.specs.Bools.{same-bool, which, clash, and-left, and-right, or-either}
+use Rattle.sets.specs.Bools.{same-bool, which, and-left, and-right, or-either}
 use Rattle.topology.specs.Topology.{ends}
 use Rattle.topology.specs.Whole.{endsOf, linkIn, joinedBy}
 use Rattle.topology.proofs.LinkBytes.{eqb-digit}

@@ -4,25 +4,25 @@
 use mathlib.Core.Path.{_≡_, refl, sym, ap, ap₂, _∙_, subst}
 use mathlib.Core.Bool.{Bool, true, false, not, _&&_, _||_}
 use mathlib.Core.List.{List}
-use mathlib.Core.Logic.{_⊎_, inl, inr, ⊎-elim}
+use mathlib.Core.Logic.{_⊎_, inl, inr}
 use Prim.Native.Nat.{ℕ, _+_, _^_, _<_}
 use native.Mathlib.Omega.{arith}
 use lib.Dec.{eqb, ltb}
 use lib.ListN.{getD}
 use borrow.Author.Tests.{eqb-true, ltb-true, lt-ltb}
 use Rattle.sets.specs.Sets.{bit, joined}
-use Rattle.sets.specs.Bools.{and-left, and-right, and-both, or-either, or-left, or-right, which, clash, not-so, not-of, of-not, same-bool, anyBelow, any-found, any-here}
+use Rattle.sets.specs.Bools.{and-left, and-right, and-both, or-either, or-left, or-right, which, clash, not-so, not-of, of-not, same-bool, any-found, any-here}
 use Rattle.plan.specs.Plan.{Link}
 use Rattle.plan.specs.Lists.{linksOf}
 use Rattle.topology.specs.Outage.{Outage}
-use Rattle.topology.specs.Topology.{networkOf, linkAt, linkWorks, ends, joins, adjacent}
+use Rattle.topology.specs.Topology.{networkOf, linkWorks, ends, joins, adjacent}
 use Rattle.topology.specs.Works.{adjacent-link, link-adjacent, link-below, link-nodes}
 use Rattle.topology.specs.Whole.{linkIn, repeats, joinedBy, Whole}
 use Rattle.topology.specs.declared.Firsts.{Firsts}
-use Rattle.topology.proofs.LinkBytes.{worksBy, works-below, link-at, length-links}
+use Rattle.topology.proofs.LinkBytes.{works-below, link-at, length-links}
 use Rattle.topology.proofs.Shown.{nodes-shown}
 use Rattle.topology.proofs.Words.{joined-by, in-low-word, in-high-word, two-found, two-here}
-use Rattle.topology.proofs.Repeats.{FirstLink, first-link, one-first}
+use Rattle.topology.proofs.Repeats.{first-link, one-first}
 
 module _ (n count : ℕ) (bytes : List ℕ) (out : Outage) (nodes : ℕ) (law : (v : ℕ) → bit nodes v ≡ (ltb v n && not (bit (out .nodes) v))) (v w : ℕ) where
   -- a link that has not failed and joins two working nodes

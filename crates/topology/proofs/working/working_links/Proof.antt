@@ -5,7 +5,7 @@ use mathlib.Core.Bool.{_&&_}
 use Prim.Native.Nat.{ℕ, _-_, _≤_}
 use native.Mathlib.Omega.{arith}
 use lib.Dec.{ltb}
-use Rattle.sets.specs.Sets.{bit, joined, digit}
+use Rattle.sets.specs.Sets.{bit, joined}
 use Rattle.topology.specs.Code.{outage}
 use Rattle.topology.proofs.LinkBytes.{worksBy, works-is, on-is, decided-none, decided-next, decided-all}
 use Rattle.topology.proofs.working.working_links.Statement.{statement}
