@@ -56,7 +56,7 @@ module _ (bytes : List ℕ) where
       pub whole-next : Whole bytes (i + 1) (firstsOf low′ high′ more′ most′) after
       whole-next = record {
         rows = rows-next;
-        once = decided-next (λ j. not (repeats bytes j)) (bitXor seen 1) i (joined low high) (joined low′ high′) (turned-digit (repeats bytes i) seen seen-is .0) (old .once) one;
+        once = decided-next (λ j. not (repeats bytes j)) (bitXor seen 1) i (joined low high) (joined low′ high′) (turned-digit (repeats bytes i) seen seen-is) (old .once) one;
         again = decided-next (λ j. repeats bytes j) seen i (joined more most) (joined more′ most′) seen-is (old .again) other;
       }
 

@@ -42,14 +42,18 @@ both-digit one other a b ea eb =
     cases false true = refl
     cases false false = refl
 
-pub turned-digit : (b : Bool) (d : ℕ) → d ≡ digit b → (bitXor d 1 ≡ digit (not b)) × (bitXor d 1 < 2) × (d < 2)
-turned-digit b d e =
-    let t : bitXor d 1 ≡ digit (not b) = rw e (cases b) in
-    (t, rw t (digit-lt (not b)), rw e (digit-lt b))
+pub turned-digit : (b : Bool) (d : ℕ) → d ≡ digit b → bitXor d 1 ≡ digit (not b)
+turned-digit b d e = rw e (cases b)
   where
     cases : (x : Bool) → bitXor (digit x) 1 ≡ digit (not x)
     cases true = refl
     cases false = refl
+
+-- an element's digit, and what it turns to, are digits
+pub element-digit : (s i d : ℕ) → d ≡ digit (bit s i) → (bitXor d 1 < 2) × (d < 2)
+element-digit s i d e =
+    let t = turned-digit (bit s i) d e in
+    (rw t (digit-lt (not (bit s i))), rw e (digit-lt (bit s i)))
 
 -- a set times a digit: itself, or the empty set
 pub times-fits : (s d : ℕ) (b : Bool) → d ≡ digit b → s * d ≤ s

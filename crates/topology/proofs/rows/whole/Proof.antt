@@ -2,13 +2,11 @@
 use borrow.Author.Needs.{needs}
 use mathlib.Core.Path.{_≡_, sym, ap, subst}
 use mathlib.Core.List.{List}
-use Prim.Native.Nat.{ℕ, _-_, _≤_, _<_}
+use Prim.Native.Nat.{ℕ, _-_, _≤_}
 use native.Mathlib.Omega.{arith}
-use lib.Bits.{bitXor}
-use lib.ListN.{length, getD}
-use Rattle.sets.specs.Sets.{bit}
+use lib.ListN.{length}
 use Rattle.topology.specs.Whole.{Whole}
-use Rattle.topology.proofs.Digits.{turned-digit}
+use Rattle.topology.proofs.Digits.{element-digit}
 use Rattle.topology.proofs.AllLinks.{firstsOf, whole-none, whole-next, whole-all}
 use Rattle.topology.proofs.rows.whole.Statement.{statement}
 use Rattle.topology.proofs.rows.whole.Tie as tie
@@ -41,18 +39,11 @@ element-copy-out-at c = search needs
 at-requires : tie.Need-at-requires Inv-loop μ-loop
 at-requires c κs = search needs
 
--- whether the rows have the link already is a digit, and so is whether they do not
-digits : (c : tie.After-at Inv-loop μ-loop) → (bitXor (c .at .result) 1 < 2) × (c .at .result < 2)
-digits c =
-    let two = c .before .before in
-    let d = turned-digit (bit (getD (two .before .before .before .loop .rows) (two .before .end .result) 0) (two .end2 .result)) (c .at .result) (c .at .ensures) in
-    (d .1, d .2)
-
 with-link-requires : tie.Need-with-link-requires Inv-loop μ-loop
-with-link-requires c κs = (digits c .0, omega arith)
+with-link-requires c κs = (element-digit _ _ _ (c .at .ensures) .0, omega arith)
 
 with-link-requires-2 : tie.Need-with-link-requires-2 Inv-loop μ-loop
-with-link-requires-2 c κs = (digits (c .before) .1, omega arith)
+with-link-requires-2 c κs = (element-digit _ _ _ (c .before .at .ensures) .1, omega arith)
 
 join-requires : tie.Need-join-requires Inv-loop μ-loop
 join-requires c κs =
