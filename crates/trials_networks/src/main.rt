@@ -8,6 +8,8 @@ fn main() {
     networks::end_nodes();
     networks::end_node_pairs();
     networks::parallel();
+    networks::parallel_pairs();
+    networks::parallel_words();
     networks::without_links();
     networks::ring();
     networks::ring_nodes();
@@ -15,7 +17,6 @@ fn main() {
     networks::top_bits();
     networks::word_ends();
     networks::word_end_pairs();
-    networks::cut_off();
     networks::outages();
     io::write_all(1, b"trials ended\n");
 }

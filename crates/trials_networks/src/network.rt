@@ -89,7 +89,7 @@ fn working(
     same_part(label, b"working links 64 to 127", up.high, high);
 }
 
-// Holds what each node is connected to, and what each node reaches, to a list of sets.
+// Holds what each node reaches to a list of sets.
 pub fn parts(
     label: &[u8],
     n: usize,
@@ -117,13 +117,10 @@ fn compared(
 )
     requires { ⌜ LinksHeld n (now links) count ⌝ }
 {
-    let rows = topology::connections(n, failed, links, count);
     let mut v = 0;
     while v < 64 {
-        let expected = at_node(want, first, v);
-        same_at(label, v, rows[v], expected);
         let reach = topology::reach_from(n, failed, links, count, v);
-        same_at(label, v, reach.set, expected);
+        same_at(label, v, reach.set, at_node(want, first, v));
         v += 1;
     }
 }

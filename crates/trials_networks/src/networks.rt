@@ -132,6 +132,82 @@ pub fn parallel() {
     );
 }
 
+// Links 0-1, 1-2 and 0-1 again: links 0 and 2 are parallel.
+pub fn parallel_pairs() {
+    let l = links(b"\x00\x01\x01\x02\x00\x01");
+    // link 0 down, link 2 up: all three are joined
+    parts(
+        b"first of two down",
+        3,
+        &l,
+        3,
+        failed(0, 1, 0),
+        0,
+        &[7, 7, 7],
+    );
+    // link 2 down, link 0 up
+    pair(b"second of two down", 3, &l, 3, failed(0, 4, 0), 0, 2, 0);
+    // both down (1 + 4 = 5): node 0 is alone, and 1 and 2 are joined
+    parts(
+        b"both of two down",
+        3,
+        &l,
+        3,
+        failed(0, 5, 0),
+        0,
+        &[1, 6, 6],
+    );
+    // link 0 and node 1 down: link 2 is down with its end
+    parts(
+        b"first of two and an end down",
+        3,
+        &l,
+        3,
+        failed(2, 1, 0),
+        0,
+        &[1, 0, 4],
+    );
+}
+
+// Links 0 and 127 of `many_links`, both 0-43 here, with nodes 0 and 43 alone up: 1 + 2^43 = 8,796,093,022,209, and 2^64 - 1 less that is
+// 18,446,735,277,616,529,406.
+pub fn parallel_words() {
+    let mut l = many_links();
+    put_bytes(b"\x00\x2b", &mut l, 254, 2);
+    let down = 18_446_735_277_616_529_406;
+    let last = 9_223_372_036_854_775_808;
+    pair(
+        b"0-43, link 0 down",
+        64,
+        &l,
+        128,
+        failed(down, 1, 0),
+        0,
+        43,
+        0,
+    );
+    pair(
+        b"0-43, link 127 down",
+        64,
+        &l,
+        128,
+        failed(down, 0, last),
+        0,
+        43,
+        0,
+    );
+    pair(
+        b"0-43, links 0 and 127 down",
+        64,
+        &l,
+        128,
+        failed(down, 1, last),
+        0,
+        43,
+        1,
+    );
+}
+
 // No link: every node that works is alone. What stands in the array past the count, here 0-1, joins nothing.
 pub fn without_links() {
     let l = links(b"\x00\x01");
@@ -295,22 +371,6 @@ pub fn word_end_pairs() {
         44,
         1,
     );
-}
-
-// The nodes above v that are not in its part.
-pub fn cut_off() {
-    // of nodes 0 to 3, node 0 has 0 and 1 in its part: 2 and 3 are cut off (4 + 8)
-    same(b"cut off from node 0", topology::cut_after(4, 3, 0), 12);
-    // node 1 of the same part, and node 2, whose part is 2 and 3
-    same(b"cut off from node 1", topology::cut_after(4, 3, 1), 12);
-    same(b"cut off from node 2", topology::cut_after(4, 12, 2), 0);
-    // node 0 alone of 64: all others, 2^64 - 2
-    same(
-        b"cut off from node 0 of 64",
-        topology::cut_after(64, 1, 0),
-        18_446_744_073_709_551_614,
-    );
-    same(b"cut off from node 63", topology::cut_after(64, 0, 63), 0);
 }
 
 // What has failed, over the failing events and beside what had failed at the start.

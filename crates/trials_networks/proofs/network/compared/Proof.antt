@@ -5,34 +5,22 @@ use Rattle.trials_networks.proofs.network.compared.Statement.{statement
 use Rattle.trials_networks.proofs.network.compared.Tie as tie
 
 abbrev Inv-loop : tie.InvT-loop
-Inv-loop label n links count failed first want rows v₀ v = v ≤ 64
+Inv-loop label n links count failed first want v₀ v = v ≤ 64
 
 abbrev μ-loop : tie.MeasureT-loop
-μ-loop label n links count failed first want rows v₀ v = 64 - v
-
-connections-requires : tie.Need-connections-requires Inv-loop μ-loop
-connections-requires c κs = search needs
+μ-loop label n links count failed first want v₀ v = 64 - v
 
 loop-holds : tie.Need-loop-holds Inv-loop μ-loop
 loop-holds c = search needs
 
-at-node-requires : tie.Need-at-node-requires Inv-loop μ-loop
-at-node-requires c κs = search needs
-
-mul-same-at : tie.Need-mul-same-at Inv-loop μ-loop
-mul-same-at c = search needs
-
-array-read-same-at : tie.Need-array-read-same-at Inv-loop μ-loop
-array-read-same-at c = search needs
-
-same-at-requires : tie.Need-same-at-requires Inv-loop μ-loop
-same-at-requires c κs = search needs
-
 reach-from-requires : tie.Need-reach-from-requires Inv-loop μ-loop
 reach-from-requires c κs = search needs
 
-same-at-requires-2 : tie.Need-same-at-requires-2 Inv-loop μ-loop
-same-at-requires-2 c κs = search needs
+at-node-requires : tie.Need-at-node-requires Inv-loop μ-loop
+at-node-requires c κs = search needs
+
+same-at-requires : tie.Need-same-at-requires Inv-loop μ-loop
+same-at-requires c κs = search needs
 
 add-v : tie.Need-add-v Inv-loop μ-loop
 add-v c = search needs
@@ -52,14 +40,10 @@ compared-spec =
     (tie.spec
     Inv-loop
     μ-loop
-    connections-requires
     loop-holds
-    at-node-requires
-    mul-same-at
-    array-read-same-at
-    same-at-requires
     reach-from-requires
-    same-at-requires-2
+    at-node-requires
+    same-at-requires
     add-v
     loop-less
     loop-again
