@@ -1,8 +1,8 @@
 //! The text of the listing program.
 
-use crate::bounds::run;
+use crate::bounds::{run, Bounds, Outcome};
 use crate::file::parse;
-use crate::plan::Plan;
+use crate::plan::{pairs, Header};
 
 /// A line of decimal numbers.
 fn line(numbers: &[u64]) -> String {
@@ -10,10 +10,8 @@ fn line(numbers: &[u64]) -> String {
     fields.join(" ") + "\n"
 }
 
-/// The listing of a plan.
-fn plan_listing(plan: &Plan) -> String {
-    let (outcome, bounds) = run(plan);
-    let header = plan.header();
+/// The lines of a listing, from what a run answered and the bounds of all pairs.
+pub fn text(header: &Header, outcome: &Outcome, bounds: &[Bounds]) -> String {
     let mut text = line(&[
         header.nodes,
         header.links,
@@ -22,7 +20,7 @@ fn plan_listing(plan: &Plan) -> String {
         outcome.complete,
         outcome.mass,
     ]);
-    for ((v, w), bound) in plan.pairs().into_iter().zip(bounds) {
+    for ((v, w), bound) in pairs(header.nodes as usize).into_iter().zip(bounds) {
         text += &line(&[v as u64, w as u64, bound.lower, bound.upper]);
     }
     text
@@ -31,7 +29,10 @@ fn plan_listing(plan: &Plan) -> String {
 /// What the listing program writes for an input.
 pub fn listing(bytes: &[u8]) -> String {
     match parse(bytes) {
-        Ok(plan) => plan_listing(&plan),
+        Ok(plan) => {
+            let (outcome, bounds) = run(&plan);
+            text(&plan.header(), &outcome, &bounds)
+        }
         Err(refusal) => format!("refused {}\n", refusal.number()),
     }
 }

@@ -154,9 +154,14 @@ impl Plan {
         self.events.iter().flat_map(Event::words).collect()
     }
 
-    /// The pairs v < w, by v, then w.
+    /// The pairs of the plan's nodes.
     pub fn pairs(&self) -> Vec<(usize, usize)> {
-        let of = |v| (v + 1..self.nodes).map(move |w| (v, w));
-        (0..self.nodes).flat_map(of).collect()
+        pairs(self.nodes)
     }
+}
+
+/// The pairs v < w of so many nodes, by v, then w.
+pub fn pairs(nodes: usize) -> Vec<(usize, usize)> {
+    let of = |v| (v + 1..nodes).map(move |w| (v, w));
+    (0..nodes).flat_map(of).collect()
 }

@@ -6,6 +6,7 @@ pub mod host;
 #[cfg(feature = "listing")]
 pub mod listing;
 pub mod probe;
+pub mod proved;
 #[cfg(feature = "readings")]
 pub mod readings;
 pub mod tally;

@@ -1,7 +1,7 @@
 //! Check and read of plan files, valid and damaged, against the account.
 
 use account::file::layout;
-use conformance::{compare, probe, Tally};
+use conformance::{compare, probe, proved, Tally};
 use plans::damage::damaged_file;
 use plans::valid::{plan_of_size, random_plan, FULL};
 use plans::Rng;
@@ -56,23 +56,12 @@ fn what_was_read_is_written_again() {
             _ => random_plan(&mut rng),
         };
         let bytes = layout(&plan);
-        let (mut links, mut events) = (vec![0; 256], vec![0; 512]);
-        let (refusal, n) = probe::read(&bytes, &mut links, &mut events);
-        assert_eq!(refusal, 0);
-        let header = account::Header {
-            nodes: n[0],
-            links: n[1],
-            events: n[2],
-            threshold: n[3],
-            cap: n[4],
-        };
-        let lent = account::Lent {
-            header,
-            links: &links,
-            events: &events,
-        };
+        let lists = proved::read(&bytes).expect("a valid plan");
         let mut out = vec![0; bytes.len()];
-        assert_eq!(probe::write(&lent, &mut out), (0, bytes.len() as u64));
+        assert_eq!(
+            probe::write(&lists.lent(), &mut out),
+            (0, bytes.len() as u64)
+        );
         assert_eq!(out, bytes);
     }
 }

@@ -6,15 +6,14 @@
 
 use std::path::Path;
 
-use account::{Header, Lent};
-use conformance::probe;
+use account::Lent;
+use conformance::proved::MOST_PAIRS;
+use conformance::{probe, proved};
 use plans::examples::BENCHMARK;
 use plans::Lists;
 
-const PAIRS: usize = 2016;
-
 /// The lists of bounds; they are cleared before each run.
-type Bounds = [u64; PAIRS];
+type Bounds = [u64; MOST_PAIRS];
 
 /// Seconds and nanoseconds, as the C library gives them.
 #[repr(C)]
@@ -47,23 +46,7 @@ fn processor_time() -> f64 {
 fn lists_of(name: &str) -> Lists {
     let path = Path::new(env!("CARGO_MANIFEST_DIR")).join("../../examples");
     let bytes = std::fs::read(path.join(name)).expect("an example file");
-    let (mut links, mut events) = (vec![0; 256], vec![0; 512]);
-    let (refusal, n) = probe::read(&bytes, &mut links, &mut events);
-    assert_eq!(refusal, 0, "{name} is refused");
-    links.truncate(2 * n[1] as usize);
-    events.truncate(4 * n[2] as usize);
-    let header = Header {
-        nodes: n[0],
-        links: n[1],
-        events: n[2],
-        threshold: n[3],
-        cap: n[4],
-    };
-    Lists {
-        header,
-        links,
-        events,
-    }
+    proved::read(&bytes).expect("a plan that meets no refusal")
 }
 
 fn run_proved(lent: &Lent, lower: &mut Bounds, upper: &mut Bounds) -> [u64; 3] {
@@ -89,7 +72,7 @@ type Program = fn(&Lent, &mut Bounds, &mut Bounds) -> [u64; 3];
 
 /// The answer of one run and its time in milliseconds.
 fn timed(program: Program, lent: &Lent) -> ([u64; 3], Bounds, Bounds, f64) {
-    let (mut lower, mut upper) = ([0; PAIRS], [0; PAIRS]);
+    let (mut lower, mut upper) = ([0; MOST_PAIRS], [0; MOST_PAIRS]);
     let start = processor_time();
     let result = program(lent, &mut lower, &mut upper);
     let time = processor_time() - start;

@@ -1,0 +1,80 @@
+//! A whole plan by the proved code: its lists from a file, its file, its bounds and the lines of its listing.
+
+use account::bounds::{Bounds, Outcome};
+use account::listing::text;
+use account::{Header, EVENT_WORDS, MOST_EVENTS, MOST_LINKS};
+use plans::Lists;
+
+use crate::probe;
+
+/// The most pairs of a plan.
+pub const MOST_PAIRS: usize = 2016;
+
+/// The longest plan file.
+const LONGEST: usize = 50_068;
+
+/// The lists of a plan file, exactly as long as its counts, or the refusal's number.
+pub fn read(bytes: &[u8]) -> Result<Lists, u32> {
+    let mut links = vec![0; 2 * MOST_LINKS as usize];
+    let mut events = vec![0; EVENT_WORDS * MOST_EVENTS as usize];
+    let (refusal, n) = probe::read(bytes, &mut links, &mut events);
+    if refusal != 0 {
+        return Err(refusal);
+    }
+    let header = Header {
+        nodes: n[0],
+        links: n[1],
+        events: n[2],
+        threshold: n[3],
+        cap: n[4],
+    };
+    links.truncate(2 * header.links as usize);
+    events.truncate(EVENT_WORDS * header.events as usize);
+    Ok(Lists {
+        header,
+        links,
+        events,
+    })
+}
+
+/// The plan file of lists, or the refusal's number.
+pub fn write(lists: &Lists) -> Result<Vec<u8>, u32> {
+    let mut bytes = vec![0; LONGEST];
+    match probe::write(&lists.lent(), &mut bytes) {
+        (0, size) => {
+            bytes.truncate(size as usize);
+            Ok(bytes)
+        }
+        (refusal, _) => Err(refusal),
+    }
+}
+
+/// The run over all pairs of lists that meet no refusal.
+pub fn run(lists: &Lists) -> (Outcome, Vec<Bounds>) {
+    let (mut lower, mut upper) = (vec![0; MOST_PAIRS], vec![0; MOST_PAIRS]);
+    let (refusal, [count, complete, mass]) = probe::run(&lists.lent(), &mut lower, &mut upper);
+    assert_eq!(refusal, 0, "the run of a plan that meets no refusal");
+    let nodes = lists.header.nodes as usize;
+    let bounds = lower.into_iter().zip(upper).take(nodes * (nodes - 1) / 2);
+    let outcome = Outcome {
+        count,
+        complete,
+        mass,
+    };
+    let bounds = bounds.map(|(lower, upper)| Bounds { lower, upper });
+    (outcome, bounds.collect())
+}
+
+/// The lines of document 01's listing for lists that meet no refusal.
+pub fn plan_listing(lists: &Lists) -> String {
+    let (outcome, bounds) = run(lists);
+    text(&lists.header, &outcome, &bounds)
+}
+
+/// The lines of document 01's listing for an input.
+pub fn listing(bytes: &[u8]) -> String {
+    match read(bytes) {
+        Ok(lists) => plan_listing(&lists),
+        Err(refusal) => format!("refused {refusal}\n"),
+    }
+}

@@ -1,0 +1,129 @@
+//! The command `planner`.
+
+use std::io::Write;
+use std::path::Path;
+use std::process::ExitCode;
+
+use conformance::proved;
+use planner::{listing, parse, print, Named};
+use plans::Lists;
+
+const HELP: &str = "\
+planner file PLAN.txt OUT.plan     writes the plan file of a plan in text form
+planner text IN.plan               prints a plan file in text form, with n0, l0, e0 for names
+planner listing PLAN.txt|IN.plan   prints the bounds of each pair for people, the worst pair first
+planner bounds PLAN.txt|IN.plan    prints the bounds as the program listing does, line by line
+
+A name that ends in .plan is read as a plan file, every other as text.
+
+The text form, a line for each thing, what is named standing above; # starts a comment:
+  threshold T            scenarios of less mass are left out; units of 10^-18, 1 to 10^18
+  cap C                  the most ends of the walk, 1 to 1000000
+  node NAME              a station; at most 64
+  link NAME NODE NODE    at most 128; parallel ones are allowed
+  event NAME Q MEMBER..  what fails together, nodes and links; Q in 10^-9, never rising; at most 128
+
+This is a convenience outside the proof. The bounds and plan files come from the proved code; the
+text form, the names and the layout of what is printed are not proved.
+";
+
+fn main() -> ExitCode {
+    let words: Vec<String> = std::env::args().skip(1).collect();
+    let words: Vec<&str> = words.iter().map(String::as_str).collect();
+    let done = match words[..] {
+        ["--help" | "-h" | "help"] => Ok(HELP.to_string()),
+        ["file", from, to] => write_file(from, to),
+        ["text", from] => read_file(from).map(|named| text_of(from, &named)),
+        ["listing", from] => read_any(from).map(|named| listing(&named)),
+        ["bounds", from] => {
+            read_any(from).map(|named| proved::plan_listing(&Lists::of(&named.plan)))
+        }
+        _ => {
+            eprint!("planner: expected one of these\n\n{HELP}");
+            return ExitCode::from(2);
+        }
+    };
+    let printed = done.and_then(|text| show(&text));
+    match printed {
+        Ok(()) => ExitCode::SUCCESS,
+        Err(fault) => {
+            eprintln!("planner: {fault}");
+            ExitCode::FAILURE
+        }
+    }
+}
+
+/// Prints a text. A reader that stops early, as `head` does, is no fault.
+fn show(text: &str) -> Result<(), String> {
+    match std::io::stdout().write_all(text.as_bytes()) {
+        Err(error) if error.kind() != std::io::ErrorKind::BrokenPipe => Err(error.to_string()),
+        _ => Ok(()),
+    }
+}
+
+fn bytes_of(path: &str) -> Result<Vec<u8>, String> {
+    std::fs::read(path).map_err(|error| format!("{path}: {error}"))
+}
+
+/// A plan in text form.
+fn read_text(path: &str) -> Result<Named, String> {
+    let bytes = bytes_of(path)?;
+    let text = String::from_utf8(bytes).map_err(|error| {
+        let valid = error.utf8_error().valid_up_to();
+        let line = 1 + error.as_bytes()[..valid]
+            .iter()
+            .filter(|&&b| b == b'\n')
+            .count();
+        format!("{path}: line {line}: expected text in UTF-8; found other bytes")
+    })?;
+    parse(&text).map_err(|fault| format!("{path}: {fault}"))
+}
+
+/// A plan file, by the proved reader.
+fn read_file(path: &str) -> Result<Named, String> {
+    let lists = proved::read(&bytes_of(path)?)
+        .map_err(|number| format!("{path}: refused {number}, {}", reason(number)))?;
+    let plan = lists.lent().plan().expect("a plan that was read");
+    Ok(Named::by_number(plan))
+}
+
+fn read_any(path: &str) -> Result<Named, String> {
+    match Path::new(path).extension() {
+        Some(extension) if extension == "plan" => read_file(path),
+        _ => read_text(path),
+    }
+}
+
+/// Writes the plan file of a text, by the proved writer.
+fn write_file(from: &str, to: &str) -> Result<String, String> {
+    let named = read_text(from)?;
+    let bytes = proved::write(&Lists::of(&named.plan))
+        .map_err(|number| format!("{from}: refused {number}, {}", reason(number)))?;
+    std::fs::write(to, bytes).map_err(|error| format!("{to}: {error}"))?;
+    Ok(String::new())
+}
+
+fn text_of(from: &str, named: &Named) -> String {
+    format!(
+        "# From {from}. A plan file holds no names: node, link and event i are n, l and e with i.\n{}",
+        print(named)
+    )
+}
+
+/// What a refusal of a plan file means.
+fn reason(number: u32) -> &'static str {
+    match number {
+        1 => "the bytes end inside header, link, event or member",
+        2 => "the mark is not RSG",
+        3 => "the version is not 1",
+        4 => "a count is out of range",
+        5 => "the threshold is 0 or above 10^18",
+        6 => "the cap is 0 or above 1000000",
+        7 => "a link end is no node, or the first is not smaller than the second",
+        8 => "a probability is above 10^9",
+        9 => "a probability is above that of the event before",
+        10 => "a member has a wrong kind or number, or does not rise",
+        11 => "bytes are left after the last event",
+        _ => "see the table of refusals",
+    }
+}
