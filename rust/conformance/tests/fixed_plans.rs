@@ -3,16 +3,17 @@
 use account::file::{layout, parse};
 use account::{Plan, WHOLE};
 use conformance::{compare, probe};
-use plans::examples::{examples, halves, longest, longest_with_last_count_255, triangle};
+use plans::examples::{files_with, halves, longest, longest_with_last_count_255, triangle};
 use plans::{Lists, Rng};
 
 #[test]
 fn the_example_files() {
     let mut rng = Rng::for_stream(31);
-    for example in examples() {
-        compare::check(&example.bytes);
-        compare::read(&mut rng, &example.bytes);
-        if let Ok(plan) = parse(&example.bytes) {
+    for path in files_with("plan") {
+        let bytes = std::fs::read(path).expect("an example file");
+        compare::check(&bytes);
+        compare::read(&mut rng, &bytes);
+        if let Ok(plan) = parse(&bytes) {
             let lists = Lists::of(&plan);
             let (mut lower, mut upper) = (vec![0; 2016], vec![0; 2016]);
             let (mut own_lower, mut own_upper) = (lower.clone(), upper.clone());
@@ -52,4 +53,29 @@ fn the_longest_plan_and_its_last_count() {
         let damaged = longest_with_last_count_255(more);
         assert_eq!(compare::check(&damaged), refusal);
     }
+}
+
+#[test]
+fn every_call_takes_the_longest_plan() {
+    let mut rng = Rng::for_stream(32);
+    let bytes = layout(&longest());
+    let lists = Lists::of(&longest());
+    for _ in 0..20 {
+        compare::read(&mut rng, &bytes);
+        compare::write(&mut rng, &lists);
+        compare::run(&mut rng, &lists);
+        compare::pair(&mut rng, &lists);
+    }
+}
+
+#[test]
+fn files_of_any_length() {
+    assert_eq!(compare::check(b""), 1);
+    assert_eq!(compare::check(&[0; 1_000_000]), 2);
+    let mut longer = layout(&triangle());
+    longer.resize(1_000_000, 0);
+    assert_eq!(compare::check(&longer), 11);
+    let mut longer = layout(&longest());
+    longer.resize(1_000_000, 0);
+    assert_eq!(compare::check(&longer), 11);
 }

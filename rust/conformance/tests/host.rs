@@ -6,6 +6,7 @@ use account::{calls, number};
 use conformance::compare::random_pair;
 use conformance::{host, Tally};
 use plans::damage::damaged_file;
+use plans::examples::{longest, longest_with_last_count_255, triangle};
 use plans::valid::random_plan;
 use plans::Rng;
 
@@ -28,6 +29,31 @@ fn compare(rng: &mut Rng, bytes: &[u8], nodes: usize) -> u32 {
     assert_eq!(refusal, expected, "pair {v} {w} of {bytes:?}");
     assert_eq!(out, own_out, "pair {v} {w} of {bytes:?}");
     refusal
+}
+
+#[test]
+fn the_archive_takes_files_of_any_length() {
+    let mut rng = Rng::for_stream(52);
+    let mut longer = layout(&triangle());
+    longer.resize(1_000_000, 0);
+    let mut files = vec![Vec::new(), vec![0; 1_000_000], longer, layout(&longest())];
+    files.extend([0, 1, 2, 1_000].map(longest_with_last_count_255));
+    for bytes in files {
+        for _ in 0..20 {
+            compare(&mut rng, &bytes, 64);
+        }
+    }
+}
+
+#[test]
+fn the_archive_gives_twelve_before_thirteen() {
+    let mut out = [9; 17];
+    let bytes = layout(&triangle());
+    assert_eq!(host::pair(&bytes, 1, 1, &mut out[..15]), 12);
+    assert_eq!(host::pair(&bytes, 1, 1, &mut out), 13);
+    assert_eq!(out, [9; 17]);
+    assert_eq!(host::pair(&bytes, 0, 2, &mut out), 0);
+    assert_eq!(out, [0, 0, 0, 0, 0, 0, 0, 0, 4, 0, 0, 0, 0, 0, 0, 0, 9]);
 }
 
 #[test]

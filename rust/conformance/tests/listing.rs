@@ -3,15 +3,18 @@
 
 use account::file::layout;
 use conformance::listing::listing;
+use conformance::Tally;
 use plans::damage::damaged_file;
-use plans::examples::{examples, longest, longest_with_last_count_255, triangle};
+use plans::examples::{files_with, longest, longest_with_last_count_255, triangle};
 use plans::valid::{plan_of_size, random_plan, FULL};
 use plans::Rng;
 
+/// Holds the program to the account on one input, and gives the refusal's number.
 #[track_caller]
-fn expect(input: &[u8]) {
+fn expect(input: &[u8]) -> u32 {
     let text = listing(input).expect("the program target/bin/listing runs");
     assert_eq!(text, account::listing::listing(input));
+    account::calls::check(input)
 }
 
 #[test]
@@ -23,14 +26,15 @@ fn the_triangle() {
 
 #[test]
 fn the_example_files() {
-    for example in examples() {
-        expect(&example.bytes);
+    for path in files_with("plan") {
+        expect(&std::fs::read(path).expect("an example file"));
     }
 }
 
 #[test]
 fn random_files() {
     let mut rng = Rng::for_stream(61);
+    let mut tally = Tally::default();
     for i in 0..1_500 {
         let plan = match i % 15 {
             0 => plan_of_size(&mut rng, FULL),
@@ -40,19 +44,20 @@ fn random_files() {
             true => layout(&plan),
             false => damaged_file(&mut rng, &plan),
         };
-        expect(&bytes);
+        tally.add(expect(&bytes));
     }
+    tally.expect(0..=11);
 }
 
 #[test]
 fn inputs_of_any_length() {
-    expect(b"");
+    assert_eq!(expect(b""), 1);
     expect(&[0; 1_000_000]);
     let mut rng = Rng::for_stream(62);
     expect(&rng.bytes(1_000_000));
     let mut triangle_and_more = layout(&triangle());
     triangle_and_more.resize(1_000_000, 0);
-    expect(&triangle_and_more);
+    assert_eq!(expect(&triangle_and_more), 11);
 }
 
 #[test]

@@ -11,7 +11,8 @@ use plans::Lists;
 const HELP: &str = "\
 planner file PLAN.txt OUT.plan     writes the plan file of a plan in text form
 planner text IN.plan               prints a plan file in text form, with n0, l0, e0 for names
-planner listing PLAN.txt|IN.plan   prints the bounds of each pair for people, the worst pair first
+planner listing PLAN.txt|IN.plan   prints for people the bounds of each pair, the worst pair first,
+                                   with one examined scenario that cuts it where there is one
 planner bounds PLAN.txt|IN.plan    prints the bounds as the program listing does, line by line
 
 A name that ends in .plan is read as a plan file, every other as text.
@@ -23,8 +24,8 @@ The text form, a line for each thing, what is named standing above; # starts a c
   link NAME NODE NODE    at most 128; parallel ones are allowed
   event NAME Q MEMBER..  what fails together, nodes and links; Q in 10^-9, never rising; at most 128
 
-This is a convenience outside the proof. The bounds and plan files come from the proved code; the
-text form, the names and the layout of what is printed are not proved.
+This is a convenience outside the proof. The bounds and plan files come from the proved code;
+nothing else that it reads or prints is proved.
 ";
 
 fn main() -> ExitCode {

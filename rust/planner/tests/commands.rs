@@ -3,6 +3,8 @@
 use std::path::{Path, PathBuf};
 use std::process::Command;
 
+use plans::examples::folder;
+
 /// What a call of `planner` prints to its two outputs, and its exit status.
 struct Call {
     out: String,
@@ -13,7 +15,7 @@ struct Call {
 fn planner(words: &[&str]) -> Call {
     let output = Command::new(env!("CARGO_BIN_EXE_planner"))
         .args(words)
-        .current_dir(Path::new(env!("CARGO_MANIFEST_DIR")).join("../../examples"))
+        .current_dir(folder())
         .output()
         .expect("the program runs");
     let text = |bytes: Vec<u8>| String::from_utf8(bytes).expect("a text");

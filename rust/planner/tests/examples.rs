@@ -4,16 +4,12 @@ use std::path::{Path, PathBuf};
 
 use conformance::proved;
 use planner::parse;
+use plans::examples::{files_with, folder};
 use plans::Lists;
 
 /// The texts of the folder `examples/`.
 fn texts() -> Vec<PathBuf> {
-    let folder = Path::new(env!("CARGO_MANIFEST_DIR")).join("../../examples");
-    let entries = std::fs::read_dir(folder).expect("the folder examples/");
-    let paths = entries.map(|entry| entry.expect("an entry of the folder").path());
-    let texts: Vec<PathBuf> = paths
-        .filter(|path| path.extension() == Some("txt".as_ref()))
-        .collect();
+    let texts = files_with("txt");
     assert!(texts.len() >= 4, "the texts of the folder examples/");
     texts
 }
@@ -49,4 +45,22 @@ fn each_listing_is_the_accounts_and_the_proved_runs() {
             path.display()
         );
     }
+}
+
+#[test]
+fn the_readme_shows_the_triangle() {
+    let readme = std::fs::read_to_string(folder().join("../README.md")).expect("the README");
+    let text = std::fs::read_to_string(folder().join("triangle.txt")).expect("the triangle");
+    let indented = |line: &str| match line {
+        "" => String::new(),
+        _ => format!("    {line}"),
+    };
+    let shown: Vec<String> = text.lines().map(indented).collect();
+    assert!(readme.contains(&shown.join("\n")), "the text in the README");
+    let listing = account::listing::listing(&bytes_of(&folder().join("triangle.plan")));
+    let shown: Vec<String> = listing.lines().map(indented).collect();
+    assert!(
+        readme.contains(&shown.join("\n")),
+        "the listing in the README"
+    );
 }

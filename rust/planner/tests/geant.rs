@@ -1,9 +1,8 @@
 //! The GEANT core: the text holds the rows of document 003's table and the cable-cut formula of document 001.
 
-use std::path::Path;
-
 use account::{Event, Plan, LARGEST_CAP};
 use planner::parse;
+use plans::examples::folder;
 
 /// The rows with both ends at most 34: source, destination, length in km. The table has three blocks of columns; its
 /// rows stand here from the first block to the third, each from top to bottom.
@@ -100,8 +99,8 @@ fn the_formula_gives_the_papers_example() {
 
 #[test]
 fn the_text_is_the_table() {
-    let path = Path::new(env!("CARGO_MANIFEST_DIR")).join("../../examples/geant-core.txt");
-    let text = std::fs::read_to_string(path).expect("the text of the GEANT core");
+    let text = std::fs::read_to_string(folder().join("geant-core.txt"))
+        .expect("the text of the GEANT core");
     let named = parse(&text).expect("a text that says a plan");
     assert_eq!(named.plan, geant_core());
     for (i, name) in named.nodes.iter().enumerate() {

@@ -1,4 +1,6 @@
-//! The plans of the folder `examples/`.
+//! The folder `examples/`, and the plans there that are made in Rust.
+
+use std::path::{Path, PathBuf};
 
 use account::file::layout;
 use account::{Event, Plan, CERTAIN, LARGEST_CAP};
@@ -9,6 +11,22 @@ pub struct Example {
     pub bytes: Vec<u8>,
 }
 
+/// The folder `examples/` of the repository.
+pub fn folder() -> PathBuf {
+    Path::new(env!("CARGO_MANIFEST_DIR")).join("../../examples")
+}
+
+/// The files of the folder with an extension, by name.
+pub fn files_with(extension: &str) -> Vec<PathBuf> {
+    let entries = std::fs::read_dir(folder()).expect("the folder examples/");
+    let paths = entries.map(|entry| entry.expect("an entry of the folder").path());
+    let mut files: Vec<PathBuf> = paths
+        .filter(|path| path.extension() == Some(extension.as_ref()))
+        .collect();
+    files.sort();
+    files
+}
+
 /// The three plans of the benchmark.
 pub const BENCHMARK: [&str; 3] = [
     "mesh-28-nodes-69-events.plan",
@@ -16,7 +34,7 @@ pub const BENCHMARK: [&str; 3] = [
     "halves-128-events.plan",
 ];
 
-/// All example files.
+/// The example files that are made here.
 pub fn examples() -> Vec<Example> {
     let example = |name, plan| Example {
         name,
@@ -172,8 +190,6 @@ pub fn longest_with_last_count_255(more: usize) -> Vec<u8> {
 
 #[cfg(test)]
 mod tests {
-    use std::path::Path;
-
     use account::calls::check;
     use account::walk::walk;
 
@@ -189,9 +205,8 @@ mod tests {
 
     #[test]
     fn the_folder_has_these_bytes() {
-        let folder = Path::new(env!("CARGO_MANIFEST_DIR")).join("../../examples");
         for example in examples() {
-            let bytes = std::fs::read(folder.join(example.name));
+            let bytes = std::fs::read(folder().join(example.name));
             assert_eq!(bytes.ok(), Some(example.bytes), "{}", example.name);
         }
     }

@@ -4,12 +4,10 @@
 //! argument says. The best time of each counts: processor time of this thread, so that other work on the machine
 //! counts little.
 
-use std::path::Path;
-
 use account::Lent;
 use conformance::proved::MOST_PAIRS;
 use conformance::{probe, proved};
-use plans::examples::BENCHMARK;
+use plans::examples::{folder, BENCHMARK};
 use plans::Lists;
 
 /// The lists of bounds; they are cleared before each run.
@@ -44,8 +42,7 @@ fn processor_time() -> f64 {
 
 /// The lists of an example file, by the proved reader.
 fn lists_of(name: &str) -> Lists {
-    let path = Path::new(env!("CARGO_MANIFEST_DIR")).join("../../examples");
-    let bytes = std::fs::read(path.join(name)).expect("an example file");
+    let bytes = std::fs::read(folder().join(name)).expect("an example file");
     proved::read(&bytes).expect("a plan that meets no refusal")
 }
 
