@@ -6,6 +6,7 @@
 mod line;
 mod listing;
 mod named;
+mod names;
 mod print;
 mod readings;
 mod text;

@@ -12,30 +12,19 @@
 //!
 //! Nodes, links and events get the numbers of the plan file in the order of their lines.
 
-use std::collections::HashMap;
-
-use account::{Event, Header, Plan};
+use account::{Header, Plan};
 use account::{CERTAIN, LARGEST_CAP, MOST_EVENTS, MOST_LINKS, MOST_NODES, WHOLE};
 
 use crate::line::{Fault, Line};
 use crate::named::Named;
+use crate::names::{Element, Names};
 
-/// What a name stands for, with its number.
-#[derive(Clone, Copy, PartialEq, Eq)]
-enum Element {
-    Node(usize),
-    Link(usize),
-}
-
-/// The plan as far as the lines have said it.
+/// The plan as far as the lines have said it, with the lines of its threshold and its cap.
 struct Draft {
     named: Named,
+    names: Names,
     threshold: Option<usize>,
     cap: Option<usize>,
-    /// The elements by name, each with its line.
-    elements: HashMap<String, (Element, usize)>,
-    /// The line of each event by name.
-    events: HashMap<String, usize>,
 }
 
 /// The plan that a text says, with its names, or the first fault.
@@ -60,10 +49,9 @@ impl Draft {
         });
         Draft {
             named: Named::by_number(nothing),
+            names: Names::default(),
             threshold: None,
             cap: None,
-            elements: HashMap::new(),
-            events: HashMap::new(),
         }
     }
 
@@ -97,9 +85,8 @@ impl Draft {
         let [name] = line.words[..] else {
             return Err(line.wrong_words("node NAME"));
         };
-        let number = self.named.nodes.len();
-        at_most(line, number, MOST_NODES, "nodes")?;
-        self.name_element(line, name, Element::Node(number))?;
+        let number = room(line, self.named.nodes.len(), MOST_NODES, "nodes")?;
+        self.names.give(line, name, Element::Node(number))?;
         self.named.nodes.push(name.to_string());
         self.named.plan.nodes += 1;
         Ok(())
@@ -109,13 +96,13 @@ impl Draft {
         let [name, first, second] = line.words[..] else {
             return Err(line.wrong_words("link NAME NODE NODE"));
         };
-        let number = self.named.links.len();
-        at_most(line, number, MOST_LINKS, "links")?;
-        let (a, b) = (self.node(line, first)?, self.node(line, second)?);
+        let number = room(line, self.named.links.len(), MOST_LINKS, "links")?;
+        let a = self.names.node(line, first)?;
+        let b = self.names.node(line, second)?;
         if a == b {
             return Err(line.fault("two different nodes", format!("`{first}` twice")));
         }
-        self.name_element(line, name, Element::Link(number))?;
+        self.names.give(line, name, Element::Link(number))?;
         self.named.links.push(name.to_string());
         self.named.plan.links.push((a.min(b), a.max(b)));
         Ok(())
@@ -125,15 +112,12 @@ impl Draft {
         let [name, q, ref members @ ..] = line.words[..] else {
             return Err(line.wrong_words("event NAME Q MEMBER.."));
         };
-        at_most(line, self.named.events.len(), MOST_EVENTS, "events")?;
-        if let Some(before) = self.events.get(name) {
-            return Err(taken(line, name, "an event", *before));
-        }
+        room(line, self.named.events.len(), MOST_EVENTS, "events")?;
+        self.names.give_event(line, name)?;
         let probability = self.probability(line, q)?;
-        let event = self.event(line, probability, members)?;
+        let event = self.names.event(line, probability, members)?;
         self.named.plan.events.push(event);
         self.named.events.push(name.to_string());
-        self.events.insert(name.to_string(), line.number);
         Ok(())
     }
 
@@ -150,70 +134,21 @@ impl Draft {
         }
     }
 
-    /// The event of its members, each named once.
-    fn event(&self, line: &Line, probability: u64, members: &[&str]) -> Result<Event, Fault> {
-        let mut event = Event {
-            probability,
-            nodes: 0,
-            links: 0,
-        };
-        for &member in members {
-            let before = event;
-            match self.elements.get(member) {
-                Some((Element::Node(number), _)) => event.nodes |= 1 << number,
-                Some((Element::Link(number), _)) => event.links |= 1 << number,
-                None => {
-                    let expected = "nodes and links that stand above";
-                    return Err(line.fault(expected, format!("`{member}`")));
-                }
-            }
-            if event == before {
-                return Err(line.fault("each member once", format!("`{member}` twice")));
-            }
-        }
-        Ok(event)
-    }
-
-    /// The number of a node that stands above.
-    fn node(&self, line: &Line, name: &str) -> Result<usize, Fault> {
-        match self.elements.get(name) {
-            Some((Element::Node(number), _)) => Ok(*number),
-            _ => Err(line.fault("a node that stands above", format!("`{name}`"))),
-        }
-    }
-
-    /// Gives a name to an element; it must be free.
-    fn name_element(&mut self, line: &Line, name: &str, element: Element) -> Result<(), Fault> {
-        match self.elements.get(name) {
-            Some((Element::Node(_), before)) => Err(taken(line, name, "a node", *before)),
-            Some((Element::Link(_), before)) => Err(taken(line, name, "a link", *before)),
-            None => {
-                let place = (element, line.number);
-                self.elements.insert(name.to_string(), place);
-                Ok(())
-            }
-        }
-    }
-
     /// The plan after the last line.
     fn whole(self, last: usize) -> Result<Named, Fault> {
-        let missing = |expected: &str| {
-            Err(Fault {
+        let missing = [
+            (self.threshold.is_none(), "a line `threshold T`"),
+            (self.cap.is_none(), "a line `cap C`"),
+            (self.named.nodes.is_empty(), "a line `node NAME`"),
+        ];
+        match missing.iter().find(|(missing, _)| *missing) {
+            None => Ok(self.named),
+            Some((_, expected)) => Err(Fault {
                 line: last,
                 expected: expected.to_string(),
                 found: "the end of the text".to_string(),
-            })
-        };
-        if self.threshold.is_none() {
-            return missing("a line `threshold T`");
+            }),
         }
-        if self.cap.is_none() {
-            return missing("a line `cap C`");
-        }
-        if self.named.plan.nodes == 0 {
-            return missing("a line `node NAME`");
-        }
-        Ok(self.named)
     }
 }
 
@@ -229,16 +164,10 @@ fn only_number<'a>(line: &Line<'a>, form: &str, before: Option<usize>) -> Result
     }
 }
 
-/// Whether there is room for one more.
-fn at_most(line: &Line, count: usize, most: u64, what: &str) -> Result<(), Fault> {
+/// The number of the next one, where a plan has room for it.
+fn room(line: &Line, count: usize, most: u64, what: &str) -> Result<usize, Fault> {
     if (count as u64) < most {
-        return Ok(());
+        return Ok(count);
     }
     Err(line.fault(format!("at most {most} {what}"), "one more"))
-}
-
-/// The fault of a name that is in use.
-fn taken(line: &Line, name: &str, kind: &str, before: usize) -> Fault {
-    let found = format!("`{name}`, {kind} since line {before}");
-    line.fault("a name that is free", found)
 }
