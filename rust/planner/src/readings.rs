@@ -60,3 +60,41 @@ mod source {
         found
     }
 }
+
+#[cfg(test)]
+mod tests {
+    use account::readings::witness_sets;
+    use plans::valid::{plan_of_size, SMALL};
+    use plans::{Lists, Rng};
+
+    use super::{downtime, witnesses};
+
+    #[test]
+    fn a_witness_is_examined_and_disconnects() {
+        let mut rng = Rng::for_stream(74);
+        let (mut found, mut none) = (0, 0);
+        for _ in 0..300 {
+            let plan = plan_of_size(&mut rng, SMALL);
+            let lists = Lists::of(&plan);
+            for ((v, w), witness) in plan.pairs().into_iter().zip(witnesses(&lists)) {
+                let sets = witness_sets(&lists.lent(), v as u64, w as u64).unwrap_or_default();
+                match witness {
+                    Some(set) => assert!(sets.contains(&set), "{v} {w} of {plan:?}"),
+                    None => assert!(sets.is_empty(), "{v} {w} of {plan:?}"),
+                }
+                found += u32::from(witness.is_some());
+                none += u32::from(witness.is_none());
+            }
+        }
+        assert!(
+            found > 100 && none > 100,
+            "{found} with a witness, {none} without"
+        );
+    }
+
+    #[test]
+    fn seconds_of_a_year() {
+        let tenth = account::WHOLE / 10;
+        assert_eq!(downtime(tenth, account::WHOLE), [3_153_600, 31_536_000]);
+    }
+}

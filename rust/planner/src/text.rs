@@ -27,8 +27,9 @@ struct Draft {
     cap: Option<usize>,
 }
 
-/// The plan that a text says, with its names, or the first fault.
+/// The plan that a text says, with its names, or the first fault. A byte order mark at its start says nothing.
 pub fn parse(text: &str) -> Result<Named, Fault> {
+    let text = text.trim_start_matches('\u{feff}');
     let mut draft = Draft::new();
     for (i, line) in text.lines().enumerate() {
         if let Some(line) = Line::of(i + 1, line) {

@@ -54,3 +54,56 @@ fn ends_and_members_may_stand_in_any_order() {
     let other = format!("{start}link AB B A\nevent x 5 AB B A\n");
     assert_eq!(file_of(&one), file_of(&other));
 }
+
+#[test]
+fn line_ends_and_a_byte_order_mark_say_nothing() {
+    let text = "cap 9\nthreshold 7\nnode A\nnode B\nlink AB A B\nevent x 5 A B AB\n";
+    let windows = format!("\u{feff}{}", text.replace('\n', "\r\n"));
+    assert_eq!(file_of(&windows), file_of(text));
+    assert_eq!(file_of(text.trim_end()), file_of(text));
+}
+
+/// One change to a text: words exchanged, lines exchanged, a piece taken out or put in.
+fn damage(rng: &mut Rng, text: &str) -> String {
+    let mut lines: Vec<String> = text.lines().map(str::to_string).collect();
+    let (i, j) = (rng.below(lines.len()), rng.below(lines.len()));
+    match rng.below(4) {
+        0 => lines.swap(i, j),
+        1 => drop(lines.remove(i)),
+        2 => lines[i] = lines[j].clone(),
+        _ => {
+            let mut words: Vec<&str> = lines[i].split(' ').collect();
+            let word = rng.below(words.len());
+            words[word] = rng.pick(&["", "#", "n0", "l0", "e0", "-1", "0", "1000000000", "_"]);
+            lines[i] = words.join(" ");
+        }
+    }
+    lines.join("\n")
+}
+
+#[test]
+fn a_damaged_text_has_a_fault_or_says_a_plan() {
+    let mut rng = Rng::for_stream(73);
+    let (mut faults, mut plans) = (0, 0);
+    for _ in 0..3_000 {
+        let text = print(&Named::by_number(random_plan(&mut rng)));
+        let damaged = damage(&mut rng, &text);
+        match parse(&damaged) {
+            Ok(named) => {
+                proved::write(&Lists::of(&named.plan)).expect("a plan that meets no refusal");
+                plans += 1;
+            }
+            Err(fault) => {
+                assert!(
+                    (1..=damaged.lines().count()).contains(&fault.line),
+                    "{damaged}"
+                );
+                faults += 1;
+            }
+        }
+    }
+    assert!(
+        faults > 300 && plans > 300,
+        "{faults} faults, {plans} plans"
+    );
+}
