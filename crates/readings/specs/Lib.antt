@@ -1,0 +1,2 @@
+-- What the contracts of the crate `readings` cite.
+pub mod Downtime

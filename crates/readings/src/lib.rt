@@ -1,0 +1,17 @@
+// Further readings of a plan: document 01, section "Further readings of a plan".
+// Assumes nothing.
+mod yearly;
+
+pub use yearly::downtime;
+
+// Seconds of a year, for a lower and an upper mass.
+pub struct Seconds {
+    pub lower: u64,
+    pub upper: u64,
+}
+
+// What a downtime answers: the number of the refusal, or the seconds.
+pub enum Timed {
+    Refused(u32),
+    Given(Seconds),
+}
