@@ -1,2 +1,4 @@
 -- Laws that the proofs of the crate `readings` share.
 pub mod Told
+pub mod Seek
+pub mod Shown

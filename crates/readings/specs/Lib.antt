@@ -1,2 +1,3 @@
 -- What the contracts of the crate `readings` cite.
 pub mod Downtime
+pub mod Witness

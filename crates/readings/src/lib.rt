@@ -1,7 +1,10 @@
 // Further readings of a plan: document 01, section "Further readings of a plan".
 // Assumes nothing.
+mod search;
 mod yearly;
 
+pub use search::witness;
+use walk::Failing;
 pub use yearly::downtime;
 
 // Seconds of a year, for a lower and an upper mass.
@@ -14,4 +17,10 @@ pub struct Seconds {
 pub enum Timed {
     Refused(u32),
     Given(Seconds),
+}
+
+// What a witness answers: the number of the refusal, or the set of failing events.
+pub enum Witnessed {
+    Refused(u32),
+    Found(Failing),
 }

@@ -1,0 +1,95 @@
+-- Witness: document 01, section "Further readings of a plan".
+-- Assumes nothing.
+use mathlib.Core.Path.{_≡_, refl, sym, ap, _∙_}
+use mathlib.Core.Bool.{Bool, true, false, not, _||_, or-true}
+use mathlib.Core.Logic.{_↔_}
+use mathlib.Core.List.{List, [], _∷_, List·Memᴰ, List·Memᴰ·head, List·Memᴰ·tail}
+use Prim.Native.Nat.{ℕ, zero, suc, _/_, _<_}
+use native.Mathlib.Omega.{arith}
+use lib.ListN.{length}
+use Rattle.mass.specs.Refusal.{refuse, first}
+use Rattle.sets.specs.Sets.{joined}
+use Rattle.plan.specs.Plan.{Plan}
+use Rattle.plan.specs.Records.{listsRefusal, planOfLists}
+use Rattle.plan.specs.declared.Header.{Header}
+use Rattle.walk.specs.Scenario.{Scenario, number}
+use Rattle.walk.specs.Member.{among}
+use Rattle.walk.specs.Walk.{examined}
+use Rattle.walk.specs.Stack.{Stack}
+use Rattle.walk.specs.declared.Failing.{Failing}
+use Rattle.bounds.specs.Bounds.{cuts}
+use Rattle.bounds.specs.Calls.{pairTest}
+use Rattle.bounds.specs.Tallied.{Held}
+use Rattle.readings.specs.declared.Witnessed.{Witnessed}
+use Rattle.readings.specs.declared.Witnessed.the-variants as witnessed
+
+-- whether a test holds of one of the scenarios of a list
+unfoldable pub some : (Scenario → Bool) → List Scenario → Bool
+some test [] = false
+some test (s ∷ list) = test s || some test list
+
+-- 14: none of the scenarios of a list disconnects the pair (v, w)
+abbrev pub noneTest : Plan → ℕ → ℕ → List Scenario → ℕ
+noneTest p v w list = refuse (not (some (cuts p v w) list)) 14
+
+-- the witness of a pair: the lists' tests, then 13, then 14 where no examined scenario disconnects the pair
+unfoldable pub witnessRefusal : Header → ℕ → ℕ → List ℕ → List ℕ → ℕ → ℕ → ℕ
+witnessRefusal h linkRoom eventRoom links words v w =
+    first
+    (listsRefusal h linkRoom eventRoom links words
+    ∷ pairTest (h .nodes) v w
+    ∷ noneTest (planOfLists h links words) v w (examined (planOfLists h links words))
+    ∷ [])
+
+-- the number with which a witness on lent lists is refused
+abbrev pub witnessNumber : Header → List ℕ → List ℕ → ℕ → ℕ → ℕ
+witnessNumber h links events v w = witnessRefusal h (length links) (length events / 4) links events v w
+
+-- the case of the answer that a number and a set of failing events stand for: `Refused` with a number that is not 0, else the set
+abbrev pub witnessAnswer : ℕ → Failing → Witnessed
+witnessAnswer zero set = witnessed.Found set
+witnessAnswer (suc number) set = witnessed.Refused (suc number)
+
+-- the set of failing events in an answer: both words are 0 where it refuses
+abbrev pub failingIn : Witnessed → Failing
+failingIn (witnessed.Refused number) = record { low = 0; high = 0 }
+failingIn (witnessed.Found set) = set
+
+-- the set of failing events of one scenario of the list, that disconnects the pair; which one is left free
+pub record Shows (p : Plan) (v w : ℕ) (list : List Scenario) (set : Failing) : Type 0 where
+  pub scenario : Scenario
+  pub failing : joined (set .low) (set .high) ≡ number scenario
+  pub member : among scenario list ≡ true
+  pub disconnects : cuts p v w scenario ≡ true
+
+-- what a search for a witness among the scenarios of a list answers, where it is refused with a number, 0 if it is not
+pub record Answers (p : Plan) (v w : ℕ) (list : List Scenario) (number : ℕ) (r : Witnessed) : Type 0 where
+  pub answer : r ≡ witnessAnswer number (failingIn r)
+  pub found : number ≡ 0 → Shows p v w list (failingIn r)
+
+-- what a search asks: lists of a valid plan, a stack that denotes the ends to come, and two nodes
+pub record Seeking (h : Header) (links words : List ℕ) (at : ℕ) (stack : List ℕ) (v w : ℕ) : Type 0 where
+  pub held : Held h links words
+  pub stacked : Stack (h .events) at stack
+  pub inside : (v < 64) × (w < 64)
+
+-- law: `some` says that the list has a scenario of which the test holds
+module _ (test : Scenario → Bool) where
+  pub some-member : (s : Scenario) (list : List Scenario) → List·Memᴰ s list → test s ≡ true → some test list ≡ true
+  unfolding some
+  some-member s (r ∷ list) (List·Memᴰ·head e) h = rw (sym e, h)
+  some-member s (r ∷ list) (List·Memᴰ·tail m) h = rw (some-member s list m h, or-true)
+
+  pub member-some : (list : List Scenario) → some test list ≡ true → (s : Scenario) × List·Memᴰ s list × (test s ≡ true)
+  unfolding some
+  member-some [] e = absurd (let z : _≡_ {A = ℕ} 0 1 = cc in omega arith)
+  member-some (r ∷ list) e = step (test r) refl (member-some list)
+    where
+      step : (b : Bool) → test r ≡ b → (some test list ≡ true → (s : Scenario) × List·Memᴰ s list × (test s ≡ true))
+          → (s : Scenario) × List·Memᴰ s (r ∷ list) × (test s ≡ true)
+      step true h later = (r, List·Memᴰ·head refl, h)
+      step false h later = let f = later (rw h at e) in (f .0, List·Memᴰ·tail (f .1), f .2)
+
+-- law: so a pair that 14 is given for is disconnected by no scenario of the list
+pub none-cuts : (p : Plan) (v w : ℕ) (list : List Scenario) → noneTest p v w list ≡ 14 → (s : Scenario) → List·Memᴰ s list → cuts p v w s ≡ true → ⊥
+none-cuts p v w list e s m h = let z : _≡_ {A = ℕ} 0 14 = rw (some-member (cuts p v w) s list m h) at e in omega arith

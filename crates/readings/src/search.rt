@@ -1,0 +1,130 @@
+// Witness: an examined scenario that disconnects a pair.
+use crate::Witnessed;
+use plan::Header;
+use topology::Failed;
+use walk::Failing;
+ghost use mathlib.Core.Path.{_≡_};
+ghost use mathlib.Core.Bool.{_&&_};
+ghost use Prim.Native.Nat.{_/_, _^_, _<_};
+ghost use lib.ListN.{take};
+ghost use Rattle.sets.specs.Sets.{joined};
+ghost use Rattle.plan.specs.Records.{planOfLists};
+ghost use Rattle.walk.specs.Scenario.{scenarioOf};
+ghost use Rattle.walk.specs.Ends.{scenarios};
+ghost use Rattle.walk.specs.Walk.{examined};
+ghost use Rattle.bounds.specs.Bounds.{cuts};
+ghost use Rattle.bounds.specs.Tallied.{Held, coming};
+ghost use Rattle.readings.specs.Witness.{noneTest, witnessRefusal, witnessNumber, witnessAnswer, failingIn, Shows, Answers, Seeking};
+
+// Whether an end is relevant and its topology disconnects the pair.
+fn end_cuts(
+    h: Header,
+    links: &[u8; 256],
+    words: &[u64; 512],
+    relevant: bool,
+    low: u64,
+    high: u64,
+    v: usize,
+    w: usize,
+) -> bool
+    requires { ⌜ Held h (now links) (now words) ⌝ }
+    requires { ⌜ (joined low high < 2 ^ (h .events)) × (v < 64) × (w < 64) ⌝ }
+    ensures { λ r. ⌜ r ≡ (relevant && cuts (planOfLists h (now (links .entry)) (now (words .entry))) v w (scenarioOf (h .events) (joined low high))) ⌝ }
+{
+    if relevant {
+        let intact = Failed {
+            nodes: 0,
+            low: 0,
+            high: 0,
+        };
+        let failed = topology::failed_by(words, h.events as usize, low, high, intact);
+        return topology::is_disconnected(h.nodes as usize, failed, links, h.links as usize, v, w);
+    }
+    false
+}
+
+// The first of at most k ends to come that is relevant and whose topology disconnects the pair.
+fn search_on(
+    h: Header,
+    links: &[u8; 256],
+    words: &[u64; 512],
+    stack: &mut [u64; 512],
+    start: usize,
+    v: usize,
+    w: usize,
+    k: u64,
+) -> Witnessed
+    requires { ⌜ Seeking h (now links) (now words) start (now stack) v w ⌝ }
+    ensures { λ r. ⌜ Answers (planOfLists h (now (links .entry)) (now (words .entry))) v w
+        (scenarios (take k (coming h (now (words .entry)) start (now (stack .entry)))))
+        (noneTest (planOfLists h (now (links .entry)) (now (words .entry))) v w (scenarios (take k (coming h (now (words .entry)) start (now (stack .entry)))))) r ⌝ }
+{
+    let mut at = start;
+    let mut left = k;
+    while at < 512 {
+        if left == 0 {
+            return Witnessed::Refused(14);
+        }
+        let r = walk::next_end(h.events, h.threshold, words, &mut *stack, at);
+        if end_cuts(h, links, words, r.relevant, r.low, r.high, v, w) {
+            return Witnessed::Found(Failing {
+                low: r.low,
+                high: r.high,
+            });
+        }
+        at = r.at;
+        left -= 1;
+    }
+    Witnessed::Refused(14)
+}
+
+// A witness of an accepted plan: the walk from its root, for at most cap ends.
+fn search_all(h: Header, links: &[u8; 256], words: &[u64; 512], v: usize, w: usize) -> Witnessed
+    requires { ⌜ Held h (now links) (now words) ⌝ }
+    requires { ⌜ (v < 64) × (w < 64) ⌝ }
+    ensures { λ r. ⌜ Answers (planOfLists h (now (links .entry)) (now (words .entry))) v w
+        (examined (planOfLists h (now (links .entry)) (now (words .entry))))
+        (noneTest (planOfLists h (now (links .entry)) (now (words .entry))) v w (examined (planOfLists h (now (links .entry)) (now (words .entry))))) r ⌝ }
+{
+    let mut stack = [0u64; 512];
+    let at = walk::begin(&mut stack, 0, mass::Mass::WHOLE.units, 0, 0);
+    search_on(h, links, words, &mut stack, at, v, w, h.limit)
+}
+
+// The witness on arrays: the lists stand in the arrays, and had room for `link_room` bytes and `event_room` whole events.
+fn witness_core(
+    h: Header,
+    link_room: usize,
+    event_room: usize,
+    links: &[u8; 256],
+    words: &[u64; 512],
+    v: u64,
+    w: u64,
+) -> Witnessed
+    ensures { λ r. ⌜ Answers (planOfLists h (now (links .entry)) (now (words .entry))) v w
+        (examined (planOfLists h (now (links .entry)) (now (words .entry))))
+        (witnessRefusal h «link_room» «event_room» (now (links .entry)) (now (words .entry)) v w) r ⌝ }
+{
+    let lists = plan::lists_refusal(h, link_room, event_room, links, words);
+    if lists != 0 {
+        return Witnessed::Refused(lists);
+    }
+    let wrong = bounds::pair_test(h.nodes, v, w);
+    if wrong != 0 {
+        return Witnessed::Refused(wrong);
+    }
+    search_all(h, links, words, v as usize, w as usize)
+}
+
+// A witness: one examined scenario that disconnects the pair, as the set of its failing events. Which one is left free.
+pub fn witness(h: Header, links: &[u8], events: &[u64], v: u64, w: u64) -> Witnessed
+    ensures answer { λ r. ⌜ r ≡ witnessAnswer (witnessNumber h (now (links .entry)) (now (events .entry)) v w) (failingIn r) ⌝ }
+    ensures shown { λ r. ⌜ (witnessNumber h (now (links .entry)) (now (events .entry)) v w ≡ 0
+        → Shows (planOfLists h (now (links .entry)) (now (events .entry))) v w
+        (examined (planOfLists h (now (links .entry)) (now (events .entry)))) (failingIn r)) ⌝ }
+{
+    let mut bytes = [0u8; 256];
+    let mut words = [0u64; 512];
+    plan::load(links, events, &mut bytes, &mut words);
+    witness_core(h, links.len(), events.len() / 4, &bytes, &words, v, w)
+}
