@@ -2,3 +2,4 @@
 pub mod Told
 pub mod Seek
 pub mod Shown
+pub mod Figures

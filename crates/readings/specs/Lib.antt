@@ -1,3 +1,5 @@
 -- What the contracts of the crate `readings` cite.
 pub mod Downtime
 pub mod Witness
+pub mod Figure
+pub mod FigureLaws

@@ -1,8 +1,10 @@
 // Further readings of a plan: document 01, section "Further readings of a plan".
 // Assumes nothing.
+mod ratio;
 mod search;
 mod yearly;
 
+pub use ratio::figure;
 pub use search::witness;
 use walk::Failing;
 pub use yearly::downtime;
@@ -23,4 +25,17 @@ pub enum Timed {
 pub enum Witnessed {
     Refused(u32),
     Found(Failing),
+}
+
+// Shares of mass, rounded: the part of the mass examined that disconnects the pair, and the part of one whole that is examined.
+pub struct Shares {
+    pub disconnected: f64,
+    pub examined: f64,
+}
+
+// What a conditional figure answers: the number of the refusal, no figure, or the two shares.
+pub enum Figured {
+    Refused(u32),
+    NoFigure,
+    Given(Shares),
 }

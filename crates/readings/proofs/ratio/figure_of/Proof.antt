@@ -1,0 +1,23 @@
+-- `readings::ratio::figure_of` meets its contract. Assumes nothing.
+use borrow.Author.Needs.{needs}
+use Rattle.readings.proofs.Figures.{none-given, given}
+use Rattle.readings.proofs.ratio.figure_of.Statement.{statement}
+use Rattle.readings.proofs.ratio.figure_of.Tie as tie
+use Rattle.readings.proofs.ratio.figure_of.Reads as reads
+use Rattle.readings.proofs.ratio.figure_of.Lts as lts
+use Rattle.readings.proofs.ratio.shares_of.Reads as shares-of-reads
+
+-- src/ratio.rt:39:9
+returns : tie.Need-returns
+returns c = none-given _ _ (c .if1 .taken)
+
+-- src/ratio.rt:41:20
+shares-of-requires : tie.Need-shares-of-requires
+shares-of-requires c κs = search needs
+
+-- src/ratio.rt:34:1
+returns-2 : tie.Need-returns-2
+returns-2 c = given _ _ _ (c .before .if1 .left) (c .shares-of .ensures)
+
+pub figure-of-spec : {M : Type 1} → statement M
+figure-of-spec = tie.close (tie.spec returns shares-of-requires returns-2)

@@ -1,0 +1,23 @@
+-- `readings::ratio::float_of` meets its contract: a mass is at most 10^18, so its quotient and its remainder may be cast. Assumes nothing.
+use native.Mathlib.Omega.{arith}
+use borrow.Author.Needs.{needs}
+use Rattle.readings.proofs.Figures.{in-float, billion-is, float-of-is}
+use Rattle.readings.proofs.ratio.float_of.Statement.{statement}
+use Rattle.readings.proofs.ratio.float_of.Tie as tie
+use Rattle.readings.proofs.ratio.float_of.Reads as reads
+use Rattle.readings.proofs.ratio.float_of.Lts as lts
+
+-- src/ratio.rt:18:6
+int-to-float-result : tie.Need-int-to-float-result
+int-to-float-result c = in-float _ (omega arith)
+
+-- src/ratio.rt:18:55
+int-to-float-result-2 : tie.Need-int-to-float-result-2
+int-to-float-result-2 c = in-float _ (omega arith)
+
+-- src/ratio.rt:14:1
+returns : tie.Need-returns
+returns c = float-of-is _ _ billion-is
+
+pub float-of-spec : {M : Type 1} → statement M
+float-of-spec = tie.close (tie.spec int-to-float-result int-to-float-result-2 returns)
