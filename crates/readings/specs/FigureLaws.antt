@@ -17,7 +17,10 @@ use lib.Ieee.Scale.{round-same, finite}
 use lib.Ieee.Back.{round-whole}
 use lib.Ieee.Positive.{positive, positive-finite, positive-of-value, between}
 use Rattle.mass.specs.Split.{certain, whole}
-use Rattle.readings.specs.Figure.{float, floatOf, sharesOf}
+use Rattle.readings.specs.Figure.{float, floatOf, sharesOf, floatsIn, Numbers}
+use Rattle.readings.specs.declared.Shares.{Shares}
+use Rattle.readings.specs.declared.Figured.{Figured}
+use Rattle.readings.specs.declared.Figured.the-variants as figured
 
 -- ---- sums and products of floats that are whole numbers
 
@@ -184,6 +187,10 @@ shares-numbers lower examined l e some = (
   quotient-number binary64 (floatOf lower) (floatOf examined) (mass-finite lower l) (mass-positive examined e some),
   quotient-number binary64 (floatOf examined) (float whole) (mass-finite examined e) whole-positive,
 )
+
+-- law: so the bits of a figure that was given may be taken
+pub given-numbers : (r : Figured) (s : Shares) → r ≡ figured.Given s → Numbers (floatsIn r) → T (not (isNan (s .disconnected))) × T (not (isNan (s .examined)))
+given-numbers r s e n = let m = subst (λ (x : Figured). Numbers (floatsIn x)) e n in (m .0, m .1 .0)
 
 -- examples: a tenth of one whole, examined whole; and a lower bound of 0 of a single unit examined
 example-tenth : (toBits binary64 (sharesOf 100000000000000000 whole .disconnected) ≡ 0x3fb999999999999a)
