@@ -9,6 +9,10 @@ ghost use mathlib.Core.Bool.{not};
 ghost use lib.Dec.{T};
 ghost use lib.Ieee.{isNan};
 
+const TENTH: u64 = 100_000_000_000_000_000;
+
+const WHOLE: u64 = 1_000_000_000_000_000_000;
+
 // The bits of 0 and of 1.
 const ZERO: u64 = 0;
 
@@ -60,17 +64,43 @@ fn bits(
     }
 }
 
-// A single link with an event of 1/10 on it, or of 1/2: marked plans 2, 4 and 9.
-pub fn marked() {
+// A single link with one event on it.
+fn on_link(
+    label: &[u8],
+    q: u64,
+    threshold: u64,
+    cap: u64,
+    v: u64,
+    w: u64,
+    number: u64,
+    given: u64,
+    disconnected: u64,
+    examined: u64,
+) {
     let links = [0u8, 1];
-    let tenth = [100_000_000u64, 0, 1, 0];
-    let half = [500_000_000u64, 0, 1, 0];
-    let all = header(2, 1, 1, 100_000_000_000_000_000, 100);
+    let events = [q, 0, 1, 0];
+    let h = header(2, 1, 1, threshold, cap);
     bits(
-        b"marked plan 2, 0.1 and 1",
-        all,
+        label,
+        h,
         &links,
-        &tenth,
+        &events,
+        v,
+        w,
+        number,
+        given,
+        disconnected,
+        examined,
+    );
+}
+
+// Marked plans 2, 4 and 9: an event of 1/10, or of 1/2.
+pub fn marked() {
+    on_link(
+        b"marked plan 2, 0.1 and 1",
+        100_000_000,
+        TENTH,
+        100,
         0,
         1,
         0,
@@ -78,12 +108,11 @@ pub fn marked() {
         0x3fb9_9999_9999_999a,
         ONE,
     );
-    let first = header(2, 1, 1, 1, 1);
-    bits(
+    on_link(
         b"marked plan 4, 0 and 0.9",
-        first,
-        &links,
-        &tenth,
+        100_000_000,
+        1,
+        1,
         0,
         1,
         0,
@@ -91,12 +120,11 @@ pub fn marked() {
         ZERO,
         0x3fec_cccc_cccc_cccd,
     );
-    let none = header(2, 1, 1, 1_000_000_000_000_000_000, 100);
-    bits(
+    on_link(
         b"marked plan 9, no figure",
-        none,
-        &links,
-        &half,
+        500_000_000,
+        WHOLE,
+        100,
         0,
         1,
         0,
@@ -107,63 +135,53 @@ pub fn marked() {
 }
 
 // Two events on the only link, q = 333,333,333 and 111,111,111: masses 592592592962962963 (none fails), 74074074037037037 (the second),
-// 296296296037037037 (the first) and 37037036962962963 (both). All are examined at t = 1: lower 407407407037037037 of one whole. The first
-// and the third are at t = 10^17: lower 296296296037037037 of 888888889000000000. The triangle has E = 10^18 - 4, which rounds to 10^18.
-pub fn rounded() {
+// 296296296037037037 (the first) and 37037036962962963 (both).
+fn two_events(label: &[u8], threshold: u64, disconnected: u64, examined: u64) {
     let links = [0u8, 1];
     let events = [333_333_333u64, 0, 1, 0, 111_111_111, 0, 1, 0];
-    let all = header(2, 1, 2, 1, 100);
+    let h = header(2, 1, 2, threshold, 100);
     bits(
-        b"two events, all examined",
-        all,
+        label,
+        h,
         &links,
         &events,
         0,
         1,
         0,
         1,
-        0x3fda_12f6_8457_d2b0,
-        ONE,
+        disconnected,
+        examined,
     );
-    let two = header(2, 1, 2, 100_000_000_000_000_000, 100);
-    bits(
+}
+
+// The triangle has E = 10^18 - 4, which rounds to 10^18.
+fn triangle() {
+    let links = [0u8, 1, 0, 2, 1, 2];
+    let events = [1u64, 0, 1, 0, 1, 0, 2, 0, 1, 0, 4, 0];
+    let h = header(3, 3, 3, 1, 100);
+    bits(b"the triangle", h, &links, &events, 1, 2, 0, 1, ZERO, ONE);
+}
+
+// All four are examined at t = 1: lower is 407407407037037037, of one whole. Two are at t = 10^17: lower is 296296296037037037, of
+// 888888889000000000.
+pub fn rounded() {
+    two_events(b"two events, all examined", 1, 0x3fda_12f6_8457_d2b0, ONE);
+    two_events(
         b"two events, two examined",
-        two,
-        &links,
-        &events,
-        0,
-        1,
-        0,
-        1,
+        TENTH,
         0x3fd5_5555_54f9_b516,
         0x3fec_71c7_1c81_0c7c,
     );
-    let triangle = [0u8, 1, 0, 2, 1, 2];
-    let ones = [1u64, 0, 1, 0, 1, 0, 2, 0, 1, 0, 4, 0];
-    bits(
-        b"the triangle",
-        header(3, 3, 3, 1, 100),
-        &triangle,
-        &ones,
-        1,
-        2,
-        0,
-        1,
-        ZERO,
-        ONE,
-    );
+    triangle();
 }
 
 // The lists' refusals and then 13 come first, also where E = 0.
 pub fn refused() {
-    let links = [0u8, 1];
-    let half = [500_000_000u64, 0, 1, 0];
-    let none = header(2, 1, 1, 1_000_000_000_000_000_000, 100);
-    bits(
+    on_link(
         b"13 for equal nodes where E = 0",
-        none,
-        &links,
-        &half,
+        500_000_000,
+        WHOLE,
+        100,
         1,
         1,
         13,
@@ -171,11 +189,11 @@ pub fn refused() {
         0,
         0,
     );
-    bits(
+    on_link(
         b"13 for a node past the last",
-        none,
-        &links,
-        &half,
+        500_000_000,
+        WHOLE,
+        100,
         0,
         2,
         13,
@@ -183,16 +201,5 @@ pub fn refused() {
         0,
         0,
     );
-    bits(
-        b"5 before 13",
-        header(2, 1, 1, 0, 100),
-        &links,
-        &half,
-        1,
-        0,
-        5,
-        0,
-        0,
-        0,
-    );
+    on_link(b"5 before 13", 500_000_000, 0, 100, 1, 0, 5, 0, 0, 0);
 }
