@@ -1,0 +1,25 @@
+-- `topologies::ends::topology_of` meets its contract. Assumes nothing.
+use native.Mathlib.Omega.{arith}
+use borrow.Author.Needs.{needs}
+use Rattle.topologies.proofs.WorkingSets.{topology-after}
+use Rattle.topologies.proofs.ends.topology_of.Statement.{statement}
+use Rattle.topologies.proofs.ends.topology_of.Tie as tie
+
+failed-by-requires : tie.Need-failed-by-requires
+failed-by-requires c κs = search needs
+
+working-nodes-requires : tie.Need-working-nodes-requires
+working-nodes-requires c κs = search needs
+
+working-links-requires : tie.Need-working-links-requires
+working-links-requires c κs = search needs
+
+returns : tie.Need-returns
+returns c =
+    let e = c .before .before .before in
+    topology-after _ _ _ _ _ (e .pre .1) _ (c .before .before .failed-by .ensures) _ _ _ (omega arith) (omega arith) (omega arith)
+    (c .before .working-nodes .ensures) (c .working-links .ensures)
+
+pub topology-of-spec : {M : Type 1} → statement M
+topology-of-spec =
+    tie.close (tie.spec failed-by-requires working-nodes-requires working-links-requires returns)

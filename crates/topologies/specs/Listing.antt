@@ -1,0 +1,80 @@
+-- The topology list: document 01, section "Further readings of a plan".
+-- Assumes nothing.
+use mathlib.Core.Bool.{Bool, true, false, cond, _&&_}
+use mathlib.Core.List.{List, [], _∷_}
+use Prim.Native.Nat.{ℕ, zero, suc, _+_, _*_, _^_}
+use lib.Dec.{eqb, ltb}
+use lib.ListN.{length}
+use Rattle.plan.specs.Plan.{Plan}
+use Rattle.topology.specs.Topology.{Network, nodeWorks, linkWorks}
+use Rattle.walk.specs.Scenario.{Scenario, digit}
+use Rattle.walk.specs.Ends.{End, dropped, relevant}
+use Rattle.walk.specs.Walk.{firstEnds}
+use Rattle.bounds.specs.Bounds.{topologyOf}
+use Rattle.topologies.specs.declared.Topology.{Topology}
+
+-- the set of the elements below k that pass a test
+unfoldable pub setOf : (ℕ → Bool) → ℕ → ℕ
+setOf test zero = 0
+setOf test (suc k) = setOf test k + digit (test k) * 2 ^ k
+
+-- an effective topology in three words: the working nodes, the working links 0 to 63, the working links 64 to 127
+unfoldable pub topologyIn : Network → Topology
+topologyIn net =
+    record {
+      nodes = setOf (nodeWorks net) 64;
+      low = setOf (linkWorks net) 64;
+      high = setOf (λ i. linkWorks net (64 + i)) 64;
+    }
+
+-- an entry of the list: a topology and the mass of the scenarios that have it
+pub record Entry : Type 0 where
+  pub topology : Topology
+  pub mass : ℕ
+
+abbrev pub entry : Topology → ℕ → Entry
+entry topology mass = record { topology = topology; mass = mass }
+
+-- whether two topologies are equal
+unfoldable pub same : Topology → Topology → Bool
+same a b = eqb (a .nodes) (b .nodes) && (eqb (a .low) (b .low) && eqb (a .high) (b .high))
+
+-- "for each different effective topology, by first appearance, equal ones added up": a mass goes to the entry of its topology, or to a new one
+-- after the last
+abbrev pub added : Topology → ℕ → List Entry → List Entry
+added t m [] = entry t m ∷ []
+added t m (e ∷ entries) = cond (same (e .topology) t) (entry (e .topology) (e .mass + m) ∷ entries) (e ∷ added t m entries)
+
+-- the list so far: its entries, and 15 once a topology found no entry left, else 0
+pub record Listing : Type 0 where
+  pub entries : List Entry
+  pub number : ℕ
+
+abbrev pub listing : List Entry → ℕ → Listing
+listing entries number = record { entries = entries; number = number }
+
+-- the new entries where `room` entries hold them; else the old ones, and 15
+abbrev pub fitted : ℕ → List Entry → List Entry → Listing
+fitted room old new = cond (ltb room (length new)) (listing old 15) (listing new 0)
+
+-- one end of the walk, by its scenario's topology: a dropped one changes nothing, and nothing changes after 15
+abbrev pub placed : ℕ → (Scenario → Topology) → Listing → End → Listing
+placed room topology list dropped = list
+placed room topology list (relevant s m) =
+    elim (list .number) [
+      | zero ↦ fitted room (list .entries) (added (topology s) m (list .entries))
+      | suc number ↦ list
+    ]
+
+-- the ends in turn
+abbrev pub placedAll : ℕ → (Scenario → Topology) → Listing → List End → Listing
+placedAll room topology list [] = list
+placedAll room topology list (end ∷ ends) = placedAll room topology (placed room topology list end) ends
+
+-- the topology of a scenario
+abbrev pub topologyAfter : Plan → Scenario → Topology
+topologyAfter p s = topologyIn (topologyOf p s)
+
+-- the topology list of a plan, in a list with room for `room` entries: over the examined scenarios, in the walk's order
+unfoldable pub listingOf : ℕ → Plan → Listing
+listingOf room p = placedAll room (topologyAfter p) (listing [] 0) (firstEnds p)

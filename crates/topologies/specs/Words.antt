@@ -1,0 +1,67 @@
+-- The topology list in memory, four words to an entry: nodes, links 0 to 63, links 64 to 127, mass. What the steps ask and promise.
+-- Assumes nothing.
+use mathlib.Core.Path.{_≡_}
+use mathlib.Core.Bool.{true, false}
+use mathlib.Core.List.{List, [], _∷_}
+use Prim.Native.Nat.{ℕ, zero, suc, _+_, _*_, _<_, _≤_}
+use lib.ListN.{length, getD, drop}
+use Rattle.mass.specs.Split.{whole}
+use Rattle.plan.specs.Plan.{Plan}
+use Rattle.plan.specs.declared.Header.{Header}
+use Rattle.walk.specs.Ends.{End, sumEnds}
+use Rattle.walk.specs.Stack.{Stack}
+use Rattle.bounds.specs.Tallied.{Held, coming}
+use Rattle.topologies.specs.Listing.{Entry, entry, same, Listing}
+use Rattle.topologies.specs.declared.Topology.{Topology}
+use Rattle.topologies.specs.declared.Placed.{Placed}
+
+-- the words of a list of entries
+unfoldable pub entryWords : List Entry → List ℕ
+entryWords [] = []
+entryWords (e ∷ entries) = e .topology .nodes ∷ e .topology .low ∷ e .topology .high ∷ e .mass ∷ entryWords entries
+
+-- entry i of a list of words
+abbrev pub topologyAt : List ℕ → ℕ → Topology
+topologyAt words i = record { nodes = getD words (4 * i) 0; low = getD words (4 * i + 1) 0; high = getD words (4 * i + 2) 0 }
+
+abbrev pub massAt : List ℕ → ℕ → ℕ
+massAt words i = getD words (4 * i + 3) 0
+
+abbrev pub entryAt : List ℕ → ℕ → Entry
+entryAt words i = entry (topologyAt words i) (massAt words i)
+
+-- the first `count` entries of a list of words
+unfoldable pub entriesOf : ℕ → List ℕ → List Entry
+entriesOf zero words = []
+entriesOf (suc count) words = entryAt words 0 ∷ entriesOf count (drop 4 words)
+
+-- the sum of the entries' masses
+abbrev pub massesIn : List Entry → ℕ
+massesIn [] = 0
+massesIn (e ∷ entries) = e .mass + massesIn entries
+
+-- a search: r is the first of `count` entries that has the topology, or `count`
+pub record Found (t : Topology) (count : ℕ) (words : List ℕ) (r : ℕ) : Type 0 where
+  pub within : r ≤ count
+  pub before : (j : ℕ) → j < r → same (topologyAt words j) t ≡ false
+  pub there : r < count → same (topologyAt words r) t ≡ true
+
+-- what placing a mass asks: `count` whole entries, and a sum that leaves room for it
+pub record Placing (count mass : ℕ) (words : List ℕ) : Type 0 where
+  pub room : 4 * count ≤ length words
+  pub fits : massesIn (entriesOf count words) + mass ≤ whole
+
+-- what it promises: the words hold the entries of a listing, and those past the last entry stay as they were
+pub record Gave (list : Listing) (count : ℕ) (words words′ : List ℕ) (r : Placed) : Type 0 where
+  pub number : r .number ≡ list .number
+  pub entries : entriesOf (r .count) words′ ≡ list .entries
+  pub grows : count ≤ r .count
+  pub room : 4 * r .count ≤ length words′
+  pub others : drop (4 * r .count) words′ ≡ drop (4 * r .count) words
+  pub sized : length words′ ≡ length words
+
+-- what the loop over the ends asks: a stack that denotes the ends to come
+pub record Ready (h : Header) (links words : List ℕ) (at : ℕ) (stack : List ℕ) : Type 0 where
+  pub held : Held h links words
+  pub stacked : Stack (h .events) at stack
+  pub light : sumEnds (λ s m. m) (coming h words at stack) ≤ whole

@@ -1,0 +1,121 @@
+// The loop of the topology list over the ends of the walk.
+use crate::Placed;
+use crate::Topology;
+use crate::entries::place;
+use plan::Header;
+use topology::Failed;
+ghost use mathlib.Core.Path.{_≡_};
+ghost use mathlib.Core.List.{[]};
+ghost use Prim.Native.Nat.{_/_, _^_, _<_};
+ghost use lib.ListN.{length, take};
+ghost use Rattle.sets.specs.Sets.{joined};
+ghost use Rattle.plan.specs.Records.{planOfLists};
+ghost use Rattle.walk.specs.Scenario.{scenarioOf};
+ghost use Rattle.walk.specs.Stack.{endOf};
+ghost use Rattle.bounds.specs.Tallied.{Held, coming};
+ghost use Rattle.topologies.specs.Listing.{listing, placed, placedAll, topologyAfter, listingOf};
+ghost use Rattle.topologies.specs.Words.{entriesOf, Placing, Gave, Ready};
+
+// The effective topology of a scenario, by its failing events.
+fn topology_of(h: Header, links: &[u8; 256], words: &[u64; 512], low: u64, high: u64) -> Topology
+    requires { ⌜ Held h (now links) (now words) ⌝ }
+    requires { ⌜ joined low high < 2 ^ (h .events) ⌝ }
+    ensures { λ r. ⌜ r ≡ topologyAfter (planOfLists h (now (links .entry)) (now (words .entry))) (scenarioOf (h .events) (joined low high)) ⌝ }
+{
+    let intact = Failed {
+        nodes: 0,
+        low: 0,
+        high: 0,
+    };
+    let n = h.nodes as usize;
+    let failed = topology::failed_by(words, h.events as usize, low, high, intact);
+    let nodes = topology::working_nodes(n, failed.nodes);
+    let up = topology::working_links(n, failed, links, h.links as usize);
+    Topology {
+        nodes,
+        low: up.low,
+        high: up.high,
+    }
+}
+
+// Places the topology of an end that is relevant, and passes over a dropped one.
+fn place_end(
+    h: Header,
+    links: &[u8; 256],
+    words: &[u64; 512],
+    list: &mut [u64],
+    count: usize,
+    relevant: bool,
+    low: u64,
+    high: u64,
+    mass: u64,
+) -> Placed
+    requires { ⌜ Held h (now links) (now words) ⌝ }
+    requires { ⌜ joined low high < 2 ^ (h .events) ⌝ }
+    requires { ⌜ Placing count mass (now list) ⌝ }
+    ensures { λ r. ⌜ Gave
+        (placed (length (now (list .entry)) / 4) (topologyAfter (planOfLists h (now (links .entry)) (now (words .entry))))
+        (listing (entriesOf count (now (list .entry))) 0) (endOf (h .events) relevant mass low high))
+        count (now (list .entry)) (now (list .exit)) r ⌝ }
+{
+    if relevant {
+        let t = topology_of(h, links, words, low, high);
+        return place(list, count, t, mass);
+    }
+    Placed { count, number: 0 }
+}
+
+// Goes through at most h.limit ends of a walk, and places the topologies of the relevant ones.
+fn list_ends(
+    h: Header,
+    links: &[u8; 256],
+    words: &[u64; 512],
+    stack: &mut [u64; 512],
+    start: usize,
+    list: &mut [u64],
+) -> Placed
+    requires { ⌜ Ready h (now links) (now words) start (now stack) ⌝ }
+    ensures { λ r. ⌜ Gave
+        (placedAll (length (now (list .entry)) / 4) (topologyAfter (planOfLists h (now (links .entry)) (now (words .entry))))
+        (listing [] 0) (take (h .limit) (coming h (now (words .entry)) start (now (stack .entry)))))
+        0 (now (list .entry)) (now (list .exit)) r ⌝ }
+{
+    let mut at = start;
+    let mut left = h.limit;
+    let mut count = 0;
+    while at < 512 {
+        if left == 0 {
+            return Placed { count, number: 0 };
+        }
+        let r = walk::next_end(h.events, h.threshold, words, &mut *stack, at);
+        let placed = place_end(
+            h,
+            links,
+            words,
+            &mut *list,
+            count,
+            r.relevant,
+            r.low,
+            r.high,
+            r.mass,
+        );
+        if placed.number != 0 {
+            return placed;
+        }
+        count = placed.count;
+        at = r.at;
+        left -= 1;
+    }
+    Placed { count, number: 0 }
+}
+
+// The topology list of an accepted plan, from the root of the walk.
+pub fn list_all(h: Header, links: &[u8; 256], words: &[u64; 512], list: &mut [u64]) -> Placed
+    requires { ⌜ Held h (now links) (now words) ⌝ }
+    ensures { λ r. ⌜ Gave (listingOf (length (now (list .entry)) / 4) (planOfLists h (now (links .entry)) (now (words .entry))))
+        0 (now (list .entry)) (now (list .exit)) r ⌝ }
+{
+    let mut stack = [0u64; 512];
+    let start = walk::begin(&mut stack, 0, mass::Mass::WHOLE.units, 0, 0);
+    list_ends(h, links, words, &mut stack, start, list)
+}
