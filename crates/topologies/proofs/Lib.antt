@@ -5,3 +5,4 @@ pub mod WorkingSets
 pub mod PlaceLaws
 pub mod Turn
 pub mod Answers
+pub mod Theorems

@@ -9,7 +9,7 @@ use lib.ListN.{length, getD, set, length-set, length-append}
 use lib.Seq.{sets, length-sets}
 use Rattle.mass.specs.Split.{whole}
 use Rattle.topologies.specs.Listing.{Entry, entry, same, added, Listing, listing, fitted}
-use Rattle.topologies.specs.Words.{topologyAt, massAt, entryAt, entriesOf, massesIn, Found, Placing, Gave}
+use Rattle.topologies.specs.Words.{topologyAt, massAt, entryAt, entriesOf, Found, Placing, Gave}
 use Rattle.topologies.specs.declared.Topology.{Topology}
 use Rattle.topologies.specs.declared.Placed.{Placed}
 use Rattle.topologies.proofs.SameLaws.{none, added-at, added-new, mass-part, fits-room, no-room}

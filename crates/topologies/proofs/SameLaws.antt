@@ -5,12 +5,10 @@ use mathlib.Core.Bool.{Bool, true, false, cond, _&&_}
 use mathlib.Core.List.{List, [], _∷_, _++_}
 use Prim.Native.Nat.{ℕ, zero, suc, _+_, _<_, _≤_}
 use native.Mathlib.Omega.{arith}
-use borrow.Author.Tests.{eqb-true, ne-eqb, eq-eqb, lt-ltb, le-ltb}
+use borrow.Author.Tests.{ne-eqb, eq-eqb, lt-ltb, le-ltb}
 use lib.Dec.{eqb, ltb}
 use lib.ListN.{length, getD, set, length-set, length-append}
-use Rattle.sets.specs.Bools.{and-left, and-right}
-use Rattle.topologies.specs.Listing.{Entry, entry, same, added, Listing, listing, fitted}
-use Rattle.topologies.specs.Words.{massesIn}
+use Rattle.topologies.specs.Listing.{Entry, entry, massesIn, same, added, Listing, listing, fitted}
 use Rattle.topologies.specs.declared.Topology.{Topology}
 
 -- what the three tests of a topology say
@@ -25,16 +23,6 @@ low-differs a t e n = rw (eq-eqb (a .nodes) (t .nodes) e, ne-eqb (a .low) (t .lo
 pub by-high : (a t : Topology) → a .nodes ≡ t .nodes → a .low ≡ t .low → eqb (a .high) (t .high) ≡ same a t
 unfolding same
 by-high a t e f = rw (eq-eqb (a .nodes) (t .nodes) e, eq-eqb (a .low) (t .low) f)
-
--- topologies that pass the test are equal
-pub same-equal : (a t : Topology) → same a t ≡ true → a ≡ t
-unfolding same
-same-equal a t e =
-    let one : a .nodes ≡ t .nodes = eqb-true _ _ (and-left _ _ e) in
-    let rest = and-right (eqb (a .nodes) (t .nodes)) _ e in
-    let two : a .low ≡ t .low = eqb-true _ _ (and-left _ _ rest) in
-    let three : a .high ≡ t .high = eqb-true _ _ (and-right (eqb (a .low) (t .low)) _ rest) in
-    λ i. record { nodes = one i; low = two i; high = three i }
 
 abbrev pub none : Entry
 none = entry (record { nodes = 0; low = 0; high = 0 }) 0

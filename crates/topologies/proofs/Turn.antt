@@ -1,11 +1,9 @@
 -- One turn of the loop over the ends of the walk, and the whole walk from its root.
 -- Assumes nothing.
 use mathlib.Core.Path.{_≡_, refl, sym, ap, subst, _∙_}
-use mathlib.Core.Bool.{Bool, true, false, cond}
 use mathlib.Core.List.{List, [], _∷_}
 use Prim.Native.Nat.{ℕ, zero, suc, _+_, _-_, _*_, _/_, _<_, _≤_}
 use native.Mathlib.Omega.{arith}
-use lib.Dec.{ltb}
 use lib.ListN.{length, take, drop}
 use lib.Seq.{take-nil, take-length, drop-drop}
 use Rattle.mass.specs.Split.{whole}
@@ -14,53 +12,18 @@ use Rattle.plan.specs.Lists.{eventsOf}
 use Rattle.plan.specs.Records.{planOfLists}
 use Rattle.plan.specs.declared.Header.{Header}
 use Rattle.walk.specs.Scenario.{Scenario}
-use Rattle.walk.specs.Ends.{End, dropped, relevant, ends, sumEnds, valueOf, sumEnds-first}
+use Rattle.walk.specs.Ends.{End, ends, sumEnds, sumEnds-first}
 use Rattle.walk.specs.Laws.{masses-le}
 use Rattle.walk.specs.Walk.{planEnds}
 use Rattle.walk.specs.Stack.{Begun, Stack, Stepped, nextEnd}
 use Rattle.walk.specs.declared.Next.{Next}
 use Rattle.walk.proofs.Resume.{step-take, value-mass, none-to-come, begun-stack, begun-whole, root-entry}
 use Rattle.bounds.specs.Tallied.{Held, coming}
-use Rattle.topologies.specs.Listing.{Entry, entry, same, added, Listing, listing, fitted, placed, placedAll, topologyAfter, listingOf}
-use Rattle.topologies.specs.Words.{entriesOf, massesIn, Placing, Gave, Ready}
+use Rattle.topologies.specs.Listing.{massesIn, Listing, listing, placed, placedAll, topologyAfter, listingOf}
+use Rattle.topologies.specs.ListingLaws.{refused-stays, masses-placed}
+use Rattle.topologies.specs.Words.{entriesOf, Placing, Gave, Ready}
 use Rattle.topologies.specs.declared.Topology.{Topology}
 use Rattle.topologies.specs.declared.Placed.{Placed}
-
--- ---- masses
-
-masses-added : (t : Topology) (m : ℕ) (es : List Entry) → massesIn (added t m es) ≡ massesIn es + m
-masses-added t m [] = omega arith
-masses-added t m (e ∷ es) = go (same (e .topology) t) (masses-added t m es)
-  where
-    go : (b : Bool) → massesIn (added t m es) ≡ massesIn es + m
-        → massesIn (cond b (entry (e .topology) (e .mass + m) ∷ es) (e ∷ added t m es)) ≡ e .mass + massesIn es + m
-    go true h = omega arith
-    go false h = omega arith
-
-masses-placed : (room : ℕ) (T : Scenario → Topology) (es : List Entry) (end : End)
-    → massesIn (placed room T (listing es 0) end .entries) ≤ massesIn es + valueOf (λ s m. m) end
-masses-placed room T es dropped = omega arith
-masses-placed room T es (relevant s m) = go (ltb room (length (added (T s) m es)))
-  where
-    go : (b : Bool) → massesIn (cond b (listing es 15) (listing (added (T s) m es) 0) .entries) ≤ massesIn es + m
-    go true = omega arith
-    go false = omega (arith, masses-added (T s) m es)
-
--- after 15 nothing changes
-full-stays : (room : ℕ) (T : Scenario → Topology) (entries : List Entry) (number : ℕ) (list : List End)
-    → placedAll room T (listing entries (suc number)) list ≡ listing entries (suc number)
-full-stays room T entries number [] = refl
-full-stays room T entries number (dropped ∷ list) = full-stays room T entries number list
-full-stays room T entries number (relevant s m ∷ list) = full-stays room T entries number list
-
-refused-stays : (room : ℕ) (T : Scenario → Topology) (out : Listing) (list : List End) → (out .number ≡ 0 → ⊥) → placedAll room T out list ≡ out
-refused-stays room T out list n = go (out .number) refl
-  where
-    go : (number : ℕ) → out .number ≡ number → placedAll room T out list ≡ out
-    go zero e = absurd (n e)
-    go (suc number) e =
-        let is : out ≡ listing (out .entries) (suc number) = λ i. record { entries = out .entries; number = e i } in
-        ap (λ (l : Listing). placedAll room T l list) is ∙ full-stays room T (out .entries) number list ∙ sym is
 
 -- ---- in the loop: placing what is left from here on gives what the whole was to give
 

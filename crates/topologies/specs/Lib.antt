@@ -1,5 +1,8 @@
 -- What the contracts of the crate `topologies` cite.
 pub mod Listing
 pub mod SetLaws
+pub mod ListingLaws
+pub mod ListBounds
 pub mod Words
 pub mod Calls
+pub mod Examples

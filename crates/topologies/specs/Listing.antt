@@ -35,6 +35,11 @@ pub record Entry : Type 0 where
 abbrev pub entry : Topology → ℕ → Entry
 entry topology mass = record { topology = topology; mass = mass }
 
+-- the sum of the masses of a list's entries
+abbrev pub massesIn : List Entry → ℕ
+massesIn [] = 0
+massesIn (e ∷ entries) = e .mass + massesIn entries
+
 -- whether two topologies are equal
 unfoldable pub same : Topology → Topology → Bool
 same a b = eqb (a .nodes) (b .nodes) && (eqb (a .low) (b .low) && eqb (a .high) (b .high))

@@ -11,7 +11,7 @@ use Rattle.plan.specs.declared.Header.{Header}
 use Rattle.walk.specs.Ends.{End, sumEnds}
 use Rattle.walk.specs.Stack.{Stack}
 use Rattle.bounds.specs.Tallied.{Held, coming}
-use Rattle.topologies.specs.Listing.{Entry, entry, same, Listing}
+use Rattle.topologies.specs.Listing.{Entry, entry, massesIn, same, Listing}
 use Rattle.topologies.specs.declared.Topology.{Topology}
 use Rattle.topologies.specs.declared.Placed.{Placed}
 
@@ -34,11 +34,6 @@ entryAt words i = entry (topologyAt words i) (massAt words i)
 unfoldable pub entriesOf : ℕ → List ℕ → List Entry
 entriesOf zero words = []
 entriesOf (suc count) words = entryAt words 0 ∷ entriesOf count (drop 4 words)
-
--- the sum of the entries' masses
-abbrev pub massesIn : List Entry → ℕ
-massesIn [] = 0
-massesIn (e ∷ entries) = e .mass + massesIn entries
 
 -- a search: r is the first of `count` entries that has the topology, or `count`
 pub record Found (t : Topology) (count : ℕ) (words : List ℕ) (r : ℕ) : Type 0 where
