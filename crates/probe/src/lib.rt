@@ -2,6 +2,7 @@
 // every number that it hands out is 0. A list of numbers that is handed out is used only where it has room.
 // Assumes nothing.
 mod further;
+mod topology_list;
 
 use bounds::Paired;
 use bounds::Ran;
