@@ -3,6 +3,7 @@
 use mathlib.Core.Path.{_≡_, refl, sym, ap, _∙_}
 use mathlib.Core.List.{List, [], _∷_, _++_}
 use Prim.Native.Nat.{ℕ, _+_, _*_, _/_, _≤_}
+use native.Mathlib.Nat.{zero-add}
 use native.Mathlib.Omega.{arith}
 use lib.ListN.{length, drop}
 use lib.Seq.{sets, sets-eq}
@@ -40,6 +41,21 @@ pub listing-different : (room : ℕ) (p : Plan) → Different (listingOf room p 
 unfolding listingOf
 listing-different room p = different-placed room (topologyAfter p) [] (firstEnds p) tt
 
+-- what lists that are not refused leave in the lent list, also at 15: the entries' words, and after them the words that stood there
+pub left-behind : (h : Header) (links events list : List ℕ) → listsRefusal h (length links) (length events / 4) links events ≡ 0
+    → listAfter h (length links) (length events / 4) links events list
+    ≡ entryWords (listingIn h links events list .entries) ++ drop (4 * length (listingIn h links events list .entries)) list
+left-behind h links events list fine =
+    rw fine
+    (sets-eq (entryWords entries) list 0 (omega (arith, words, listing-room (length list / 4) (planOfLists h links events)))
+    ∙ ap (λ (n : ℕ). entryWords entries ++ drop n list) (zero-add (length (entryWords entries)) ∙ words))
+  where
+    entries : List Entry
+    entries = listingIn h links events list .entries
+
+    words : length (entryWords (listingIn h links events list .entries)) ≡ 4 * length (listingIn h links events list .entries)
+    words = entry-words-length (listingIn h links events list .entries)
+
 module _ (h : Header) (links events list : List ℕ) (accepted : topologiesNumber h links events list ≡ 0) where
   abbrev p : Plan
   p = planOfLists h links events
@@ -62,13 +78,8 @@ module _ (h : Header) (links events list : List ℕ) (accepted : topologiesNumbe
   -- they are the topology list
   pub written-is : written ≡ listingIn h links events list .entries
   written-is =
-      let es : List Entry = listingIn h links events list .entries in
-      let fits : 4 * length (listingIn h links events list .entries) ≤ length list =
-      omega (arith, listing-room (length list / 4) (planOfLists h links events)) in
-      rw (accepted, lists-fine)
-      (ap (entriesOf (length (listingIn h links events list .entries)))
-      (sets-eq (entryWords (listingIn h links events list .entries)) list 0
-      (omega (arith, entry-words-length (listingIn h links events list .entries))))
+      rw accepted
+      (ap (entriesOf (length (listingIn h links events list .entries))) (left-behind h links events list lists-fine)
       ∙ entries-of-words (listingIn h links events list .entries) _)
 
   few : p .nodes ≤ 64

@@ -2,6 +2,7 @@
 pub mod Listing
 pub mod SetLaws
 pub mod ListingLaws
+pub mod RoomLaws
 pub mod ListBounds
 pub mod Words
 pub mod Calls

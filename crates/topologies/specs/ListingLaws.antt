@@ -80,7 +80,7 @@ module _ (weight : Topology → ℕ) where
       go false is h = omega arith
 
 module _ (room : ℕ) (topology : Scenario → Topology) where
-  full-stays : (entries : List Entry) (number : ℕ) (list : List End)
+  pub full-stays : (entries : List Entry) (number : ℕ) (list : List End)
       → placedAll room topology (listing entries (suc number)) list ≡ listing entries (suc number)
   full-stays entries number [] = refl
   full-stays entries number (dropped ∷ list) = full-stays entries number list

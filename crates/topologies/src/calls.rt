@@ -8,7 +8,7 @@ ghost use lib.ListN.{length};
 ghost use Rattle.topologies.specs.Calls.{listingIn, topologiesRefusal, topologiesNumber, listedAnswer, listAfter};
 
 // The topology list on arrays: the lists stand in the arrays, and had room for `link_room` bytes and `event_room` whole events.
-pub fn topologies_core(
+fn topologies_core(
     h: Header,
     link_room: usize,
     event_room: usize,

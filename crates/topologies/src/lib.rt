@@ -5,7 +5,6 @@ mod ends;
 mod entries;
 
 pub use calls::topologies;
-pub use calls::topologies_core;
 
 // An effective topology: the working nodes, the working links 0 to 63 and the working links 64 to 127.
 pub struct Topology {
