@@ -6,5 +6,6 @@ mod writer;
 pub use reader::header_in;
 pub use reader::read;
 pub use reader::read_core;
+pub use writer::put_number;
 pub use writer::write;
 pub use writer::write_core;

@@ -1,0 +1,2 @@
+-- Laws of the crate `input`.
+pub mod LoadedLaws

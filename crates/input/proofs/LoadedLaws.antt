@@ -1,0 +1,98 @@
+-- An accepted file read into the arrays: there is always room, no test of the lists refuses them, and they denote the file's plan.
+-- Assumes nothing.
+use mathlib.Core.Path.{_≡_, refl, sym, ap, subst, _∙_}
+use mathlib.Core.List.{List, [], _∷_}
+use Prim.Native.Nat.{ℕ, zero, suc, _+_, _*_, _<_, _≤_}
+use native.Mathlib.Omega.{arith}
+use borrow.Author.Tests.{le-ltb}
+use lib.Dec.{ltb}
+use lib.ListN.{length, getD, drop}
+use lib.Seq.{sets}
+use Rattle.mass.specs.Refusal.{refuse, first}
+use Rattle.plan.specs.Plan.{Plan}
+use Rattle.plan.specs.Layout.{Bytes}
+use Rattle.plan.specs.Lists.{linksOf, eventsOf, linkBytes, eventWords}
+use Rattle.plan.specs.Tests.{roomTest, countsTest}
+use Rattle.plan.specs.File.{refusal, planOf, linksIn, eventsIn, eventsAt}
+use Rattle.plan.specs.Records.{eventListRefusal, planOfLists, listsRefusal}
+use Rattle.plan.specs.Calls.{filled, headerOf, readRefusal}
+use Rattle.plan.proofs.FileLawsAccepted.{accepted-counts}
+use Rattle.plan.specs.declared.Header.{Header}
+use Rattle.plan.proofs.ListLaws.{counted}
+use Rattle.mass.specs.Split.{certain}
+use Rattle.plan.proofs.LayoutFile.{ValidPlan, file-none, read-valid}
+use Rattle.plan.proofs.ListTheorems.{read-denotes, length-links-of, length-events-of}
+use Rattle.files.proofs.ReaderLawsAnswer.{length-links, length-events}
+use Rattle.input.specs.Loaded.{Loaded}
+
+-- a list whose elements are below 256
+pub bytes-each : (b : List ℕ) → ((i : ℕ) → getD b i 0 < 256) → Bytes b
+bytes-each [] h = tt
+bytes-each (x ∷ b) h = (h 0, bytes-each b (λ i. h (suc i)))
+
+-- there is room
+roomed : (room need : ℕ) → need ≤ room → roomTest room need ≡ 0
+roomed room need h = rw (le-ltb room need h)
+
+pub same-refusal : (b : List ℕ) → readRefusal 256 128 b ≡ refusal b
+unfolding readRefusal first
+same-refusal b = go (refusal b) refl
+  where
+    go : (n : ℕ) → refusal b ≡ n → first (n ∷ roomTest 256 (2 * linksIn b) ∷ roomTest 128 (eventsIn b) ∷ []) ≡ n
+    go zero e =
+        let k = accepted-counts b e in
+        rw (roomed 256 (2 * linksIn b) (omega (arith, k .1)), roomed 128 (eventsIn b) (k .2))
+    go (suc n) e = refl
+
+-- lists that denote a valid plan are accepted
+lists-accepted : (h : Header) (links words : List ℕ) → ValidPlan (planOfLists h links words) → listsRefusal h 256 128 links words ≡ 0
+unfolding listsRefusal planOfLists first
+lists-accepted h links words v =
+    let counts : countsTest (h .nodes) (h .links) (h .events) ≡ 0 =
+    rw (length-links-of (h .links) links, length-events-of (h .events) words) at (v .counts) in
+    let fit = counted (h .nodes) (h .links) (h .events) counts in
+    let events : eventListRefusal (h .nodes) (h .links) certain (eventsOf (h .events) words) ≡ 0 =
+    rw (length-links-of (h .links) links) at (v .events) in
+    rw (
+      counts,
+      v .threshold,
+      v .limit,
+      roomed 256 (2 * h .links) (omega (arith, fit .links-fit)),
+      roomed 128 (h .events) (fit .events-fit),
+      v .links,
+      events,
+    )
+
+module _ (b links words : List ℕ) (bytes : Bytes b) (e : refusal b ≡ 0) (l : length links ≡ 256) (w : length words ≡ 512) where
+  abbrev linkList : List ℕ
+  linkList = sets links 0 (linkBytes ((planOf b) .links))
+
+  abbrev wordList : List ℕ
+  wordList = sets words 0 (eventWords ((planOf b) .events))
+
+  denoted : planOfLists (headerOf b) linkList wordList ≡ planOf b
+  unfolding planOf
+  denoted =
+      let k = accepted-counts b e in
+      read-denotes b links words
+      (omega (arith, length-links (linksIn b) (drop 20 b), k .1))
+      (omega (arith, length-events (eventsIn b) (drop (20 + 2 * linksIn b) b), k .2))
+
+  pub loaded : Loaded b linkList wordList
+  loaded =
+      record {
+        accepted = lists-accepted (headerOf b) linkList wordList (subst ValidPlan (sym denoted) (read-valid b bytes (file-none b e)));
+        denoted = denoted;
+      }
+
+-- what a reading leaves in the arrays
+pub left-loaded : (b links words left-links left-words : List ℕ)
+    → Bytes b → length links ≡ 256 → length words ≡ 512
+    → left-links ≡ filled (readRefusal 256 128 b) (linkBytes ((planOf b) .links)) links
+    → left-words ≡ filled (readRefusal 256 128 b) (eventWords ((planOf b) .events)) words
+    → refusal b ≡ 0 → Loaded b left-links left-words
+left-loaded b links words left-links left-words bytes l w e f z =
+    let number : readRefusal 256 128 b ≡ 0 = same-refusal b ∙ z in
+    let is : left-links ≡ linkList b links words bytes z l w = rw number at e in
+    let are : left-words ≡ wordList b links words bytes z l w = rw number at f in
+    rw (is, are) (loaded b links words bytes z l w)

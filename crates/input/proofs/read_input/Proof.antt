@@ -1,0 +1,23 @@
+-- `input::read_input` meets its contract. Assumes nothing.
+use mathlib.Core.Path.{_≡_, refl, ap, _∙_}
+use Prim.Native.Nat.{ℕ}
+use native.Mathlib.Omega.{arith}
+use borrow.Author.Needs.{needs}
+use Rattle.plan.specs.Calls.{headerOf, readAnswer}
+use Rattle.input.proofs.LoadedLaws.{bytes-each, same-refusal, left-loaded}
+use Rattle.input.proofs.read_input.Statement.{statement}
+use Rattle.input.proofs.read_input.Tie as tie
+
+read-core-requires : tie.Need-read-core-requires
+read-core-requires c κs = search needs
+
+returns : tie.Need-returns
+returns c =
+    let a = c .before .before .before .before .args in
+    let r = c .read-core .ensures in (
+      r .0 ∙ ap (λ (n : ℕ). readAnswer n (headerOf (a .s .now))) (same-refusal (a .s .now)),
+      left-loaded (a .s .now) _ _ _ _ (bytes-each (a .s .now) (λ i. omega (arith, c .before .before .before .shared-slice-known .given i))) (c .before .before .before .before .pre .0) (c .before .before .before .before .pre .1) (r .1 .0) (r .1 .1),
+    )
+
+pub read-input-spec : {M : Type 1} → statement M
+read-input-spec = tie.close (tie.spec read-core-requires returns)

@@ -1,0 +1,2 @@
+-- What the contracts of the crate `input` cite.
+pub mod Loaded

@@ -1,0 +1,13 @@
+-- A plan file in arrays of 256 bytes for the links and 512 words for the events.
+-- Assumes nothing.
+use mathlib.Core.Path.{_≡_}
+use mathlib.Core.List.{List}
+use Prim.Native.Nat.{ℕ}
+use Rattle.plan.specs.File.{planOf}
+use Rattle.plan.specs.Records.{planOfLists, listsRefusal}
+use Rattle.plan.specs.Calls.{headerOf}
+
+-- the arrays hold an accepted file: no test of the lists refuses them, and they denote the plan that the file stands for
+pub record Loaded (b links words : List ℕ) : Type 0 where
+  pub accepted : listsRefusal (headerOf b) 256 128 links words ≡ 0
+  pub denoted : planOfLists (headerOf b) links words ≡ planOf b

@@ -1,0 +1,17 @@
+// A plan file read into arrays of its own: what the host's calls and the listing begin with.
+// Assumes nothing.
+use plan::Reading;
+ghost use mathlib.Core.Path.{_≡_};
+ghost use lib.ListN.{length};
+ghost use Rattle.plan.specs.File.{refusal};
+ghost use Rattle.plan.specs.Calls.{headerOf, readAnswer};
+ghost use Rattle.input.specs.Loaded.{Loaded};
+
+// Reads a plan file into the arrays. Refused with 1 to 11 only: the arrays have room for every plan.
+pub fn read_input(s: &[u8], links: &mut [u8; 256], words: &mut [u64; 512]) -> Reading
+    requires { ⌜ (length (now links) ≡ 256) × (length (now words) ≡ 512) ⌝ }
+    ensures answer { λ r. ⌜ r ≡ readAnswer (refusal (now (s .entry))) (headerOf (now (s .entry))) ⌝ }
+    ensures loaded { λ r. ⌜ (refusal (now (s .entry)) ≡ 0 → Loaded (now (s .entry)) (now (links .exit)) (now (words .exit))) ⌝ }
+{
+    files::read_core(s, 256, 128, links, words)
+}

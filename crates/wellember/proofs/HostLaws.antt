@@ -1,0 +1,159 @@
+-- The host's calls: from the plan in arrays to the plan that a file stands for, and the two numbers in sixteen bytes.
+-- Assumes nothing.
+use mathlib.Core.Path.{_≡_, refl, sym, ap, ap₂, subst, subst₂, _∙_}
+use mathlib.Core.List.{List, [], _∷_, _++_, append-assoc}
+use Prim.Native.Nat.{ℕ, zero, suc, _+_, _^_, _<_, _≤_}
+use native.Mathlib.Omega.{arith}
+use lib.ListN.{length, take, drop, length-append}
+use lib.Seq.{sets, sets-eq, take-at, drop-at}
+use Rattle.mass.specs.Refusal.{first, first-none, first-skip}
+use Rattle.plan.specs.Plan.{Plan}
+use Rattle.plan.specs.Layout.{little, value}
+use Rattle.plan.specs.Tests.{roomTest}
+use Rattle.plan.specs.File.{refusal, planOf, nodesIn}
+use Rattle.plan.specs.Records.{planRefusal, planOfLists}
+use Rattle.plan.specs.Calls.{filled, headerOf, readAnswer}
+use Rattle.plan.specs.declared.Header.{Header}
+use Rattle.plan.specs.declared.Reading.the-variants as reading
+use Rattle.plan.proofs.FileLaws.{stop}
+use Rattle.plan.proofs.TestLaws.{room-none}
+use Rattle.plan.proofs.ListLaws.{first-last, sets-then}
+use Rattle.plan.proofs.LayoutNumbers.{length-little, value-little}
+use Rattle.plan.proofs.ListTheorems.{lists-denote}
+use Rattle.walk.specs.Walk.{count}
+use Rattle.bounds.specs.Bounds.{lowerOf, upperOf, Encloses}
+use Rattle.bounds.specs.Calls.{pairTest, pairRefusal, pairAnswer, boundsOf, boundsIn}
+use Rattle.bounds.specs.declared.PairBounds.{PairBounds}
+use Rattle.bounds.specs.declared.Paired.{Paired}
+use Rattle.bounds.specs.declared.Paired.the-variants as paired
+use Rattle.files.proofs.ReaderLawsAnswer.{filled-none, filled-all}
+use Rattle.bounds.proofs.Answers.{pair-refuses, enclosed}
+use Rattle.input.specs.Loaded.{Loaded}
+use Rattle.wellember.specs.Host.{hostRefusal, sixteen, lowerIn, upperIn}
+
+-- ---- what an answer says of its number
+
+reading-refused : (number n : ℕ) (h : Header) → reading.Refused n ≡ readAnswer number h → (n ≡ number) × (n ≡ 0 → ⊥)
+reading-refused zero n h e = absurd (let never : _≡_ {A = ℕ} 0 1 = cc in omega arith)
+reading-refused (suc number) n h e = let is : n ≡ suc number = cc in (is, λ z. omega arith)
+
+pub reading-accepted : (number : ℕ) (x h : Header) → reading.Accepted x ≡ readAnswer number h → (number ≡ 0) × (x ≡ h)
+reading-accepted zero x h e = (refl, cc)
+reading-accepted (suc number) x h e = absurd (let never : _≡_ {A = ℕ} 0 1 = cc in omega arith)
+
+pub pair-refused-is : (number n : ℕ) (b : PairBounds) → paired.Refused n ≡ pairAnswer number b → (n ≡ number) × (number ≡ 0 → ⊥)
+pair-refused-is zero n b e = absurd (let never : _≡_ {A = ℕ} 0 1 = cc in omega arith)
+pair-refused-is (suc number) n b e = let is : n ≡ suc number = cc in (is, λ z. omega arith)
+
+pub pair-done-is : (number : ℕ) (x b : PairBounds) → paired.Done x ≡ pairAnswer number b → (number ≡ 0) × (x ≡ b)
+pair-done-is zero x b e = (refl, cc)
+pair-done-is (suc number) x b e = absurd (let never : _≡_ {A = ℕ} 0 1 = cc in omega arith)
+
+-- 12 is not given, and 13 decides
+pub room-passed : (room number : ℕ) → roomTest room 16 ≡ 0 → number ≡ first (roomTest room 16 ∷ number ∷ [])
+room-passed room number e = sym (first-skip _ _ e ∙ first-last number)
+
+-- ---- from a file to its plan
+
+module _ (b : List ℕ) (room v w : ℕ) where
+  -- what the bounds of the pair promise
+  abbrev pub Told : Paired → Type 0
+  Told r =
+      (r ≡ pairAnswer (hostRefusal b room v w) (boundsOf (planOf b) v w))
+      × (hostRefusal b room v w ≡ 0 → Encloses (planOf b) v w (boundsIn r .lower) (boundsIn r .upper) (count (planOf b)))
+
+  -- a file that is refused
+  pub file-refused : (n : ℕ) (h : Header) → reading.Refused n ≡ readAnswer (refusal b) h → Told (paired.Refused n)
+  unfolding hostRefusal
+  file-refused n h e =
+      let r = reading-refused (refusal b) n h e in
+      let is : n ≡ hostRefusal b room v w = stop _ (r .0) (r .1) in
+      (pair-refuses n (hostRefusal b room v w) (boundsOf (planOf b) v w) is (r .1), λ z. absurd (r .1 (is ∙ z)))
+
+  module _ (links words : List ℕ) (z : refusal b ≡ 0) (l : Loaded b links words) where
+    same-number : first (roomTest room 16 ∷ pairRefusal (headerOf b) 256 128 links words v w ∷ []) ≡ hostRefusal b room v w
+    unfolding hostRefusal pairRefusal headerOf
+    same-number =
+        ap (λ (n : ℕ). first (roomTest room 16 ∷ n ∷ [])) (first-skip _ _ (l .accepted) ∙ first-last _)
+        ∙ sym (first-skip _ _ z)
+
+    valid : planRefusal (planOf b) ≡ 0
+    valid = subst (λ (p : Plan). planRefusal p ≡ 0) (l .denoted) (lists-denote (headerOf b) 256 128 links words (l .accepted))
+
+    -- a file that is accepted
+    pub file-told : (h : Header) → h ≡ headerOf b → (r : Paired)
+        → r ≡ pairAnswer (first (roomTest room 16 ∷ pairRefusal h 256 128 links words v w ∷ [])) (boundsOf (planOfLists h links words) v w)
+        → Told r
+    file-told h x r f =
+        let e =
+        subst
+        (λ (y : Header). r ≡ pairAnswer (first (roomTest room 16 ∷ pairRefusal y 256 128 links words v w ∷ [])) (boundsOf (planOfLists y links words) v w))
+        x
+        f in
+        let is : r ≡ pairAnswer (hostRefusal b room v w) (boundsOf (planOf b) v w) =
+        e ∙ ap₂ (λ (n : ℕ) (p : Plan). pairAnswer n (boundsOf p v w)) same-number (l .denoted) in (
+          is,
+          λ y.
+              let found : boundsIn r ≡ boundsOf (planOf b) v w = ap boundsIn (is ∙ ap (λ (n : ℕ). pairAnswer n (boundsOf (planOf b) v w)) y) in
+              subst (λ (q : PairBounds). Encloses (planOf b) v w (q .lower) (q .upper) (count (planOf b))) (sym found) (enclosed (planOf b) valid v w),
+        )
+
+  -- a refusal changes nothing
+  pub host-refused : (out : List ℕ) (n : ℕ) (r : Paired) → r ≡ paired.Refused n → Told r
+      → (n ≡ hostRefusal b room v w)
+      × ((out ≡ filled (hostRefusal b room v w) (sixteen (lowerOf (planOf b) v w) (upperOf (planOf b) v w)) out)
+      × (hostRefusal b room v w ≡ 0 → Encloses (planOf b) v w (lowerIn out) (upperIn out) (count (planOf b))))
+  host-refused out n r k t =
+      let is = pair-refused-is (hostRefusal b room v w) n (boundsOf (planOf b) v w) (sym k ∙ t .0) in
+      (is .0, (filled-none (hostRefusal b room v w) _ out (is .1), λ z. absurd (is .1 z)))
+
+  pub host-room : hostRefusal b room v w ≡ 0 → 16 ≤ room
+  unfolding hostRefusal
+  host-room e = room-none room 16 (first-none _ _ (first-none _ _ e .1) .0)
+
+-- ---- sixteen bytes
+
+-- the two numbers laid down one after the other
+pub bounds-laid : (out out₁ out₂ : List ℕ) (lower upper : ℕ)
+    → out₁ ≡ sets out 0 (little 8 lower) → out₂ ≡ sets out₁ 8 (little 8 upper) → out₂ ≡ sets out 0 (sixteen lower upper)
+unfolding sixteen
+bounds-laid out out₁ out₂ lower upper e f =
+    f ∙ sets-then (little 8 lower) (little 8 upper) out out₁ 0 8 e (omega (arith, length-little 8 lower))
+
+-- and read back
+module _ (out : List ℕ) (lower upper : ℕ) (room : 16 ≤ length out) where
+  long : length (little 8 lower ++ little 8 upper) ≡ 16
+  long = rw (length-append, length-little, length-little)
+
+  laid : sets out 0 (sixteen lower upper) ≡ little 8 lower ++ (little 8 upper ++ drop (0 + length (little 8 lower ++ little 8 upper)) out)
+  unfolding sixteen
+  laid = sets-eq (little 8 lower ++ little 8 upper) out 0 (omega (arith, long)) ∙ append-assoc (little 8 lower) (little 8 upper) _
+
+  pub lower-back : lower < 2 ^ 64 → lowerIn (sets out 0 (sixteen lower upper)) ≡ lower
+  lower-back h = rw (laid, take-at (little 8 lower) _ 8 (length-little 8 lower)) (value-little 8 lower h)
+
+  pub upper-back : upper < 2 ^ 64 → upperIn (sets out 0 (sixteen lower upper)) ≡ upper
+  upper-back h =
+      rw (laid, drop-at (little 8 lower) _ 8 (length-little 8 lower), take-at (little 8 upper) _ 8 (length-little 8 upper))
+      (value-little 8 upper h)
+
+-- an acceptance lays down the first sixteen bytes, and its bounds enclose the exact sum
+pub host-done : (b out out′ : List ℕ) (v w : ℕ) (found : PairBounds) (r : Paired)
+    → r ≡ paired.Done found → Told b (length out) v w r → out′ ≡ sets out 0 (sixteen (found .lower) (found .upper))
+    → found .lower < 2 ^ 64 → found .upper < 2 ^ 64
+    → (0 ≡ hostRefusal b (length out) v w)
+    × ((out′ ≡ filled (hostRefusal b (length out) v w) (sixteen (lowerOf (planOf b) v w) (upperOf (planOf b) v w)) out)
+    × (hostRefusal b (length out) v w ≡ 0 → Encloses (planOf b) v w (lowerIn out′) (upperIn out′) (count (planOf b))))
+host-done b out out′ v w found r k t e low high =
+    let is = pair-done-is (hostRefusal b (length out) v w) found (boundsOf (planOf b) v w) (sym k ∙ t .0) in
+    let room = host-room b (length out) v w (is .0) in
+    let laid : out′ ≡ sets out 0 (sixteen (lowerOf (planOf b) v w) (upperOf (planOf b) v w)) =
+    e ∙ ap (λ (x : PairBounds). sets out 0 (sixteen (x .lower) (x .upper))) (is .1) in
+    let lower : boundsIn r .lower ≡ lowerIn out′ = ap (λ (x : Paired). boundsIn x .lower) k ∙ sym (ap lowerIn e ∙ lower-back out (found .lower) (found .upper) room low) in
+    let upper : boundsIn r .upper ≡ upperIn out′ = ap (λ (x : Paired). boundsIn x .upper) k ∙ sym (ap upperIn e ∙ upper-back out (found .lower) (found .upper) room high) in (
+      sym (is .0),
+      (
+        laid ∙ filled-all (hostRefusal b (length out) v w) _ out (is .0),
+        λ z. subst₂ (λ (x y : ℕ). Encloses (planOf b) v w x y (count (planOf b))) lower upper (t .1 z),
+      ),
+    )

@@ -1,0 +1,2 @@
+-- Laws of the crate `wellember`.
+pub mod HostLaws

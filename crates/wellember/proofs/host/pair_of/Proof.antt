@@ -1,0 +1,42 @@
+-- `wellember::host::pair_of` meets its contract: the arrays denote the plan that the file stands for. Assumes nothing.
+use mathlib.Core.Path.{_≡_, sym, _∙_}
+use Rattle.wellember.proofs.HostLaws.{file-refused, reading-accepted, file-told}
+use borrow.Author.Needs.{needs}
+use Rattle.wellember.proofs.host.pair_of.Statement.{statement}
+use Rattle.wellember.proofs.host.pair_of.Tie as tie
+
+read-input-requires : tie.Need-read-input-requires
+read-input-requires c κs = search needs
+
+enum-known-answer : tie.Need-enum-known-answer
+enum-known-answer c = search needs
+
+enum-known-answer-2 : tie.Need-enum-known-answer-2
+enum-known-answer-2 c = search needs
+
+pair-in-requires : tie.Need-pair-in-requires
+pair-in-requires c κs = search needs
+
+returns : tie.Need-returns
+returns c =
+    let a = c .before .before .before .before .before .before .before .args in
+    let read = c .before .before .before .read-input in
+    file-refused (a .s .now) (a .room) (a .v) (a .w) _ _ (sym (c .before .answer .given .1) ∙ read .ensures .0)
+
+returns-2 : tie.Need-returns-2
+returns-2 c =
+    let a = c .before .before .before .before .before .before .before .before .before .before .args in
+    let read = c .before .before .before .before .before .before .read-input in
+    let h = reading-accepted _ _ _ (sym (c .before .before .before .before .answer2 .given .1) ∙ read .ensures .0) in
+    file-told (a .s .now) (a .room) (a .v) (a .w) _ _ (h .0) (read .ensures .1 (h .0)) _ (h .1) _ (c .pair-in .ensures)
+
+pub pair-of-spec : {M : Type 1} → statement M
+pair-of-spec =
+    tie.close
+    (tie.spec
+    read-input-requires
+    enum-known-answer
+    enum-known-answer-2
+    pair-in-requires
+    returns
+    returns-2)
