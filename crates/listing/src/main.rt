@@ -1,0 +1,14 @@
+// The listing program: document 01, section "Listing". Reads a plan from standard input and writes its listing, or the line `refused N`, to
+// standard output. The first 50,070 bytes of an input decide its listing (`listing-prefix` of the crate `text`), so no more are read; the
+// buffer of 92,789 bytes holds every listing (`program-holds`).
+// Assumes the contracts of the C functions that it calls. An input that cannot be read is taken to end there.
+use text::Listed;
+
+fn main() {
+    let mut plan = [0u8; 50070];
+    let mut out = [0u8; 92789];
+    let got = io::read_full(0, &mut plan);
+    if let Listed::Text(size) = text::listing_text(&plan[..got], &mut out) {
+        io::write_all(1, &out[..size]);
+    }
+}

@@ -1,0 +1,6 @@
+-- Laws of the crate `text`.
+pub mod FieldLaws
+pub mod RowLaws
+pub mod TextLaws
+pub mod MostLaws
+pub mod Examples

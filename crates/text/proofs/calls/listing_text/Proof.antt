@@ -1,0 +1,56 @@
+-- `text::calls::listing_text` meets its contract: the array has room for the longest listing. Assumes nothing.
+use mathlib.Core.Path.{_≡_, sym, subst}
+use Prim.Native.Nat.{ℕ, _<_, _≤_}
+use native.Mathlib.Omega.{arith}
+use borrow.Author.Needs.{needs}
+use lib.ListN.{length, replicate}
+use Rattle.text.specs.Listing.{listing}
+use Rattle.text.proofs.TextLaws.{short-answer, text-answer, size-kept}
+use Rattle.text.proofs.MostLaws.{array-room}
+use Rattle.text.proofs.calls.listing_text.Statement.{statement}
+use Rattle.text.proofs.calls.listing_text.Tie as tie
+use Rattle.text.proofs.calls.listing_text.Reads as reads
+use Rattle.text.proofs.calls.listing_text.Lts as lts
+use Rattle.plan.proofs.copy_bytes.Reads as copy-bytes-reads
+use Rattle.text.proofs.calls.put_listing.Reads as put-listing-reads
+
+slice-aggregate-put-listing : tie.Need-slice-aggregate-put-listing
+slice-aggregate-put-listing c = search needs
+
+put-listing-requires : tie.Need-put-listing-requires
+put-listing-requires c κs = array-room (c .before .before .before .args .plan .now) (λ i. omega (arith, c .before .before .shared-slice-known .given i))
+
+returns : tie.Need-returns
+returns c =
+    let put = c .before .before .put-listing .ensures in
+    short-answer _ _ _ _ (subst (λ (k : ℕ). length (c .before .before .before .before .before .before .args .out .now) < k) (put .1) (c .if1 .taken))
+
+slice-aggregate-copy-bytes : tie.Need-slice-aggregate-copy-bytes
+slice-aggregate-copy-bytes c = search needs
+
+copy-bytes-requires : tie.Need-copy-bytes-requires
+copy-bytes-requires c κs =
+    let b = c .before .before .before .before .before .before .before .before .args .plan .now in
+    let put = c .before .before .before .before .put-listing .ensures in
+    (size-kept (replicate {A = ℕ} 92789 0) _ (listing b) _ (put .0) (put .1) (array-room b (λ i. omega (arith, c .before .before .before .before .before .before .before .shared-slice-known .given i))), c .before .before .if1 .left)
+
+same-length : tie.Need-same-length
+same-length c = search needs
+
+returns-2 : tie.Need-returns-2
+returns-2 c =
+    let a = c .before .before .before .before .before .before .before .before .before .before .before .args in
+    let put = c .before .before .before .before .before .before .before .put-listing .ensures in
+    text-answer _ _ _ (listing (a .plan .now)) (a .out .now) _ (array-room (a .plan .now) (λ i. omega (arith, c .before .before .before .before .before .before .before .before .before .before .shared-slice-known .given i))) (put .0) (put .1) (c .before .before .before .before .before .if1 .left) (c .before .before .copy-bytes .ensures)
+
+pub listing-text-spec : {M : Type 1} → statement M
+listing-text-spec =
+    tie.close
+    (tie.spec
+    slice-aggregate-put-listing
+    put-listing-requires
+    returns
+    slice-aggregate-copy-bytes
+    copy-bytes-requires
+    same-length
+    returns-2)

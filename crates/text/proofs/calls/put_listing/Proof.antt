@@ -1,0 +1,60 @@
+-- `text::calls::put_listing` meets its contract: the line of a refused file, or the listing of its plan. Assumes nothing.
+use mathlib.Core.Path.{_≡_, sym, _∙_}
+use Rattle.text.proofs.TextLaws.{refused-listing, loaded-accepted, accepted-listing, fits-as, laid-as}
+use borrow.Author.Needs.{needs}
+use Rattle.text.proofs.calls.put_listing.Statement.{statement}
+use Rattle.text.proofs.calls.put_listing.Tie as tie
+use Rattle.text.proofs.calls.put_listing.Reads as reads
+use Rattle.text.proofs.calls.put_listing.Lts as lts
+use Rattle.input.proofs.read_input.Reads as read-input-reads
+use Rattle.text.proofs.calls.put_accepted.Reads as put-accepted-reads
+use Rattle.text.proofs.fields.put_refused.Reads as put-refused-reads
+
+read-input-requires : tie.Need-read-input-requires
+read-input-requires c κs = search needs
+
+enum-known-answer : tie.Need-enum-known-answer
+enum-known-answer c = search needs
+
+put-refused-requires : tie.Need-put-refused-requires
+put-refused-requires c κs = fits-as _ _ (c .before .before .before .before .before .before .before .before .before .args .out .now) (refused-listing (c .before .before .before .before .before .before .before .before .before .args .s .now) _ _ (sym (c .before .before .answer .given .1) ∙ c .before .before .before .before .read-input .ensures .0)) (c .before .before .before .before .before .before .before .before .before .pre)
+
+enum-known-answer-2 : tie.Need-enum-known-answer-2
+enum-known-answer-2 c = search needs
+
+put-accepted-requires : tie.Need-put-accepted-requires
+put-accepted-requires c κs =
+    let e = sym (c .before .before .before .before .answer2 .given .1) ∙ c .before .before .before .before .before .before .read-input .ensures .0 in
+    let b = c .before .before .before .before .before .before .before .before .before .before .before .args .s .now in
+    let read = c .before .before .before .before .before .before .read-input in (
+      loaded-accepted b _ _ _ e (read .ensures .1),
+      fits-as _ _ (c .before .before .before .before .before .before .before .before .before .before .before .args .out .now) (accepted-listing b _ _ _ e (read .ensures .1)) (c .before .before .before .before .before .before .before .before .before .before .before .pre),
+    )
+
+same-length : tie.Need-same-length
+same-length c = search needs
+
+returns : tie.Need-returns
+returns c = laid-as _ _ _ _ _ (refused-listing (c .before .before .before .before .before .before .before .before .before .before .before .before .args .s .now) _ _ (sym (c .before .before .before .before .before .answer .given .1) ∙ c .before .before .before .before .before .before .before .read-input .ensures .0)) (c .before .before .put-refused .ensures)
+
+same-length-2 : tie.Need-same-length-2
+same-length-2 c = search needs
+
+returns-2 : tie.Need-returns-2
+returns-2 c =
+    let e = sym (c .before .before .before .before .before .before .before .answer2 .given .1) ∙ c .before .before .before .before .before .before .before .before .before .read-input .ensures .0 in
+    laid-as _ _ _ _ _ (accepted-listing (c .before .before .before .before .before .before .before .before .before .before .before .before .before .before .args .s .now) _ _ _ e (c .before .before .before .before .before .before .before .before .before .read-input .ensures .1)) (c .before .before .put-accepted .ensures)
+
+pub put-listing-spec : {M : Type 1} → statement M
+put-listing-spec =
+    tie.close
+    (tie.spec
+    read-input-requires
+    enum-known-answer
+    put-refused-requires
+    enum-known-answer-2
+    put-accepted-requires
+    same-length
+    returns
+    same-length-2
+    returns-2)

@@ -1,0 +1,28 @@
+-- `text::fields::put_field` meets its contract. Assumes nothing.
+use native.Mathlib.Omega.{arith}
+use Rattle.text.proofs.FieldLaws.{field-long, field-laid}
+use borrow.Author.Needs.{needs}
+use Rattle.text.proofs.fields.put_field.Statement.{statement}
+use Rattle.text.proofs.fields.put_field.Tie as tie
+use Rattle.text.proofs.fields.put_field.Reads as reads
+use Rattle.text.proofs.fields.put_field.Lts as lts
+use Rattle.text.proofs.fields.put_decimal.Reads as put-decimal-reads
+
+put-decimal-requires : tie.Need-put-decimal-requires
+put-decimal-requires c κs = omega (arith, c .before .before .pre, field-long (c .before .before .args .x) (c .before .before .args .end))
+
+slice-write-out : tie.Need-slice-write-out
+slice-write-out c = omega (arith, c .before .before .put-decimal .kept .0, c .before .before .put-decimal .ensures .1, c .before .before .before .before .before .pre, field-long (c .before .before .before .before .before .args .x) (c .before .before .before .before .before .args .end))
+
+add-result : tie.Need-add-result
+add-result c = omega (arith, c .before .before .put-decimal .kept .0, c .before .before .put-decimal .ensures .1, c .before .before .before .before .before .pre, field-long (c .before .before .before .before .before .args .x) (c .before .before .before .before .before .args .end))
+
+same-length : tie.Need-same-length
+same-length c = search needs
+
+returns : tie.Need-returns
+returns c = field-laid _ _ _ _ _ _ (c .before .before .put-decimal .ensures)
+
+pub put-field-spec : {M : Type 1} → statement M
+put-field-spec =
+    tie.close (tie.spec put-decimal-requires slice-write-out add-result same-length returns)

@@ -1,0 +1,11 @@
+-- What the calls of the crate `text` answer.
+-- Assumes nothing.
+use mathlib.Core.List.{List}
+use Prim.Native.Nat.{ℕ, zero, suc}
+use Rattle.text.specs.declared.Listed.{Listed}
+use Rattle.text.specs.declared.Listed.the-variants as listed
+
+-- the answer: the number of the refusal, or how many bytes the listing has
+abbrev pub listedAnswer : ℕ → ℕ → Listed
+listedAnswer zero size = listed.Text size
+listedAnswer (suc number) size = listed.Refused (suc number)

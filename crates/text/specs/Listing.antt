@@ -1,0 +1,56 @@
+-- The listing of a plan file: document 01, section "Listing", to the byte. 32 is a space, 10 a line feed.
+-- Assumes nothing.
+use mathlib.Core.List.{List, [], _∷_, _++_}
+use Prim.Native.Nat.{ℕ, zero, suc, _-_}
+use lib.ListN.{length}
+use Rattle.plan.specs.Plan.{Plan}
+use Rattle.plan.specs.File.{refusal, planOf}
+use Rattle.walk.specs.Walk.{count, complete, massExamined}
+use Rattle.bounds.specs.Bounds.{lowerOf, upperOf}
+use Rattle.text.specs.Decimal.{decimal}
+
+-- a field and the byte after it
+unfoldable pub field : ℕ → ℕ → List ℕ
+field x end = decimal x ++ (end ∷ [])
+
+-- a line: its fields, "separated by one space, and each line ends with one line feed"
+unfoldable pub line : List ℕ → List ℕ
+line [] = 10 ∷ []
+line (x ∷ []) = field x 10
+line (x ∷ y ∷ fields) = field x 32 ++ line (y ∷ fields)
+
+-- the texts of the pairs (v, w), (v, w + 1), .., `some` of them
+unfoldable pub rowText : (ℕ → ℕ → List ℕ) → ℕ → ℕ → ℕ → List ℕ
+rowText f v w zero = []
+rowText f v w (suc some) = f v w ++ rowText f v (suc w) some
+
+-- the texts of the pairs of `some` nodes from v on, of n nodes
+unfoldable pub rowsText : (ℕ → ℕ → List ℕ) → ℕ → ℕ → ℕ → List ℕ
+rowsText f n v zero = []
+rowsText f n v (suc some) = rowText f v (suc v) (n - suc v) ++ rowsText f n (suc v) some
+
+-- the texts of all pairs of n nodes, "ordered by v, then w"
+unfoldable pub pairsText : (ℕ → ℕ → List ℕ) → ℕ → List ℕ
+pairsText f n = rowsText f n 0 n
+
+-- the line of a pair: "v, w, lower, upper"
+unfoldable pub pairLine : Plan → ℕ → ℕ → List ℕ
+pairLine p v w = line (v ∷ w ∷ lowerOf p v w ∷ upperOf p v w ∷ [])
+
+-- the listing of a plan. "Line 1: nodes, links, events, examined count, complete, E. Then for each pair: v, w, lower, upper."
+unfoldable pub planText : Plan → List ℕ
+planText p =
+    line (p .nodes ∷ length (p .links) ∷ length (p .events) ∷ count p ∷ complete p ∷ massExamined p ∷ [])
+    ++ pairsText (pairLine p) (p .nodes)
+
+-- "A refused plan prints only one line: `refused`, a space and its number."
+unfoldable pub refusedText : ℕ → List ℕ
+refusedText number = 114 ∷ 101 ∷ 102 ∷ 117 ∷ 115 ∷ 101 ∷ 100 ∷ 32 ∷ line (number ∷ [])
+
+unfoldable pub answerText : ℕ → Plan → List ℕ
+answerText zero p = planText p
+answerText (suc number) p = refusedText (suc number)
+
+-- the listing of a list of bytes
+unfoldable pub listing : List ℕ → List ℕ
+listing b = answerText (refusal b) (planOf b)

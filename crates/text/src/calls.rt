@@ -1,0 +1,60 @@
+// The listing of a plan file.
+use crate::Listed;
+use crate::fields::put_refused;
+use crate::rows::put_plan;
+use plan::Header;
+use plan::Reading;
+ghost use mathlib.Core.Path.{_≡_};
+ghost use Prim.Native.Nat.{_≤_};
+ghost use lib.ListN.{length};
+ghost use lib.Seq.{sets};
+ghost use Rattle.plan.specs.Tests.{roomTest};
+ghost use Rattle.plan.specs.Records.{planOfLists, listsRefusal};
+ghost use Rattle.plan.specs.Calls.{filled};
+ghost use Rattle.text.specs.Listing.{planText, listing};
+ghost use Rattle.text.specs.Calls.{listedAnswer};
+
+// The listing of a plan that stands in arrays and is accepted.
+fn put_accepted(out: &mut [u8], h: Header, links: &[u8; 256], words: &[u64; 512]) -> usize
+    requires { ⌜ listsRefusal h 256 128 (now links) (now words) ≡ 0 ⌝ }
+    requires { ⌜ length (planText (planOfLists h (now links) (now words))) ≤ length (now out) ⌝ }
+    ensures { λ r. ⌜ (now (out .exit) ≡ sets (now (out .entry)) 0 (planText (planOfLists h (now (links .entry)) (now (words .entry)))))
+        × (r ≡ length (planText (planOfLists h (now (links .entry)) (now (words .entry))))) ⌝ }
+{
+    let mut sums = [0u64; 2016];
+    let totals = bounds::walk_all(h, links, words, &mut sums);
+    put_plan(out, h, totals, &sums)
+}
+
+// The listing of a plan file, where there is room for it.
+fn put_listing(s: &[u8], out: &mut [u8]) -> usize
+    requires { ⌜ length (listing (now s)) ≤ length (now out) ⌝ }
+    ensures { λ r. ⌜ (now (out .exit) ≡ sets (now (out .entry)) 0 (listing (now (s .entry)))) × (r ≡ length (listing (now (s .entry)))) ⌝ }
+{
+    let mut links = [0u8; 256];
+    let mut words = [0u64; 512];
+    let answer = input::read_input(s, &mut links, &mut words);
+    match answer {
+        Reading::Refused(number) => put_refused(out, number),
+        Reading::Accepted(h) => put_accepted(out, h, &links, &words),
+    }
+}
+
+// Lays down the listing of a plan file, and answers how many bytes it has; 12, and nothing is changed, where the buffer is too short. The
+// text is made in an array that holds the longest listing.
+pub fn listing_text(plan: &[u8], out: &mut [u8]) -> Listed
+    ensures answer { λ r. ⌜ r ≡ listedAnswer
+        (roomTest (length (now (out .entry))) (length (listing (now (plan .entry)))))
+        (length (listing (now (plan .entry)))) ⌝ }
+    ensures bytes { λ r. ⌜ now (out .exit) ≡ filled
+        (roomTest (length (now (out .entry))) (length (listing (now (plan .entry)))))
+        (listing (now (plan .entry))) (now (out .entry)) ⌝ }
+{
+    let mut text = [0u8; 92789];
+    let size = put_listing(plan, &mut text);
+    if out.len() < size {
+        return Listed::Refused(12);
+    }
+    plan::copy_bytes(&text, out, size);
+    Listed::Text(size)
+}
