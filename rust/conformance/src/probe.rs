@@ -97,7 +97,6 @@ macro_rules! with_lists {
         }
     }};
 }
-#[cfg(feature = "readings")]
 pub(crate) use with_lists;
 
 /// The check of a file.

@@ -213,7 +213,6 @@ fn outputs_too_short_and_pairs_that_are_none() {
     }
 }
 
-#[cfg(feature = "readings")]
 #[test]
 fn refusals_of_readings() {
     use conformance::readings::{downtime, figure, topologies, witness};

@@ -1,5 +1,4 @@
 //! The listing program against the account's text, to the byte.
-#![cfg(feature = "listing")]
 
 use account::file::layout;
 use conformance::listing::listing;

@@ -1,5 +1,4 @@
 //! The further readings against the account: topology list, conditional figure, witness, downtime.
-#![cfg(feature = "readings")]
 
 use account::readings as own;
 use account::{number, WHOLE};

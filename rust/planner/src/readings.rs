@@ -1,64 +1,25 @@
-//! Witness and downtime: from the proved code where `probe` exports them (feature `readings`), else from the account.
+//! Witness and downtime, by the proved code.
 
 use account::WHOLE;
+use conformance::readings;
 use plans::Lists;
 
 /// The seconds in a year that two masses stand for, lower first.
 pub fn downtime(lower: u64, upper: u64) -> [u64; 2] {
     assert!(lower <= WHOLE && upper <= WHOLE, "the bounds of a pair");
-    source::downtime(lower, upper)
+    readings::downtime(lower, upper).1
 }
 
 /// For each pair, in the order of pairs, the failing events of one examined scenario that disconnects it.
 pub fn witnesses(lists: &Lists) -> Vec<Option<u128>> {
-    source::witnesses(lists)
-}
-
-#[cfg(feature = "readings")]
-mod source {
-    use conformance::readings;
-    use plans::Lists;
-
-    pub fn downtime(lower: u64, upper: u64) -> [u64; 2] {
-        readings::downtime(lower, upper).1
-    }
-
-    pub fn witnesses(lists: &Lists) -> Vec<Option<u128>> {
-        let lent = lists.lent();
-        let nodes = lent.header.nodes;
-        let pairs = (0..nodes).flat_map(|v| (v + 1..nodes).map(move |w| (v, w)));
-        let witness = |(v, w)| match readings::witness(&lent, v, w) {
-            (0, [low, high]) => Some(u128::from(high) << 64 | u128::from(low)),
-            _ => None,
-        };
-        pairs.map(witness).collect()
-    }
-}
-
-#[cfg(not(feature = "readings"))]
-mod source {
-    use account::topology::components;
-    use account::walk::walk;
-    use plans::Lists;
-
-    pub fn downtime(lower: u64, upper: u64) -> [u64; 2] {
-        account::readings::downtime(lower, upper).map_or([0; 2], |(lower, upper)| [lower, upper])
-    }
-
-    pub fn witnesses(lists: &Lists) -> Vec<Option<u128>> {
-        let plan = lists.lent().plan().expect("a plan that was read");
-        let pairs = plan.pairs();
-        let mut found = vec![None; pairs.len()];
-        for scenario in walk(&plan).examined {
-            let components = components(&plan, scenario.failing);
-            for (witness, &(v, w)) in found.iter_mut().zip(&pairs) {
-                if witness.is_none() && components.disconnects(v, w) {
-                    *witness = Some(scenario.failing);
-                }
-            }
-        }
-        found
-    }
+    let lent = lists.lent();
+    let nodes = lent.header.nodes;
+    let pairs = (0..nodes).flat_map(|v| (v + 1..nodes).map(move |w| (v, w)));
+    let witness = |(v, w)| match readings::witness(&lent, v, w) {
+        (0, [low, high]) => Some(u128::from(high) << 64 | u128::from(low)),
+        _ => None,
+    };
+    pairs.map(witness).collect()
 }
 
 #[cfg(test)]

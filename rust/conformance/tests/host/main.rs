@@ -1,10 +1,11 @@
 //! The C archive against the account.
-#![cfg(feature = "host")]
+
+mod archive;
 
 use account::file::layout;
 use account::{calls, number};
 use conformance::compare::random_pair;
-use conformance::{host, Tally};
+use conformance::Tally;
 use plans::damage::damaged_file;
 use plans::examples::{longest, longest_with_last_count_255, triangle};
 use plans::valid::random_plan;
@@ -15,7 +16,7 @@ const PLANS: usize = 20_000;
 /// Both calls on one file, and the buffer after them.
 fn compare(rng: &mut Rng, bytes: &[u8], nodes: usize) -> u32 {
     assert_eq!(
-        host::check(bytes),
+        archive::check(bytes),
         calls::check(bytes),
         "check of {bytes:?}"
     );
@@ -25,7 +26,7 @@ fn compare(rng: &mut Rng, bytes: &[u8], nodes: usize) -> u32 {
     let mut out = rng.bytes(length);
     let mut own_out = out.clone();
     let expected = number(&calls::host_pair(bytes, v, w, &mut own_out));
-    let refusal = host::pair(bytes, v, w, &mut out);
+    let refusal = archive::pair(bytes, v, w, &mut out);
     assert_eq!(refusal, expected, "pair {v} {w} of {bytes:?}");
     assert_eq!(out, own_out, "pair {v} {w} of {bytes:?}");
     refusal
@@ -49,10 +50,10 @@ fn the_archive_takes_files_of_any_length() {
 fn the_archive_gives_twelve_before_thirteen() {
     let mut out = [9; 17];
     let bytes = layout(&triangle());
-    assert_eq!(host::pair(&bytes, 1, 1, &mut out[..15]), 12);
-    assert_eq!(host::pair(&bytes, 1, 1, &mut out), 13);
+    assert_eq!(archive::pair(&bytes, 1, 1, &mut out[..15]), 12);
+    assert_eq!(archive::pair(&bytes, 1, 1, &mut out), 13);
     assert_eq!(out, [9; 17]);
-    assert_eq!(host::pair(&bytes, 0, 2, &mut out), 0);
+    assert_eq!(archive::pair(&bytes, 0, 2, &mut out), 0);
     assert_eq!(out, [0, 0, 0, 0, 0, 0, 0, 0, 4, 0, 0, 0, 0, 0, 0, 0, 9]);
 }
 
