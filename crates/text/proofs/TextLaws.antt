@@ -134,16 +134,17 @@ module _ (b links words : List ℕ) (h : Header) (e : reading.Accepted h ≡ rea
 -- ---- the answer
 
 pub short-answer : (room size : ℕ) (out text : List ℕ) → room < size
-    → (listed.Refused 12 ≡ listedAnswer (roomTest room size) size) × (out ≡ filled (roomTest room size) text out)
-short-answer room size out text h = rw (lt-ltb room size h) (refl, refl)
+    → (listed.Refused 12 ≡ listedAnswer (roomTest room size) size) × ((out ≡ filled (roomTest room size) text out) × (0 ≤ length out))
+short-answer room size out text h = rw (lt-ltb room size h) (refl, (refl, omega arith))
 
 pub text-answer : (size : ℕ) (buffer made text out out′ : List ℕ) → length text ≤ length buffer
     → made ≡ sets buffer 0 text → size ≡ length text → size ≤ length out → out′ ≡ sets out 0 (take size made)
-    → (listed.Text size ≡ listedAnswer (roomTest (length out) (length text)) (length text)) × (out′ ≡ filled (roomTest (length out) (length text)) text out)
+    → (listed.Text size ≡ listedAnswer (roomTest (length out) (length text)) (length text))
+    × ((out′ ≡ filled (roomTest (length out) (length text)) text out) × (size ≤ length out′))
 text-answer size buffer made text out out′ fit m s room e =
     let copy : take size made ≡ text = ap₂ (λ (n : ℕ) (x : List ℕ). take n x) s m ∙ take-sets buffer text fit in
     let enough : length text ≤ length out = omega arith in
-    rw (le-ltb (length out) (length text) enough) (ap listed.Text s, e ∙ ap (sets out 0) copy)
+    rw (le-ltb (length out) (length text) enough) (ap listed.Text s, (e ∙ ap (sets out 0) copy, omega (arith, ap length e, length-sets out 0 (take size made))))
 
 -- what was laid down has room where it was laid down
 pub size-kept : (buffer made text : List ℕ) (size : ℕ) → made ≡ sets buffer 0 text → size ≡ length text → length text ≤ length buffer → size ≤ length made

@@ -9,3 +9,8 @@ use Rattle.text.specs.declared.Listed.the-variants as listed
 abbrev pub listedAnswer : ℕ → ℕ → Listed
 listedAnswer zero size = listed.Text size
 listedAnswer (suc number) size = listed.Refused (suc number)
+
+-- how many bytes an answer says that were laid down: 0 where it refuses
+abbrev pub sizeIn : Listed → ℕ
+sizeIn (listed.Refused number) = 0
+sizeIn (listed.Text size) = size

@@ -12,7 +12,7 @@ ghost use Rattle.plan.specs.Tests.{roomTest};
 ghost use Rattle.plan.specs.Records.{planOfLists, listsRefusal};
 ghost use Rattle.plan.specs.Calls.{filled};
 ghost use Rattle.text.specs.Listing.{planText, listing};
-ghost use Rattle.text.specs.Calls.{listedAnswer};
+ghost use Rattle.text.specs.Calls.{listedAnswer, sizeIn};
 
 // The listing of a plan that stands in arrays and is accepted.
 fn put_accepted(out: &mut [u8], h: Header, links: &[u8; 256], words: &[u64; 512]) -> usize
@@ -49,6 +49,7 @@ pub fn listing_text(plan: &[u8], out: &mut [u8]) -> Listed
     ensures bytes { λ r. ⌜ now (out .exit) ≡ filled
         (roomTest (length (now (out .entry))) (length (listing (now (plan .entry)))))
         (listing (now (plan .entry))) (now (out .entry)) ⌝ }
+    ensures within { λ r. ⌜ sizeIn r ≤ length (now (out .exit)) ⌝ }
 {
     let mut text = [0u8; 92789];
     let size = put_listing(plan, &mut text);
