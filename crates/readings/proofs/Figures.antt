@@ -1,17 +1,16 @@
 -- The conditional figure: from the code's floats to those of the definition, and from the bounds of a pair to E.
 -- Assumes nothing.
 use mathlib.Core.Path.{_≡_, refl, sym, ap, subst, _∙_}
-use mathlib.Core.Bool.{not}
-use mathlib.Core.List.{List, [], _∷_}
-use Prim.Native.Nat.{ℕ, zero, suc, _+_, _-_, _*_, _/_, _%_, _^_, _≤_, _<_}
+use mathlib.Core.List.{List}
+use Prim.Native.Nat.{ℕ, zero, suc, _+_, _-_, _/_, _%_, _^_, _≤_}
 use native.Mathlib.Omega.{arith}
 use lib.Dec.{T, le→leb}
 use lib.IntN.{pos}
 use lib.ListN.{length}
-use lib.Ieee.{Float, binary64, add, mul, div, ofInt, ofBits, inFloat, isNan}
+use lib.Ieee.{Float, binary64, add, mul, div, ofInt, ofBits, inFloat}
 use Rattle.mass.specs.Split.{certain, whole}
 use Rattle.plan.specs.Plan.{Plan}
-use Rattle.plan.specs.Records.{planOfLists, planRefusal, listsRefusal}
+use Rattle.plan.specs.Records.{planOfLists, planRefusal}
 use Rattle.plan.specs.declared.Header.{Header}
 use Rattle.plan.proofs.ListTheorems.{lists-denote}
 use Rattle.walk.specs.Walk.{massExamined}
@@ -24,7 +23,7 @@ use Rattle.bounds.specs.declared.Paired.{Paired}
 use Rattle.bounds.specs.declared.Paired.the-variants as paired
 use Rattle.bounds.proofs.Answers.{pair-none, raised, mass-most}
 use Rattle.readings.specs.Figure.{float, floatOf, sharesOf, figureAnswer, figureOf, floatsIn, Numbers}
-use Rattle.readings.specs.FigureLaws.{small-exact, shares-numbers, float-number}
+use Rattle.readings.specs.FigureLaws.{shares-numbers, float-number}
 use Rattle.readings.specs.declared.Shares.{Shares}
 use Rattle.readings.specs.declared.Figured.{Figured}
 use Rattle.readings.specs.declared.Figured.the-variants as figured

@@ -1,9 +1,9 @@
 -- The search for a witness over the ends of the walk.
 -- Assumes nothing.
-use mathlib.Core.Path.{_≡_, refl, sym, ap, subst, _∙_}
-use mathlib.Core.Bool.{Bool, true, false, not, _&&_, _||_, or-true}
+use mathlib.Core.Path.{_≡_, refl, sym, ap, _∙_}
+use mathlib.Core.Bool.{Bool, true, false, not, _&&_, or-true}
 use mathlib.Core.List.{List, [], _∷_}
-use Prim.Native.Nat.{ℕ, zero, suc, _-_, _^_, _≤_, _<_}
+use Prim.Native.Nat.{ℕ, suc, _-_, _^_, _≤_, _<_}
 use native.Mathlib.Omega.{arith}
 use lib.ListN.{take}
 use lib.Seq.{take-nil}
@@ -18,16 +18,15 @@ use Rattle.topology.specs.Topology.{networkOf}
 use Rattle.topology.specs.Paths.{disconnected}
 use Rattle.topology.specs.Code.{outage, networkIn}
 use Rattle.topology.specs.declared.Failed.{Failed}
-use Rattle.walk.specs.Scenario.{Scenario, number, scenarioOf, number-scenario}
-use Rattle.walk.specs.Ends.{End, dropped, relevant, scenarios}
-use Rattle.walk.specs.Member.{same, among, same-refl}
-use Rattle.walk.specs.Stack.{Stack, Stepped, endOf, nextEnd}
+use Rattle.walk.specs.Scenario.{Scenario, scenarioOf, number-scenario}
+use Rattle.walk.specs.Ends.{End, relevant, scenarios}
+use Rattle.walk.specs.Member.{among, same-refl}
+use Rattle.walk.specs.Stack.{Stepped, endOf, nextEnd}
 use Rattle.walk.specs.declared.Next.{Next}
-use Rattle.walk.specs.declared.Failing.{Failing}
 use Rattle.walk.proofs.Resume.{step-take, none-to-come}
 use Rattle.bounds.specs.Bounds.{intact, cuts}
-use Rattle.bounds.specs.Tallied.{Held, coming}
-use Rattle.readings.specs.Witness.{some, noneTest, witnessAnswer, failingIn, Shows, Answers, Seeking}
+use Rattle.bounds.specs.Tallied.{coming}
+use Rattle.readings.specs.Witness.{some, noneTest, witnessAnswer, Answers, Seeking}
 use Rattle.readings.specs.declared.Witnessed.the-variants as witnessed
 
 -- what the code finds out of a scenario's topology

@@ -1,13 +1,12 @@
 -- Conditional figure: document 01, section "Further readings of a plan" (document 001, equation 6). It is no bound: the scenarios that were
 -- not examined are left out of it. Floats are those of the logic's account of IEEE 754: a value of binary64 is one bit pattern, but for NaN.
 -- Assumes nothing.
-use mathlib.Core.Path.{_≡_, refl}
 use mathlib.Core.Bool.{not}
 use mathlib.Core.List.{List, [], _∷_}
 use Prim.Native.Nat.{ℕ, zero, suc, _/_, _%_}
 use lib.Dec.{T}
 use lib.IntN.{pos}
-use lib.Ieee.{Float, binary64, add, mul, div, ofInt, isNan, toBits, ofBits}
+use lib.Ieee.{Float, binary64, add, mul, div, ofInt, isNan}
 use Rattle.mass.specs.Split.{certain, whole}
 use Rattle.plan.specs.Plan.{Plan}
 use Rattle.walk.specs.Walk.{massExamined}

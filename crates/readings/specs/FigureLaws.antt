@@ -4,10 +4,9 @@ use mathlib.Core.Path.{_≡_, refl, sym, ap, subst, _∙_}
 use mathlib.Core.Bool.{Bool, true, false, not, cond, true≢false}
 use mathlib.Core.Logic.{inl, inr}
 use Prim.Native.Nat.{ℕ, zero, suc, _+_, _*_, _/_, _%_, _^_, _≤_, _<_}
-use native.Mathlib.Nat.{zero-lt-suc, mul-one, mul-comm, mul-assoc, add-mul, mul-pos, lt-of-lt-of-le, mul-mul-mul-comm, eq-zero-or-pos}
+use native.Mathlib.Nat.{zero-lt-suc, mul-one, mul-assoc, mul-pos, lt-of-lt-of-le, mul-mul-mul-comm, eq-zero-or-pos}
 use native.Mathlib.Omega.{arith}
 use lib.Dec.{T, lit≤, ltb, eqb, ltb→lt, eqb→eq}
-use lib.IntN.{ℤ, pos}
 use lib.Pow.{pow-add, pow-mono, shl-lt}
 use lib.Ieee.{Float, nan, inf, fin, Format, binary64, prec, emax, low, unlike, up, down, odd, units, round, add, sum, mul, div, ofInt, isNan, le, toBits}
 use lib.Ieee.Fits.{down-pos, round-is}

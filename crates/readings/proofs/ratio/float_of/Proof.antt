@@ -1,6 +1,5 @@
 -- `readings::ratio::float_of` meets its contract: a mass is at most 10^18, so its quotient and its remainder may be cast. Assumes nothing.
 use native.Mathlib.Omega.{arith}
-use borrow.Author.Needs.{needs}
 use Rattle.readings.proofs.Figures.{in-float, billion-is, float-of-is}
 use Rattle.readings.proofs.ratio.float_of.Statement.{statement}
 use Rattle.readings.proofs.ratio.float_of.Tie as tie

@@ -1,7 +1,6 @@
 -- `readings::search::search_on` meets its contract: the invariant is `Seek`, the measure the ends left. Assumes nothing.
 use borrow.Author.Needs.{needs}
 use mathlib.Core.Path.{refl}
-use native.Mathlib.Omega.{arith}
 use Rattle.readings.proofs.Seek.{Seek, asked-all, walked-all, found-here, turned}
 use Rattle.readings.proofs.search.search_on.Statement.{statement}
 use Rattle.readings.proofs.search.search_on.Tie as tie
