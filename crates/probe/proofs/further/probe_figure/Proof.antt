@@ -10,61 +10,47 @@ use Rattle.probe.proofs.give.Reads as give-reads
 use Rattle.probe.proofs.header.Reads as header-reads
 use Rattle.readings.proofs.figure.Reads as figure-reads
 
--- src/further.rt:39:9
 header-requires : tie.Need-header-requires
 header-requires c κs = search needs
 
--- src/further.rt:40:9
 figure-requires : tie.Need-figure-requires
 figure-requires c κs = search needs
 
--- src/further.rt:42:26
 enum-known-answer : tie.Need-enum-known-answer
 enum-known-answer c = search needs
 
--- src/further.rt:43:13
 give-requires : tie.Need-give-requires
 give-requires c κs = search needs
 
--- src/further.rt:47:18
 enum-told : tie.Need-enum-told
 enum-told c = search needs
 
--- src/further.rt:47:13
 give-requires-2 : tie.Need-give-requires-2
 give-requires-2 c κs = search needs
 
--- src/further.rt:50:24
 enum-known-answer-2 : tie.Need-enum-known-answer-2
 enum-known-answer-2 c = search needs
 
--- src/further.rt:51:13
 give-bits-requires : tie.Need-give-bits-requires
 give-bits-requires c κs =
     let k = c .before .before in
     given-numbers _ _ (k .answer2 .given .1) (k .before .before .figure .ensures .1)
 
--- src/further.rt:26:1
 same-length : tie.Need-same-length
 same-length c = search needs
 
--- src/further.rt:26:1
 returns : tie.Need-returns
 returns c = search needs
 
--- src/further.rt:26:1
 same-length-2 : tie.Need-same-length-2
 same-length-2 c = search needs
 
--- src/further.rt:26:1
 returns-2 : tie.Need-returns-2
 returns-2 c = search needs
 
--- src/further.rt:26:1
 same-length-3 : tie.Need-same-length-3
 same-length-3 c = search needs
 
--- src/further.rt:26:1
 returns-3 : tie.Need-returns-3
 returns-3 c = search needs
 

@@ -10,33 +10,27 @@ use Rattle.readings.proofs.ratio.figure.Lts as lts
 use Rattle.bounds.proofs.pair.Reads as pair-reads
 use Rattle.readings.proofs.ratio.figure_of.Reads as figure-of-reads
 
--- src/ratio.rt:51:9
 pair-requires : tie.Need-pair-requires
 pair-requires c κs = search needs
 
--- src/ratio.rt:53:25
 enum-known-answer : tie.Need-enum-known-answer
 enum-known-answer c = search needs
 
--- src/ratio.rt:54:22
 enum-known-answer-2 : tie.Need-enum-known-answer-2
 enum-known-answer-2 c = search needs
 
--- src/ratio.rt:56:29
 sub-figure-of : tie.Need-sub-figure-of
 sub-figure-of c =
     let k = c .before .before .before in
     let a = k .before .before .before .before .before .args in
     upper-fits (a .h) (a .links .now) (a .events .now) (a .v) (a .w) _ (k .before .before .pair .ensures .0) _ (k .answer2 .given .1)
 
--- src/ratio.rt:56:13
 add-figure-of : tie.Need-add-figure-of
 add-figure-of c =
     let k = c .before .before .before .before in
     let a = k .before .before .before .before .before .args in
     omega (arith, examined-fits (a .h) (a .links .now) (a .events .now) (a .v) (a .w) _ (k .before .before .pair .ensures .0) _ (k .answer2 .given .1))
 
--- src/ratio.rt:54:33
 figure-of-requires : tie.Need-figure-of-requires
 figure-of-requires c κs =
     let k = c .before .before .before .before in
@@ -45,14 +39,12 @@ figure-of-requires c κs =
       examined-fits (a .h) (a .links .now) (a .events .now) (a .v) (a .w) _ (k .before .before .pair .ensures .0) _ (k .answer2 .given .1),
     )
 
--- src/ratio.rt:45:1
 returns : tie.Need-returns
 returns c =
     let k = c .before in
     let a = k .before .before .before .before .before .args in
     refused-told (a .h) (a .links .now) (a .events .now) (a .v) (a .w) _ (k .before .before .pair .ensures .0) _ (k .answer .given .1)
 
--- src/ratio.rt:45:1
 returns-2 : tie.Need-returns-2
 returns-2 c =
     let k = c .before .before .before .before .before in

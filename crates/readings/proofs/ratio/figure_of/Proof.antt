@@ -7,15 +7,12 @@ use Rattle.readings.proofs.ratio.figure_of.Reads as reads
 use Rattle.readings.proofs.ratio.figure_of.Lts as lts
 use Rattle.readings.proofs.ratio.shares_of.Reads as shares-of-reads
 
--- src/ratio.rt:39:9
 returns : tie.Need-returns
 returns c = none-given _ _ (c .if1 .taken)
 
--- src/ratio.rt:41:20
 shares-of-requires : tie.Need-shares-of-requires
 shares-of-requires c κs = search needs
 
--- src/ratio.rt:34:1
 returns-2 : tie.Need-returns-2
 returns-2 c = given _ _ _ (c .before .if1 .left) (c .shares-of .ensures)
 

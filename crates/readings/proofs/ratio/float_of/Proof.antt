@@ -6,15 +6,12 @@ use Rattle.readings.proofs.ratio.float_of.Tie as tie
 use Rattle.readings.proofs.ratio.float_of.Reads as reads
 use Rattle.readings.proofs.ratio.float_of.Lts as lts
 
--- src/ratio.rt:18:6
 int-to-float-result : tie.Need-int-to-float-result
 int-to-float-result c = in-float _ (omega arith)
 
--- src/ratio.rt:18:55
 int-to-float-result-2 : tie.Need-int-to-float-result-2
 int-to-float-result-2 c = in-float _ (omega arith)
 
--- src/ratio.rt:14:1
 returns : tie.Need-returns
 returns c = float-of-is _ _ billion-is
 

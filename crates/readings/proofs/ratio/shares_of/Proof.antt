@@ -7,15 +7,12 @@ use Rattle.readings.proofs.ratio.shares_of.Reads as reads
 use Rattle.readings.proofs.ratio.shares_of.Lts as lts
 use Rattle.readings.proofs.ratio.float_of.Reads as float-of-reads
 
--- src/ratio.rt:26:9
 float-of-requires : tie.Need-float-of-requires
 float-of-requires c κs = search needs
 
--- src/ratio.rt:28:23
 float-of-requires-2 : tie.Need-float-of-requires-2
 float-of-requires-2 c κs = search needs
 
--- src/ratio.rt:22:1
 returns : tie.Need-returns
 returns c = shares-are _ _ _ _ _ (c .float-of2 .ensures) (c .before .float-of .ensures) whole-is
 

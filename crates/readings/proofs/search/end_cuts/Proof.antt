@@ -9,22 +9,18 @@ use Rattle.readings.proofs.search.end_cuts.Lts as lts
 use Rattle.topology.proofs.failed_by.Reads as failed-by-reads
 use Rattle.topology.proofs.is_disconnected.Reads as is-disconnected-reads
 
--- src/search.rt:40:13
 failed-by-requires : tie.Need-failed-by-requires
 failed-by-requires c κs = search needs
 
--- src/search.rt:41:9
 is-disconnected-requires : tie.Need-is-disconnected-requires
 is-disconnected-requires c κs = search needs
 
--- src/search.rt:41:9
 returns : tie.Need-returns
 returns c =
     let e = c .before .before .before in
     rw (c .before .before .if1 .taken)
     (c .is-disconnected .ensures ∙ cut-is _ _ _ _ _ (e .pre .1 .0) _ (c .before .failed-by .ensures) _ _)
 
--- src/search.rt:20:1
 returns-2 : tie.Need-returns-2
 returns-2 c = search needs
 

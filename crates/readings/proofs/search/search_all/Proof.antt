@@ -8,17 +8,14 @@ use Rattle.readings.proofs.search.search_all.Lts as lts
 use Rattle.readings.proofs.search.search_on.Reads as search-on-reads
 use Rattle.walk.proofs.begin.Reads as begin-reads
 
--- src/search.rt:97:9
 begin-requires : tie.Need-begin-requires
 begin-requires c κs = search needs
 
--- src/search.rt:98:5
 search-on-requires : tie.Need-search-on-requires
 search-on-requires c κs =
     let pre = c .before .before .before .pre in
     seeking-whole _ _ _ _ _ _ _ (c .before .begin .ensures) (pre .0) (pre .1)
 
--- src/search.rt:89:1
 returns : tie.Need-returns
 returns c = answers-whole _ _ _ _ _ _ _ (c .before .before .begin .ensures) _ (c .search-on .ensures)
 

@@ -15,47 +15,40 @@ Inv-loop h links words stack₀ start v w k at₀ left₀ stack at left = Seek h
 abbrev μ-loop : tie.MeasureT-loop
 μ-loop h links words stack₀ start v w k at₀ left₀ stack at left = left
 
--- src/search.rt:71:5
 loop-holds : tie.Need-loop-holds Inv-loop μ-loop
 loop-holds c = record { seeking = c .pre; alike = refl; members = λ s m. m }
 
--- src/search.rt:73:13
 returns : tie.Need-returns Inv-loop μ-loop
 returns c = asked-all _ _ _ _ _ _ _ _ _ _ _ (c .before .before .loop .inv) (c .if1 .taken)
 
--- src/search.rt:75:13
 next-end-requires : tie.Need-next-end-requires Inv-loop μ-loop
 next-end-requires c κs =
     let g = c .before .before .before .loop .inv .seeking in
     (g .held .events-fit, c .before .before .loop-test .taken, g .held .probable, g .stacked)
 
--- src/search.rt:76:12
 end-cuts-requires : tie.Need-end-cuts-requires Inv-loop μ-loop
 end-cuts-requires c κs =
     let g = c .before .before .before .before .loop .inv .seeking in
     (g .held, (c .next-end .ensures .decided, g .inside .0, g .inside .1))
 
--- src/search.rt:77:13
 returns-2 : tie.Need-returns-2 Inv-loop μ-loop
 returns-2 c =
     let n = c .before .before in
-    found-here _ _ _ _ _ _ _ _ _ _ _ (n .before .before .before .before .loop .inv) (n .before .before .if1 .left) _ _ (n .next-end .ensures) _ (c .if2 .taken) (c .before .end-cuts .ensures)
+    let g = n .before .before .before .before .loop .inv in
+    found-here _ _ _ _ _ _ _ _ _ _ _ g (n .before .before .if1 .left) _ _ (n .next-end .ensures) _ (c .if2 .taken) (c .before .end-cuts .ensures)
 
--- src/search.rt:83:9
 sub-left : tie.Need-sub-left Inv-loop μ-loop
 sub-left c = search needs
 
--- src/search.rt:71:5
 loop-less : tie.Need-loop-less Inv-loop μ-loop
 loop-less c = search needs
 
--- src/search.rt:71:5
 loop-again : tie.Need-loop-again Inv-loop μ-loop
 loop-again c =
     let n = c .before .before in
-    turned _ _ _ _ _ _ _ _ _ _ _ (n .before .before .before .before .loop .inv) (n .before .before .if1 .left) _ _ (n .next-end .ensures) _ (c .if2 .left) (c .before .end-cuts .ensures)
+    let g = n .before .before .before .before .loop .inv in
+    turned _ _ _ _ _ _ _ _ _ _ _ g (n .before .before .if1 .left) _ _ (n .next-end .ensures) _ (c .if2 .left) (c .before .end-cuts .ensures)
 
--- src/search.rt:54:1
 returns-3 : tie.Need-returns-3 Inv-loop μ-loop
 returns-3 c = walked-all _ _ _ _ _ _ _ _ _ _ _ (c .before .loop .inv) (c .loop-test .left)
 

@@ -15,15 +15,12 @@ use Rattle.readings.proofs.search.witness.Lts as lts
 use Rattle.plan.proofs.load.Reads as load-reads
 use Rattle.readings.proofs.search.witness_core.Reads as witness-core-reads
 
--- src/search.rt:135:5
 load-requires : tie.Need-load-requires
 load-requires c κs = search needs
 
--- src/search.rt:136:5
 witness-core-requires : tie.Need-witness-core-requires
 witness-core-requires c κs = search needs
 
--- src/search.rt:127:1
 returns : tie.Need-returns
 returns c =
     let a = c .before .before .before .before .before .before .before .before .args in

@@ -13,23 +13,18 @@ use Rattle.bounds.proofs.pair_test.Reads as pair-test-reads
 use Rattle.plan.proofs.lists_refusal.Reads as lists-refusal-reads
 use Rattle.readings.proofs.search.search_all.Reads as search-all-reads
 
--- src/search.rt:115:9
 lists-refusal-requires : tie.Need-lists-refusal-requires
 lists-refusal-requires c κs = search needs
 
--- src/search.rt:117:9
 returns : tie.Need-returns
 returns c = lists-refused _ _ _ _ _ _ _ _ (c .before .lists-refusal .ensures) (c .if1 .taken)
 
--- src/search.rt:119:9
 pair-test-requires : tie.Need-pair-test-requires
 pair-test-requires c κs = search needs
 
--- src/search.rt:121:9
 returns-2 : tie.Need-returns-2
 returns-2 c = pair-refused _ _ _ _ _ _ _ _ _ (c .before .before .before .lists-refusal .ensures) (c .before .before .if1 .left) (c .before .pair-test .ensures) (c .if2 .taken)
 
--- src/search.rt:123:5
 search-all-requires : tie.Need-search-all-requires
 search-all-requires c κs =
     let z = sym (c .before .before .before .lists-refusal .ensures) ∙ c .before .before .if1 .left in
@@ -39,7 +34,6 @@ search-all-requires c κs =
     let few = held .links-held .nodes-fit in
     (held, (omega (arith, i .0, i .1, few), omega (arith, i .1, few)))
 
--- src/search.rt:102:1
 returns-3 : tie.Need-returns-3
 returns-3 c =
     let z = sym (c .before .before .before .before .lists-refusal .ensures) ∙ c .before .before .before .if1 .left in

@@ -9,53 +9,41 @@ use Rattle.readings.proofs.figure.Reads as figure-reads
 use Rattle.trials_readings.proofs.figures.same_bits.Reads as same-bits-reads
 use Rattle.trials_readings.proofs.figures.same_case.Reads as same-case-reads
 
--- src/figures.rt:48:9
 figure-requires : tie.Need-figure-requires
 figure-requires c κs = search needs
 
--- src/figures.rt:50:26
 enum-known-answer : tie.Need-enum-known-answer
 enum-known-answer c = search needs
 
--- src/figures.rt:51:30
 cast-same-case : tie.Need-cast-same-case
 cast-same-case c = search needs
 
--- src/figures.rt:51:13
 same-case-requires : tie.Need-same-case-requires
 same-case-requires c κs = search needs
 
--- src/figures.rt:54:13
 enum-told : tie.Need-enum-told
 enum-told c = search needs
 
--- src/figures.rt:54:13
 same-case-requires-2 : tie.Need-same-case-requires-2
 same-case-requires-2 c κs = search needs
 
--- src/figures.rt:56:24
 enum-known-answer-2 : tie.Need-enum-known-answer-2
 enum-known-answer-2 c = search needs
 
--- src/figures.rt:57:13
 same-bits-requires : tie.Need-same-bits-requires
 same-bits-requires c κs =
     let k = c .before in
     given-numbers _ _ (k .answer2 .given .1) (k .before .before .figure .ensures .1)
 
--- src/figures.rt:58:13
 same-case-requires-3 : tie.Need-same-case-requires-3
 same-case-requires-3 c κs = search needs
 
--- src/figures.rt:36:1
 returns : tie.Need-returns
 returns c = search needs
 
--- src/figures.rt:36:1
 returns-2 : tie.Need-returns-2
 returns-2 c = search needs
 
--- src/figures.rt:36:1
 returns-3 : tie.Need-returns-3
 returns-3 c = search needs
 

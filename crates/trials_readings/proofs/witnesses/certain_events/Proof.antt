@@ -12,43 +12,33 @@ Inv-loop events₀ i₀ events i = i ≤ 64
 abbrev μ-loop : tie.MeasureT-loop
 μ-loop events₀ i₀ events i = 64 - i
 
--- src/witnesses.rt:142:5
 loop-holds : tie.Need-loop-holds Inv-loop μ-loop
 loop-holds c = search needs
 
--- src/witnesses.rt:143:16
 mul-events : tie.Need-mul-events Inv-loop μ-loop
 mul-events c = search needs
 
--- src/witnesses.rt:143:9
 mul-events-2 : tie.Need-mul-events-2 Inv-loop μ-loop
 mul-events-2 c = search needs
 
--- src/witnesses.rt:143:9
 array-write-events : tie.Need-array-write-events Inv-loop μ-loop
 array-write-events c = search needs
 
--- src/witnesses.rt:142:9
 add-i : tie.Need-add-i Inv-loop μ-loop
 add-i c = search needs
 
--- src/witnesses.rt:142:5
 loop-less : tie.Need-loop-less Inv-loop μ-loop
 loop-less c = search needs
 
--- src/witnesses.rt:142:5
 loop-again : tie.Need-loop-again Inv-loop μ-loop
 loop-again c = search needs
 
--- src/witnesses.rt:145:5
 array-write-events-2 : tie.Need-array-write-events-2 Inv-loop μ-loop
 array-write-events-2 c = search needs
 
--- src/witnesses.rt:146:5
 array-write-events-3 : tie.Need-array-write-events-3 Inv-loop μ-loop
 array-write-events-3 c = search needs
 
--- src/witnesses.rt:140:1
 returns : tie.Need-returns Inv-loop μ-loop
 returns c = search needs
 

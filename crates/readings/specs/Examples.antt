@@ -1,0 +1,49 @@
+-- Computed examples of the witness and the figure, on marked plans of document 01.
+-- Assumes nothing.
+use mathlib.Core.Path.{_≡_, refl}
+use mathlib.Core.Bool.{true}
+use mathlib.Core.List.{[], _∷_}
+use Prim.Native.Nat.{ℕ}
+use Rattle.sets.specs.Sets.{bit}
+use Rattle.sets.specs.Bools.{anyBelow}
+use Rattle.plan.specs.Plan.{Plan}
+use Rattle.topology.specs.Outage.{unionOf}
+use Rattle.topology.specs.Topology.{nodeWorks, linkWorks, joins, adjacent}
+use Rattle.topology.specs.Paths.{via, disconnected}
+use Rattle.walk.specs.Ends.{ends}
+use Rattle.walk.specs.Walk.{examined}
+use Rattle.readings.specs.Witness.{some, noneTest, Shows}
+use Rattle.readings.specs.Figure.{figureOf, sharesOf}
+use Rattle.readings.specs.declared.Figured.the-variants as figured
+
+-- two nodes, the link 0-1, and an event of probability q on it
+abbrev line : ℕ → ℕ → ℕ → Plan
+line q t limit =
+    record {
+      nodes = 2;
+      links = record { low = 0; high = 1 } ∷ [];
+      events = record { probability = q; nodes = 0; links = 1 } ∷ [];
+      threshold = t;
+      limit = limit;
+    }
+
+abbrev noWitness : Plan → ℕ
+noWitness p = noneTest p 0 1 (examined p)
+
+-- marked plan 2 has a witness; 14 is given for 3 (dropped), 4 (past the cap) and 9 (nothing examined)
+example-none : (noWitness (line 100000000 100000000000000000 100) ≡ 0) × (noWitness (line 100000000 100000000000000001 100) ≡ 14)
+    × (noWitness (line 100000000 1 1) ≡ 14) × (noWitness (line 500000000 1000000000000000000 100) ≡ 14)
+unfolding ends disconnected via nodeWorks linkWorks joins adjacent anyBelow unionOf bit some
+example-none = (refl, refl, refl, refl)
+
+-- the witness of marked plan 2 is event 0 alone, the set of value 1
+example-shown : Shows (line 100000000 100000000000000000 100) 0 1 (examined (line 100000000 100000000000000000 100)) (record { low = 1; high = 0 })
+unfolding ends disconnected via nodeWorks linkWorks joins adjacent anyBelow unionOf bit
+example-shown = record { scenario = true ∷ []; failing = refl; member = refl; disconnects = refl }
+
+-- marked plan 9 has no figure; marked plan 2 has that of 10^17 and 10^18, and none where the call is refused
+example-figure : (figureOf 0 (line 500000000 1000000000000000000 100) 0 1 ≡ figured.NoFigure)
+    × (figureOf 0 (line 100000000 100000000000000000 100) 0 1 ≡ figured.Given (sharesOf 100000000000000000 1000000000000000000))
+    × (figureOf 13 (line 500000000 1000000000000000000 100) 1 1 ≡ figured.Refused 13)
+unfolding ends disconnected via nodeWorks linkWorks joins adjacent anyBelow unionOf bit
+example-figure = (refl, refl, refl)
