@@ -1,19 +1,17 @@
 -- An accepted file read into the arrays: there is always room, no test of the lists refuses them, and they denote the file's plan.
 -- Assumes nothing.
-use mathlib.Core.Path.{_≡_, refl, sym, ap, subst, _∙_}
+use mathlib.Core.Path.{_≡_, refl, sym, subst, _∙_}
 use mathlib.Core.List.{List, [], _∷_}
 use Prim.Native.Nat.{ℕ, zero, suc, _+_, _*_, _<_, _≤_}
 use native.Mathlib.Omega.{arith}
 use borrow.Author.Tests.{le-ltb}
-use lib.Dec.{ltb}
 use lib.ListN.{length, getD, drop}
 use lib.Seq.{sets}
-use Rattle.mass.specs.Refusal.{refuse, first}
-use Rattle.plan.specs.Plan.{Plan}
+use Rattle.mass.specs.Refusal.{first}
 use Rattle.plan.specs.Layout.{Bytes}
-use Rattle.plan.specs.Lists.{linksOf, eventsOf, linkBytes, eventWords}
+use Rattle.plan.specs.Lists.{eventsOf, linkBytes, eventWords}
 use Rattle.plan.specs.Tests.{roomTest, countsTest}
-use Rattle.plan.specs.File.{refusal, planOf, linksIn, eventsIn, eventsAt}
+use Rattle.plan.specs.File.{refusal, planOf, linksIn, eventsIn}
 use Rattle.plan.specs.Records.{eventListRefusal, planOfLists, listsRefusal}
 use Rattle.plan.specs.Calls.{filled, headerOf, readRefusal}
 use Rattle.plan.proofs.FileLawsAccepted.{accepted-counts}

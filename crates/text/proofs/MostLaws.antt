@@ -2,7 +2,7 @@
 -- Assumes nothing.
 use mathlib.Core.Path.{_≡_, refl, sym, ap, subst, _∙_}
 use mathlib.Core.Bool.{Bool, true, false, not, _||_, _&&_}
-use mathlib.Core.List.{List, [], _∷_, _++_}
+use mathlib.Core.List.{List, [], _∷_}
 use Prim.Native.Nat.{ℕ, zero, suc, _+_, _-_, _*_, _^_, _<_, _≤_}
 use native.Mathlib.Omega.{arith}
 use borrow.Author.Tests.{ltb-false, le-ltb}
@@ -24,12 +24,12 @@ use Rattle.walk.specs.Walk.{count, complete, massExamined, planEnds}
 use Rattle.walk.specs.Laws.{massExamined-le, count-le}
 use Rattle.walk.specs.Valid.{plan-probable}
 use Rattle.sums.specs.Bounds.{upper-le, lower-upper}
-use Rattle.bounds.specs.Pairs.{start, pairCount}
+use Rattle.bounds.specs.Pairs.{start}
 use Rattle.bounds.specs.PairLaws.{start-suc, start-zero, pairs-most}
 use Rattle.bounds.specs.Bounds.{cuts, lowerOf, upperOf}
 use Rattle.input.proofs.LoadedLaws.{bytes-each}
-use Rattle.text.specs.Decimal.{decimal, decimal-most}
-use Rattle.text.specs.Listing.{field, line, rowText, rowsText, pairsText, pairLine, planText, refusedText, answerText, listing}
+use Rattle.text.specs.Decimal.{decimal-most}
+use Rattle.text.specs.Listing.{field, line, rowText, rowsText, pairsText, pairLine, planText, answerText, listing}
 use Rattle.text.specs.Calls.{listedAnswer}
 use Rattle.text.specs.declared.Listed.the-variants as listed
 use Rattle.text.proofs.FieldLaws.{field-long, line-long, head-long, refused-long}

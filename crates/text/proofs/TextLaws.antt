@@ -2,10 +2,9 @@
 -- Assumes nothing.
 use mathlib.Core.Path.{_≡_, refl, sym, ap, ap₂, subst, _∙_}
 use mathlib.Core.List.{List, [], _∷_, _++_}
-use Prim.Native.Nat.{ℕ, zero, suc, _+_, _-_, _^_, _<_, _≤_}
+use Prim.Native.Nat.{ℕ, zero, suc, _+_, _-_, _<_, _≤_}
 use native.Mathlib.Omega.{arith}
 use borrow.Author.Tests.{lt-ltb, le-ltb}
-use lib.Dec.{ltb}
 use lib.ListN.{length, getD, take, length-append}
 use lib.Seq.{sets, length-sets}
 use Rattle.mass.specs.Split.{whole}
@@ -20,7 +19,7 @@ use Rattle.plan.proofs.ListTheorems.{length-links-of, length-events-of}
 use Rattle.files.proofs.ReaderLawsAnswer.{take-sets}
 use Rattle.walk.specs.Walk.{count, complete, massExamined}
 use Rattle.bounds.specs.Pairs.{place}
-use Rattle.bounds.specs.Bounds.{lowerOf, upperOf}
+use Rattle.bounds.specs.Bounds.{lowerOf}
 use Rattle.bounds.specs.Calls.{totalsOf, Summed, Giving}
 use Rattle.bounds.specs.declared.Totals.{Totals}
 use Rattle.bounds.proofs.Answers.{raised}

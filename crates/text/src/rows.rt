@@ -1,16 +1,15 @@
 // The lines of a plan: the first line, and a line for each pair, from the sums that the run leaves in the entries of the pairs.
+use crate::fields::put_field;
+use crate::fields::put_line;
 use bounds::Totals;
 use plan::Header;
 ghost use mathlib.Core.Path.{_≡_};
 ghost use Prim.Native.Nat.{_+_, _-_, _≤_, _<_};
 ghost use lib.ListN.{length};
 ghost use lib.Seq.{sets};
-ghost use Rattle.mass.specs.Split.{whole};
 ghost use Rattle.bounds.specs.Calls.{Giving};
 ghost use Rattle.text.specs.Listing.{line, rowText, pairsText};
 ghost use Rattle.text.specs.Sums.{Listable, sumLine, headLine, sumsText};
-use crate::fields::put_field;
-use crate::fields::put_line;
 
 // The lines of the pairs of node v with each node after it.
 pub fn put_row(

@@ -4,13 +4,13 @@ use mathlib.Core.Path.{_≡_, refl, sym, ap, ap₂, subst, subst₂, _∙_}
 use mathlib.Core.List.{List, [], _∷_, _++_, append-assoc}
 use Prim.Native.Nat.{ℕ, zero, suc, _+_, _^_, _<_, _≤_}
 use native.Mathlib.Omega.{arith}
-use lib.ListN.{length, take, drop, length-append}
+use lib.ListN.{length, drop, length-append}
 use lib.Seq.{sets, sets-eq, take-at, drop-at}
 use Rattle.mass.specs.Refusal.{first, first-none, first-skip}
 use Rattle.plan.specs.Plan.{Plan}
-use Rattle.plan.specs.Layout.{little, value}
+use Rattle.plan.specs.Layout.{little}
 use Rattle.plan.specs.Tests.{roomTest}
-use Rattle.plan.specs.File.{refusal, planOf, nodesIn}
+use Rattle.plan.specs.File.{refusal, planOf}
 use Rattle.plan.specs.Records.{planRefusal, planOfLists}
 use Rattle.plan.specs.Calls.{filled, headerOf, readAnswer}
 use Rattle.plan.specs.declared.Header.{Header}
@@ -22,7 +22,7 @@ use Rattle.plan.proofs.LayoutNumbers.{length-little, value-little}
 use Rattle.plan.proofs.ListTheorems.{lists-denote}
 use Rattle.walk.specs.Walk.{count}
 use Rattle.bounds.specs.Bounds.{lowerOf, upperOf, Encloses}
-use Rattle.bounds.specs.Calls.{pairTest, pairRefusal, pairAnswer, boundsOf, boundsIn}
+use Rattle.bounds.specs.Calls.{pairRefusal, pairAnswer, boundsOf, boundsIn}
 use Rattle.bounds.specs.declared.PairBounds.{PairBounds}
 use Rattle.bounds.specs.declared.Paired.{Paired}
 use Rattle.bounds.specs.declared.Paired.the-variants as paired

@@ -1,6 +1,6 @@
 -- `text::calls::listing_text` meets its contract: the array has room for the longest listing. Assumes nothing.
-use mathlib.Core.Path.{_≡_, sym, subst}
-use Prim.Native.Nat.{ℕ, _<_, _≤_}
+use mathlib.Core.Path.{subst}
+use Prim.Native.Nat.{ℕ, _<_}
 use native.Mathlib.Omega.{arith}
 use borrow.Author.Needs.{needs}
 use lib.ListN.{length, replicate}
@@ -9,10 +9,6 @@ use Rattle.text.proofs.TextLaws.{short-answer, text-answer, size-kept}
 use Rattle.text.proofs.MostLaws.{array-room}
 use Rattle.text.proofs.calls.listing_text.Statement.{statement}
 use Rattle.text.proofs.calls.listing_text.Tie as tie
-use Rattle.text.proofs.calls.listing_text.Reads as reads
-use Rattle.text.proofs.calls.listing_text.Lts as lts
-use Rattle.plan.proofs.copy_bytes.Reads as copy-bytes-reads
-use Rattle.text.proofs.calls.put_listing.Reads as put-listing-reads
 
 slice-aggregate-put-listing : tie.Need-slice-aggregate-put-listing
 slice-aggregate-put-listing c = search needs

@@ -1,5 +1,5 @@
 -- `text::calls::put_accepted` meets its contract: the sums of the run give the listing of the plan. Assumes nothing.
-use mathlib.Core.Path.{_≡_, ap}
+use mathlib.Core.Path.{ap}
 use native.Mathlib.Omega.{arith}
 use Rattle.plan.proofs.ListTheorems.{lists-denote}
 use Rattle.bounds.specs.PairLaws.{pairs-most}
@@ -11,10 +11,6 @@ use Rattle.text.proofs.TextLaws.{sums-text, fits-as, laid-as}
 use borrow.Author.Needs.{needs}
 use Rattle.text.proofs.calls.put_accepted.Statement.{statement}
 use Rattle.text.proofs.calls.put_accepted.Tie as tie
-use Rattle.text.proofs.calls.put_accepted.Reads as reads
-use Rattle.text.proofs.calls.put_accepted.Lts as lts
-use Rattle.bounds.proofs.walk_all.Reads as walk-all-reads
-use Rattle.text.proofs.rows.put_plan.Reads as put-plan-reads
 
 walk-all-requires : tie.Need-walk-all-requires
 walk-all-requires c κs = let z = c .before .before .pre .0 in (lists-held _ _ _ _ _ z, (limit-most _ _ _ _ _ z, cleared))

@@ -1,14 +1,9 @@
 -- `text::calls::put_listing` meets its contract: the line of a refused file, or the listing of its plan. Assumes nothing.
-use mathlib.Core.Path.{_≡_, sym, _∙_}
+use mathlib.Core.Path.{sym, _∙_}
 use Rattle.text.proofs.TextLaws.{refused-listing, loaded-accepted, accepted-listing, fits-as, laid-as}
 use borrow.Author.Needs.{needs}
 use Rattle.text.proofs.calls.put_listing.Statement.{statement}
 use Rattle.text.proofs.calls.put_listing.Tie as tie
-use Rattle.text.proofs.calls.put_listing.Reads as reads
-use Rattle.text.proofs.calls.put_listing.Lts as lts
-use Rattle.input.proofs.read_input.Reads as read-input-reads
-use Rattle.text.proofs.calls.put_accepted.Reads as put-accepted-reads
-use Rattle.text.proofs.fields.put_refused.Reads as put-refused-reads
 
 read-input-requires : tie.Need-read-input-requires
 read-input-requires c κs = search needs

@@ -4,9 +4,6 @@ use Rattle.text.proofs.FieldLaws.{field-long, field-laid}
 use borrow.Author.Needs.{needs}
 use Rattle.text.proofs.fields.put_field.Statement.{statement}
 use Rattle.text.proofs.fields.put_field.Tie as tie
-use Rattle.text.proofs.fields.put_field.Reads as reads
-use Rattle.text.proofs.fields.put_field.Lts as lts
-use Rattle.text.proofs.fields.put_decimal.Reads as put-decimal-reads
 
 put-decimal-requires : tie.Need-put-decimal-requires
 put-decimal-requires c κs = omega (arith, c .before .before .pre, field-long (c .before .before .args .x) (c .before .before .args .end))

@@ -4,9 +4,6 @@ use Rattle.text.proofs.FieldLaws.{line-long, line-laid}
 use borrow.Author.Needs.{needs}
 use Rattle.text.proofs.fields.put_line.Statement.{statement}
 use Rattle.text.proofs.fields.put_line.Tie as tie
-use Rattle.text.proofs.fields.put_line.Reads as reads
-use Rattle.text.proofs.fields.put_line.Lts as lts
-use Rattle.text.proofs.fields.put_field.Reads as put-field-reads
 
 put-field-requires : tie.Need-put-field-requires
 put-field-requires c κs = omega (arith, c .before .before .pre, line-long (c .before .before .args .a) (c .before .before .args .b) (c .before .before .args .c) (c .before .before .args .d))

@@ -3,12 +3,8 @@ use mathlib.Core.Path.{_∙_}
 use native.Mathlib.Omega.{arith}
 use lib.ListN.{length-set}
 use Rattle.text.proofs.FieldLaws.{refused-long, refused-laid}
-use borrow.Author.Needs.{needs}
 use Rattle.text.proofs.fields.put_refused.Statement.{statement}
 use Rattle.text.proofs.fields.put_refused.Tie as tie
-use Rattle.text.proofs.fields.put_refused.Reads as reads
-use Rattle.text.proofs.fields.put_refused.Lts as lts
-use Rattle.text.proofs.fields.put_field.Reads as put-field-reads
 
 slice-write-out : tie.Need-slice-write-out
 slice-write-out c = omega (arith, c .before .pre, refused-long (c .before .args .number))

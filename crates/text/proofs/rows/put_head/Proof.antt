@@ -4,10 +4,6 @@ use Rattle.text.proofs.FieldLaws.{head-long, head-laid}
 use borrow.Author.Needs.{needs}
 use Rattle.text.proofs.rows.put_head.Statement.{statement}
 use Rattle.text.proofs.rows.put_head.Tie as tie
-use Rattle.text.proofs.rows.put_head.Reads as reads
-use Rattle.text.proofs.rows.put_head.Lts as lts
-use Rattle.text.proofs.fields.put_field.Reads as put-field-reads
-use Rattle.text.proofs.fields.put_line.Reads as put-line-reads
 
 put-field-requires : tie.Need-put-field-requires
 put-field-requires c κs = omega (arith, c .before .before .pre, head-long (c .before .before .args .h .nodes) (c .before .before .args .h .links) (c .before .before .args .h .events) (c .before .before .args .t .count) (c .before .before .args .t .complete) (c .before .before .args .t .mass))

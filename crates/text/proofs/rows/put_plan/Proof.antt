@@ -4,10 +4,6 @@ use Rattle.text.proofs.TextLaws.{sums-long, sums-laid, listable}
 use borrow.Author.Needs.{needs}
 use Rattle.text.proofs.rows.put_plan.Statement.{statement}
 use Rattle.text.proofs.rows.put_plan.Tie as tie
-use Rattle.text.proofs.rows.put_plan.Reads as reads
-use Rattle.text.proofs.rows.put_plan.Lts as lts
-use Rattle.text.proofs.rows.put_head.Reads as put-head-reads
-use Rattle.text.proofs.rows.put_rows.Reads as put-rows-reads
 
 put-head-requires : tie.Need-put-head-requires
 put-head-requires c κs = omega (arith, c .before .before .pre .1, sums-long (c .before .before .args .h) (c .before .before .args .t) (c .before .before .args .sums .now))

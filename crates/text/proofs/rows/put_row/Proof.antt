@@ -1,9 +1,8 @@
 -- `text::rows::put_row` meets its contract: what is left, laid down from the position on, makes the whole row. Assumes nothing.
-use mathlib.Core.Path.{_≡_, refl}
+use mathlib.Core.Path.{_≡_}
 use mathlib.Core.List.{List, _++_}
 use Prim.Native.Nat.{ℕ, _+_, _-_, _<_, _≤_}
 use native.Mathlib.Omega.{arith}
-use lib.ListN.{length}
 use Rattle.bounds.specs.Pairs as pairs
 use Rattle.text.specs.Listing.{rowText}
 use Rattle.text.specs.Sums.{sumLine}

@@ -1,5 +1,4 @@
 -- `text::rows::put_rows` meets its contract: what is left, laid down from the position on, makes the lines of all pairs. Assumes nothing.
-use mathlib.Core.Path.{_≡_}
 use mathlib.Core.List.{List}
 use Prim.Native.Nat.{ℕ, _+_, _-_, _≤_}
 use native.Mathlib.Omega.{arith}

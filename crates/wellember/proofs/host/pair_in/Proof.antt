@@ -1,5 +1,5 @@
 -- `wellember::host::pair_in` meets its contract: 12, then the pair's own number. Assumes nothing.
-use mathlib.Core.Path.{_≡_, sym, ap, _∙_}
+use mathlib.Core.Path.{sym, ap, _∙_}
 use Prim.Native.Nat.{ℕ}
 use Rattle.plan.specs.Records.{planOfLists}
 use Rattle.plan.proofs.FileLaws.{stop}

@@ -1,5 +1,5 @@
 -- `wellember::host::pair_of` meets its contract: the arrays denote the plan that the file stands for. Assumes nothing.
-use mathlib.Core.Path.{_≡_, sym, _∙_}
+use mathlib.Core.Path.{sym, _∙_}
 use Rattle.wellember.proofs.HostLaws.{file-refused, reading-accepted, file-told}
 use borrow.Author.Needs.{needs}
 use Rattle.wellember.proofs.host.pair_of.Statement.{statement}

@@ -1,6 +1,6 @@
 -- `wellember::host::wellember_pair` meets its contract: nothing is laid down before the last test. Assumes nothing.
 use native.Mathlib.Omega.{arith}
-use mathlib.Core.Path.{_≡_, sym, _∙_}
+use mathlib.Core.Path.{sym, _∙_}
 use Rattle.wellember.proofs.HostLaws.{host-refused, host-done, host-room, pair-done-is}
 use borrow.Author.Needs.{needs}
 use Rattle.wellember.proofs.host.wellember_pair.Statement.{statement}
