@@ -10,13 +10,12 @@ use borrow.Author.Tests.{ltb-true, lt-ltb}
 use lib.Dec.{ltb}
 use lib.ListN.{length, getD}
 use Rattle.mass.specs.Split.{whole}
-use Rattle.sets.specs.Sets.{bit}
+use Rattle.sets.specs.Sets.{bit, digit}
 use Rattle.sets.specs.Laws.{bit-none}
 use Rattle.sets.specs.Bools.{and-left, and-right, and-both, which, clash, not-of, of-not, not-so}
 use Rattle.topology.specs.Chains.{chain-append, chain-back, chain-keeps}
 use Rattle.topology.specs.Paths.{here}
 use Rattle.topology.specs.RowPaths.{RowPath, Reached, Joining}
-use Rattle.walk.specs.Scenario.{digit}
 use Rattle.bounds.specs.Pairs.{place, pairCount}
 use Rattle.bounds.specs.Adding.{AddingRows, AddedRows, Joined, AddingCut, AddedCut}
 

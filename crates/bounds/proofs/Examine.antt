@@ -11,7 +11,7 @@ use native.Mathlib.Omega.{arith}
 use borrow.Author.Tests.{ltb-true}
 use lib.Dec.{ltb}
 use lib.ListN.{length, getD}
-use Rattle.sets.specs.Sets.{bit, joined}
+use Rattle.sets.specs.Sets.{bit, joined, digit}
 use Rattle.sets.specs.Bools.{and-left, which, clash}
 use Rattle.plan.specs.Lists.{linksOf, eventsOf}
 use Rattle.plan.specs.Records.{planOfLists}
@@ -27,7 +27,7 @@ use Rattle.topology.specs.RowPaths.{RowStep}
 use Rattle.topology.specs.Code.{outage, networkIn}
 use Rattle.topology.specs.declared.Failed.{Failed}
 use Rattle.topology.proofs.Shown.{nodes-shown, joining}
-use Rattle.walk.specs.Scenario.{Scenario, digit, number, scenarioOf, number-scenario}
+use Rattle.walk.specs.Scenario.{Scenario, number, scenarioOf, number-scenario}
 use Rattle.walk.specs.Ends.{End, relevant, dropped}
 use Rattle.walk.specs.Stack.{endOf}
 use Rattle.bounds.specs.Pairs.{place, pairCount}

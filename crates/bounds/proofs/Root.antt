@@ -15,7 +15,7 @@ use Rattle.plan.specs.Plan.{Plan, Event}
 use Rattle.plan.specs.Lists.{eventsOf}
 use Rattle.plan.specs.Records.{planOfLists}
 use Rattle.plan.specs.declared.Header.{Header}
-use Rattle.walk.specs.Scenario.{digit}
+use Rattle.sets.specs.Sets.{digit}
 use Rattle.walk.specs.Ends.{End, after, ends, both, ends-cut, ends-leaf, ends-node, sumEnds, weighed}
 use Rattle.walk.specs.Pending.{Branch, branchEnds, pending}
 use Rattle.walk.specs.Laws.{masses-le}

@@ -12,10 +12,9 @@ use lib.Count.{trailingZeros}
 use lib.Dec.{leb, eqb}
 use lib.ListN.{length, getD, set, length-set}
 use lib.Seq.{getD-set-same, getD-set-other}
-use Rattle.sets.specs.Sets.{bit}
+use Rattle.sets.specs.Sets.{bit, digit}
 use Rattle.sets.specs.Laws.{bit-none}
 use Rattle.sets.specs.Bools.{and-left}
-use Rattle.walk.specs.Scenario.{digit}
 use Rattle.bounds.specs.Adding.{AddingRow, AddedRow}
 
 -- what the entry i gains from the elements of a set

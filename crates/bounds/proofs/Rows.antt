@@ -12,10 +12,9 @@ use borrow.Author.Tests.{le-leb, lt-leb, lt-ltb, le-ltb, eq-eqb, ne-eqb, ltb-fal
 use lib.Dec.{leb, ltb, eqb}
 use lib.ListN.{length, getD}
 use Rattle.mass.specs.Split.{whole}
-use Rattle.sets.specs.Sets.{bit}
+use Rattle.sets.specs.Sets.{bit, digit}
 use Rattle.sets.specs.Laws.{bit-none}
 use Rattle.sets.specs.Bools.{and-left, and-right, of-not, not-so, clash}
-use Rattle.walk.specs.Scenario.{digit}
 use Rattle.bounds.specs.Pairs.{start, place, pairCount}
 use Rattle.bounds.specs.PairLaws.{start-suc, start-mono, start-most, place-is, place-before, place-lt, pairs-most}
 use Rattle.bounds.specs.Adding.{AddingRow, AddedRow, AddingRows, AddedRows}

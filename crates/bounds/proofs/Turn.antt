@@ -10,7 +10,8 @@ use lib.Seq.{take-nil, drop-nil}
 use Rattle.mass.specs.Split.{whole}
 use Rattle.plan.specs.Records.{planOfLists}
 use Rattle.plan.specs.declared.Header.{Header}
-use Rattle.walk.specs.Scenario.{Scenario, digit}
+use Rattle.walk.specs.Scenario.{Scenario}
+use Rattle.sets.specs.Sets.{digit}
 use Rattle.walk.specs.Ends.{End, sumEnds, weighed, valueOf, sumEnds-first}
 use Rattle.walk.specs.Stack.{Stack, Stepped, nextEnd}
 use Rattle.walk.specs.declared.Next.{Next}

@@ -7,9 +7,8 @@ use Prim.Native.Nat.{ℕ, _+_, _-_, _*_, _^_, _<_, _≤_}
 use lib.Dec.{leb}
 use lib.ListN.{length, getD}
 use Rattle.mass.specs.Split.{whole}
-use Rattle.sets.specs.Sets.{bit}
+use Rattle.sets.specs.Sets.{bit, digit}
 use Rattle.topology.specs.RowPaths.{RowPath, Joining}
-use Rattle.walk.specs.Scenario.{digit}
 use Rattle.bounds.specs.Pairs.{place, pairCount}
 
 -- a row: the element w of a set stands for the entry start + (w − skip)

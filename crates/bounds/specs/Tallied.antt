@@ -5,13 +5,13 @@ use mathlib.Core.List.{List}
 use Prim.Native.Nat.{ℕ, _+_, _*_, _^_, _<_, _≤_}
 use lib.ListN.{length, getD, take, drop}
 use Rattle.mass.specs.Split.{whole}
-use Rattle.sets.specs.Sets.{joined}
+use Rattle.sets.specs.Sets.{joined, digit}
 use Rattle.plan.specs.Plan.{Plan}
 use Rattle.plan.specs.Lists.{linksOf, eventsOf}
 use Rattle.plan.specs.declared.Header.{Header}
 use Rattle.plan.specs.Records.{planOfLists}
 use Rattle.topology.specs.Code.{LinksHeld}
-use Rattle.walk.specs.Scenario.{Scenario, Probabilities, digit, scenarioOf}
+use Rattle.walk.specs.Scenario.{Scenario, Probabilities, scenarioOf}
 use Rattle.walk.specs.Ends.{End, sumEnds, valueOf, weighed}
 use Rattle.walk.specs.Stack.{Stack, toCome, nextEnd}
 use Rattle.walk.specs.declared.Next.{Next}

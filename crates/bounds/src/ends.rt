@@ -6,10 +6,10 @@ use topology::Failed;
 use topology::Firsts;
 ghost use mathlib.Core.Path.{_≡_};
 ghost use Prim.Native.Nat.{_+_, _^_, _<_};
-ghost use Rattle.sets.specs.Sets.{joined};
+ghost use Rattle.sets.specs.Sets.{joined, digit};
 ghost use Rattle.topology.specs.Whole.{Whole};
 ghost use Rattle.walk.specs.Ends.{relevant};
-ghost use Rattle.walk.specs.Scenario.{digit, scenarioOf};
+ghost use Rattle.walk.specs.Scenario.{scenarioOf};
 ghost use Rattle.walk.specs.Stack.{endOf};
 ghost use Rattle.bounds.specs.Tallied.{Held, Sums, Examined, Ready, Tallied};
 

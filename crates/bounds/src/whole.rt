@@ -6,7 +6,7 @@ use plan::Header;
 ghost use mathlib.Core.Path.{_≡_};
 ghost use Prim.Native.Nat.{_≤_, _<_};
 ghost use lib.Dec.{leb};
-ghost use Rattle.walk.specs.Scenario.{digit};
+ghost use Rattle.sets.specs.Sets.{digit};
 ghost use Rattle.plan.specs.Records.{planOfLists};
 ghost use Rattle.bounds.specs.Tallied.{Held};
 ghost use Rattle.bounds.specs.Calls.{totalsOf, Summed, Cleared};

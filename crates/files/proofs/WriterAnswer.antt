@@ -17,14 +17,15 @@ use Rattle.plan.specs.Calls.{filled, writeRefusal, writeAnswer}
 use Rattle.plan.specs.declared.Header.{Header}
 use Rattle.plan.specs.declared.Writing.{Writing}
 use Rattle.plan.specs.declared.Writing.the-variants.{Refused, Written}
-use Rattle.plan.proofs.ListLaws.{decides, first-last, Counted, counted, roomy}
+use Rattle.plan.proofs.ListLaws.{decides, first-last}
+use Rattle.plan.proofs.TestLaws.{Ranges, counts-none, room-none}
 use Rattle.plan.proofs.CopyLaws.{first-stays, countsAndRooms}
 
 module _ (h : Header) (linkRoom eventRoom : ℕ) (links words : List ℕ) where
   -- lists that are not refused have counts in range
-  pub lists-counted : listsRefusal h linkRoom eventRoom links words ≡ 0 → Counted (h .nodes) (h .links) (h .events)
+  pub lists-counted : listsRefusal h linkRoom eventRoom links words ≡ 0 → Ranges (h .nodes) (h .links) (h .events)
   unfolding listsRefusal
-  lists-counted e = counted _ _ _ (first-none _ _ e .0)
+  lists-counted e = counts-none _ _ _ (first-none _ _ e .0)
 
   -- the lists refuse, or the output's room
   lists-first : (room number : ℕ) → number ≡ listsRefusal h linkRoom eventRoom links words → (number ≡ 0 → ⊥)

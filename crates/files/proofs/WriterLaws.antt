@@ -7,6 +7,7 @@ use native.Mathlib.Numerals.{add-one}
 use native.Mathlib.Omega.{arith}
 use lib.ListN.{length, take, drop, set}
 use lib.Seq.{sets, length-take-le}
+use Rattle.plan.proofs.ListTheorems.{length-links-of, length-events-of}
 use Rattle.plan.proofs.ListLaws.{less-one, sets-then, eventAt}
 use Rattle.sets.specs.Sets.{joined}
 use Rattle.plan.specs.Lists.{eventOf, eventsOf}
@@ -14,7 +15,7 @@ use Rattle.plan.specs.Records.{planOfLists}
 use Rattle.plan.specs.declared.Header.{Header}
 use Rattle.plan.specs.Layout.{little, elements, memberBytes, eventBytes, headerBytes, layout}
 use Rattle.files.proofs.ElementLaws.{elements-left, elements-end, one-none, one-some, memberBytes-append, length-memberBytes}
-use Rattle.files.proofs.WriterSizes.{length-little, one-event, length-one-event, length-eventsOf, bytes-next, bytes-end, linkBytes-take, length-linksOf}
+use Rattle.files.proofs.WriterSizes.{length-little, one-event, length-one-event, bytes-next, bytes-end, linkBytes-take}
 
 -- one more byte of a number laid down
 pub number-next : (out : List ℕ) (i left x : ℕ) → 0 < left
@@ -123,4 +124,4 @@ plan-laid h links words out out₁ out₂ out₃ fit e₁ e₂ e₃ =
     e₃
     ∙ sets-then bytes rest out₁ out₂ 20 (20 + 2 * h .links) e₂ (ap (λ (k : ℕ). 20 + k) (sym n))
     ∙ sets-then head (bytes ++ rest) out out₁ 0 20 e₁ refl
-    ∙ rw (length-linksOf (h .links) links, length-eventsOf (h .events) words, linkBytes-take (h .links) links fit)
+    ∙ rw (length-links-of (h .links) links, length-events-of (h .events) words, linkBytes-take (h .links) links fit)

@@ -5,6 +5,7 @@ use mathlib.Core.List.{List, [], _∷_, _++_, append-nil, append-assoc}
 use Prim.Native.Nat.{ℕ, zero, suc, _+_, _-_, _*_, _/_, _^_, _≤_, _<_}
 use native.Mathlib.Omega.{arith}
 use lib.ListN.{length, take, drop, length-append}
+use Rattle.plan.proofs.ListTheorems.{length-links-of}
 use Rattle.plan.proofs.ListLaws.{eventAt, events-next}
 use Rattle.sets.specs.Sets.{joined}
 use Rattle.plan.specs.Plan.{Plan, Link, Event}
@@ -67,11 +68,6 @@ events-most (e ∷ es) =
       events-most es,
     )
 
-pub length-eventsOf : (count : ℕ) (words : List ℕ) → length (eventsOf count words) ≡ count
-unfolding eventsOf
-length-eventsOf zero words = refl
-length-eventsOf (suc count) words = ap suc (length-eventsOf count (drop 4 words))
-
 -- the bytes of the events from a position on: those of the next one, then the others'
 pub bytes-next : (words : List ℕ) (at left : ℕ) → 0 < left
     → eventBytes (eventsOf left (drop at words))
@@ -104,11 +100,6 @@ linkBytes-take (suc count) (a ∷ b ∷ bytes) h =
     let e : 2 * suc count ≡ suc (suc (2 * count)) = omega arith in
     rw (e, linkBytes-take count bytes (omega arith))
 
-pub length-linksOf : (count : ℕ) (bytes : List ℕ) → length (linksOf count bytes) ≡ count
-unfolding linksOf
-length-linksOf zero bytes = refl
-length-linksOf (suc count) bytes = ap suc (length-linksOf count (drop 2 bytes))
-
 pub length-linkBytes : (links : List Link) → length (linkBytes links) ≡ 2 * length links
 unfolding linkBytes
 length-linkBytes [] = refl
@@ -129,4 +120,4 @@ length-layout p =
 pub plan-size : (h : Header) (links words : List ℕ)
     → length (layout (planOfLists h links words)) ≡ 20 + 2 * h .links + length (eventBytes (eventsOf (h .events) words))
 unfolding planOfLists
-plan-size h links words = omega (arith, length-layout (planOfLists h links words), length-linksOf (h .links) links)
+plan-size h links words = omega (arith, length-layout (planOfLists h links words), length-links-of (h .links) links)

@@ -16,7 +16,7 @@ use Rattle.plan.specs.Records.{eventListRefusal, planOfLists, listsRefusal}
 use Rattle.plan.specs.Calls.{filled, headerOf, readRefusal}
 use Rattle.plan.proofs.FileLawsAccepted.{accepted-counts}
 use Rattle.plan.specs.declared.Header.{Header}
-use Rattle.plan.proofs.ListLaws.{counted}
+use Rattle.plan.proofs.TestLaws.{counts-none}
 use Rattle.mass.specs.Split.{certain}
 use Rattle.plan.proofs.LayoutFile.{ValidPlan, file-none, read-valid}
 use Rattle.plan.proofs.ListTheorems.{read-denotes, length-links-of, length-events-of}
@@ -48,7 +48,7 @@ unfolding listsRefusal planOfLists first
 lists-accepted h links words v =
     let counts : countsTest (h .nodes) (h .links) (h .events) ≡ 0 =
     rw (length-links-of (h .links) links, length-events-of (h .events) words) at (v .counts) in
-    let fit = counted (h .nodes) (h .links) (h .events) counts in
+    let fit = counts-none (h .nodes) (h .links) (h .events) counts in
     let events : eventListRefusal (h .nodes) (h .links) certain (eventsOf (h .events) words) ≡ 0 =
     rw (length-links-of (h .links) links) at (v .events) in
     rw (

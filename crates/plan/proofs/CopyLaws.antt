@@ -13,7 +13,7 @@ use Rattle.plan.specs.Lists.{linksOf, eventsOf}
 use Rattle.plan.specs.Tests.{countsTest, thresholdTest, limitTest, roomTest}
 use Rattle.plan.specs.Records.{linkListRefusal, eventListRefusal, planOfLists, listsRefusal}
 use Rattle.plan.specs.declared.Header.{Header}
-use Rattle.plan.proofs.ListLaws.{Counted, counted, roomy}
+use Rattle.plan.proofs.TestLaws.{Ranges, counts-none, room-none}
 
 -- the lists are used up to the counts only
 two : (k : ℕ) → 2 * suc k ≡ suc (suc (2 * k))
@@ -82,9 +82,9 @@ pub copies-plan : (h : Header) (links words bytes wide : List ℕ) (m n : ℕ)
 copies-plan h links words bytes wide m n b w e f z =
     let one = first-none _ _ z in
     let four′ = first-none _ _ (first-none _ _ (first-none _ _ (one .1) .1) .1) in
-    let fit : Counted (h .nodes) (h .links) (h .events) = counted _ _ _ (one .0) in
-    let l : 2 * h .links ≤ length links = roomy _ _ (four′ .0) in
-    let v : h .events ≤ length words / 4 = roomy _ _ (first-none _ _ (four′ .1) .0) in
+    let fit : Ranges (h .nodes) (h .links) (h .events) = counts-none _ _ _ (one .0) in
+    let l : 2 * h .links ≤ length links = room-none _ _ (four′ .0) in
+    let v : h .events ≤ length words / 4 = room-none _ _ (first-none _ _ (four′ .1) .0) in
     same-plan h _ _ _ _
     (copied links bytes m (2 * h .links) (omega arith) (omega arith) (omega arith))
     (copied words wide n (4 * h .events) (omega arith) (omega arith) (omega arith))

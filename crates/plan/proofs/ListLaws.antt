@@ -124,28 +124,3 @@ pub events-end : (nodes links before left : ℕ) (words : List ℕ) → left ≤
 unfolding eventListRefusal eventsOf
 events-end nodes links before zero words h = refl
 events-end nodes links before (suc left) words h = absurd (omega arith)
-
--- two tests of which neither holds
-pub or-none : (a b : Bool) → (a || b) ≡ false → (a ≡ false) × (b ≡ false)
-or-none true b e = let z : _≡_ {A = ℕ} 0 1 = cc in absurd (omega arith)
-or-none false b e = (refl, e)
-
--- what counts, and a room, that are not refused say
-pub record Counted (nodes links events : ℕ) : Type 0 where
-  pub nodes-fit : nodes ≤ 64
-  pub links-fit : links ≤ 128
-  pub events-fit : events ≤ 128
-
-pub counted : (nodes links events : ℕ) → countsTest nodes links events ≡ 0 → Counted nodes links events
-counted nodes links events e =
-    let three = or-none _ _ (refuse-none _ 3 e) in
-    let two = or-none _ _ (three .0) in
-    let one = or-none (ltb nodes 1) _ (two .0) in
-    record {
-      nodes-fit = ltb-false 64 nodes (one .1);
-      links-fit = ltb-false 128 links (two .1);
-      events-fit = ltb-false 128 events (three .1);
-    }
-
-pub roomy : (room need : ℕ) → roomTest room need ≡ 0 → need ≤ room
-roomy room need e = ltb-false room need (refuse-none _ 11 e)

@@ -14,7 +14,7 @@ use Rattle.plan.specs.Records.{planOfLists}
 use Rattle.plan.specs.Calls.{filled, headerOf, headerIn, readRefusal, readAnswer}
 use Rattle.plan.specs.declared.Header.{Header}
 use Rattle.plan.specs.declared.Writing.{Writing}
-use Rattle.plan.proofs.ListLaws.{Counted, counted, roomy}
+use Rattle.plan.proofs.TestLaws.{Ranges, counts-none, room-none}
 use Rattle.files.proofs.ReaderLawsAnswer.{header-bounds}
 use Rattle.plan.proofs.CopyLaws.{countsAndRooms, same-plan, copied}
 use Rattle.files.proofs.WriterAnswer.{Outcome, same-outcome}
@@ -30,8 +30,8 @@ pub copied-links : (h : Header) (links words bytes : List ℕ) (m room : ℕ)
 copied-links h links words bytes m room b e z =
     let one = first-none _ _ z in
     let four = first-none _ _ (first-none _ _ (first-none _ _ (one .1) .1) .1) in
-    let fit : Counted (h .nodes) (h .links) (h .events) = counted _ _ _ (one .0) in
-    let l : 2 * h .links ≤ length links = roomy _ _ (four .0) in
+    let fit : Ranges (h .nodes) (h .links) (h .events) = counts-none _ _ _ (one .0) in
+    let l : 2 * h .links ≤ length links = room-none _ _ (four .0) in
     same-plan h _ _ _ _ (copied links bytes m (2 * h .links) (omega arith) (omega arith) (omega arith)) refl
 
 -- ---- reading: records laid down from the words that were read
@@ -87,8 +87,8 @@ written-list h links out left room es answer long =
     (λ z.
     let one = first-none _ _ z in
     let four = first-none _ _ (first-none _ _ (first-none _ _ (one .1) .1) .1) in
-    let fit : Counted (h .nodes) (h .links) (h .events) = counted _ _ _ (one .0) in
-    let v : h .events ≤ length es = roomy _ _ (first-none _ _ (four .1) .0) in
+    let fit : Ranges (h .nodes) (h .links) (h .events) = counts-none _ _ _ (one .0) in
+    let v : h .events ≤ length es = room-none _ _ (first-none _ _ (four .1) .0) in
     same-plan h _ _ _ _ refl (used (h .events) (omega arith) v))
   where
     used : (k : ℕ) → k ≤ 128 → k ≤ length es → take (4 * k) (sets room 0 (wordsOf (take 128 es))) ≡ take (4 * k) (wordsOf es)

@@ -18,7 +18,7 @@ use Rattle.plan.specs.Tests.{roomTest}
 use Rattle.plan.specs.Records.{planOfLists, listsRefusal, linkListRefusal, eventListRefusal}
 use Rattle.plan.specs.Calls.{filled}
 use Rattle.plan.specs.declared.Header.{Header}
-use Rattle.plan.proofs.ListLaws.{Counted, counted, roomy}
+use Rattle.plan.proofs.TestLaws.{Ranges, counts-none, room-none}
 use Rattle.plan.proofs.CopyLaws.{same-plan}
 use Rattle.bounds.specs.Pairs.{pairCount}
 use Rattle.bounds.specs.Bounds.{lowerList, upperList, EnclosesAll}
@@ -72,12 +72,12 @@ module _ (h : Header) (ks : List ℕ) (es : List Event) where
   unfolding listsRefusal planOfLists
   lists-same =
       first-same _ _ _ (λ c.
-      let fit : Counted (h .nodes) (h .links) (h .events) = counted _ _ _ c in
+      let fit : Ranges (h .nodes) (h .links) (h .events) = counts-none _ _ _ c in
       first-same _ _ _ (λ _. first-same _ _ _ (λ _. first-same _ _ _ (λ _.
       ap (λ (t : ℕ). first (t ∷ linkListRefusal (h .nodes) (linksOf (h .links) ks) ∷ eventListRefusal (h .nodes) (h .links) certain (eventsOf (h .events) few) ∷ []))
       (room-same (length few / 4) (length all / 4) (h .events) (λ l. omega (arith, n, m, k)) (λ l. omega (arith, n, m, k)))
       ∙ first-same _ _ _ (λ z.
-      let some : h .events ≤ length all / 4 = roomy _ _ z in
+      let some : h .events ≤ length all / 4 = room-none _ _ z in
       ap (λ (v : List plan.Event). first (linkListRefusal (h .nodes) (linksOf (h .links) ks) ∷ eventListRefusal (h .nodes) (h .links) certain v ∷ []))
       (ap (λ (p : Plan). p .events) (denote-same (fit .events-fit) (omega (arith, k)))))))))
     where
@@ -103,8 +103,8 @@ module _ (h : Header) (ks : List ℕ) (es : List Event) where
     plan-same e =
         let c = first-none _ _ (first-none _ _ e .0) in
         let r = first-none _ _ (first-none _ _ (first-none _ _ (first-none _ _ (c .1) .1) .1) .1) in
-        let fit : Counted (h .nodes) (h .links) (h .events) = counted _ _ _ (c .0) in
-        let some : h .events ≤ length all / 4 = roomy _ _ (r .0) in
+        let fit : Ranges (h .nodes) (h .links) (h .events) = counts-none _ _ _ (c .0) in
+        let some : h .events ≤ length all / 4 = room-none _ _ (r .0) in
         denote-same (fit .events-fit) (omega (arith, length-words es))
 
     -- what is told of the number and the plan, where a refusal tells nothing of the plan

@@ -19,7 +19,7 @@ use Rattle.plan.specs.Records.{planRefusal}
 use Rattle.plan.proofs.TestLaws.{counts-none, Ranges, or-none}
 use Rattle.plan.proofs.LayoutFile.{valid-none}
 use Rattle.plan.proofs.Theorems.{read-writes-again, longest, prefix-decides}
-use Rattle.walk.specs.Scenario.{digit}
+use Rattle.sets.specs.Sets.{digit}
 use Rattle.walk.specs.Walk.{count, complete, massExamined, planEnds}
 use Rattle.walk.specs.Laws.{massExamined-le, count-le}
 use Rattle.walk.specs.Valid.{plan-probable}

@@ -7,7 +7,8 @@ use lib.Dec.{eqb, ltb}
 use lib.ListN.{length}
 use Rattle.plan.specs.Plan.{Plan}
 use Rattle.topology.specs.Topology.{Network, nodeWorks, linkWorks}
-use Rattle.walk.specs.Scenario.{Scenario, digit}
+use Rattle.walk.specs.Scenario.{Scenario}
+use Rattle.sets.specs.Sets.{digit}
 use Rattle.walk.specs.Ends.{End, dropped, relevant}
 use Rattle.walk.specs.Walk.{firstEnds}
 use Rattle.bounds.specs.Bounds.{topologyOf}

@@ -8,10 +8,9 @@ use native.Mathlib.Nat.{pow-succ'}
 use native.Mathlib.Omega.{arith}
 use borrow.Author.Tests.{ne-eqb, eq-eqb}
 use lib.Dec.{eqb}
-use Rattle.sets.specs.Sets.{bit}
+use Rattle.sets.specs.Sets.{bit, digit}
 use Rattle.sets.specs.Laws.{bit-add, bit-past, bit-ext}
 use Rattle.sets.specs.Bools.{or-right}
-use Rattle.walk.specs.Scenario.{digit}
 use Rattle.topologies.specs.Listing.{setOf}
 
 module _ (test : ℕ → Bool) where

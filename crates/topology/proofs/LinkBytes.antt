@@ -15,15 +15,11 @@ use Rattle.sets.specs.Laws.{bit-none, bit-joined-low, bit-joined-high}
 use Rattle.sets.specs.Bools.{same-bool}
 use Rattle.plan.specs.Plan.{Link}
 use Rattle.plan.specs.Lists.{linksOf}
+use Rattle.plan.proofs.ListTheorems.{length-links-of}
 use Rattle.topology.specs.Outage.{Outage}
 use Rattle.topology.specs.Topology.{networkOf, linkAt, nodeWorks, linkWorks, EndsBelow}
 
 -- ---- the list of bytes
-
-pub length-links : (count : ℕ) (bytes : List ℕ) → length (linksOf count bytes) ≡ count
-unfolding linksOf
-length-links zero bytes = refl
-length-links (suc count) bytes = ap suc (length-links count (drop 2 bytes))
 
 byte-later : (bytes : List ℕ) (i k : ℕ) → getD (drop 2 bytes) (2 * i + k) 0 ≡ getD bytes (2 * suc i + k) 0
 byte-later bytes i k =
@@ -39,7 +35,7 @@ link-at (suc count) bytes (suc i) h =
     link-at count (drop 2 bytes) i (omega arith) ∙ (λ x. record { low = byte-later bytes i 0 x; high = byte-later bytes i 1 x })
 
 pub end-below : (n count : ℕ) (bytes : List ℕ) (i side : ℕ) → EndsBelow n (linksOf count bytes) → i < count → side < 2 → getD bytes (2 * i + side) 0 < n
-end-below n count bytes i side ends h l = go side l (ends i (omega (arith, length-links count bytes)))
+end-below n count bytes i side ends h l = go side l (ends i (omega (arith, length-links-of count bytes)))
   where
     go : (side : ℕ) → side < 2 → (linkAt (linksOf count bytes) i .low < n) × (linkAt (linksOf count bytes) i .high < n) → getD bytes (2 * i + side) 0 < n
     go zero l e = subst (λ (x : Link). x .low < n) (link-at count bytes i h) (e .0)
@@ -55,7 +51,7 @@ module _ (n count : ℕ) (bytes : List ℕ) (out : Outage) (nodes : ℕ) (law : 
   pub works-below : (i : ℕ) → i < count → worksBy nodes (out .links) bytes i ≡ linkWorks (networkOf n (linksOf count bytes) out) i
   unfolding linkWorks nodeWorks
   works-below i h =
-      rw (link-at count bytes i h, length-links count bytes, lt-ltb i count h, law (getD bytes (2 * i + 0) 0), law (getD bytes (2 * i + 1) 0))
+      rw (link-at count bytes i h, length-links-of count bytes, lt-ltb i count h, law (getD bytes (2 * i + 0) 0), law (getD bytes (2 * i + 1) 0))
 
   pub works-is : (i : ℕ) → (ltb i count && worksBy nodes (out .links) bytes i) ≡ linkWorks (networkOf n (linksOf count bytes) out) i
   unfolding linkWorks
@@ -63,7 +59,7 @@ module _ (n count : ℕ) (bytes : List ℕ) (out : Outage) (nodes : ℕ) (law : 
     where
       at : Dec (i < count) → (ltb i count && worksBy nodes (out .links) bytes i) ≡ linkWorks (networkOf n (linksOf count bytes) out) i
       at (yes h) = ap (λ (x : Bool). x && worksBy nodes (out .links) bytes i) (lt-ltb i count h) ∙ works-below i h
-      at (no l) = rw (length-links count bytes, le-ltb i count (omega arith))
+      at (no l) = rw (length-links-of count bytes, le-ltb i count (omega arith))
 
 -- the digit that the code makes of it
 pub on-is : (nodes cut : ℕ) (bytes : List ℕ) (i a b on : ℕ) → a ≡ getD bytes (2 * i + 0) 0 → b ≡ getD bytes (2 * i + 1) 0

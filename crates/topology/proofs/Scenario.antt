@@ -14,12 +14,13 @@ use Rattle.sets.specs.Sets.{bit, joined}
 use Rattle.sets.specs.Bools.{and-left, and-right, and-both, or-either, or-left, or-right, which, clash, not-so, not-of, of-not, same-bool, any-found, any-here}
 use Rattle.plan.specs.Plan.{Link}
 use Rattle.plan.specs.Lists.{linksOf}
+use Rattle.plan.proofs.ListTheorems.{length-links-of}
 use Rattle.topology.specs.Outage.{Outage}
 use Rattle.topology.specs.Topology.{networkOf, linkWorks, ends, joins, adjacent}
 use Rattle.topology.specs.Works.{adjacent-link, link-adjacent, link-below, link-nodes}
 use Rattle.topology.specs.Whole.{linkIn, repeats, joinedBy, Whole}
 use Rattle.topology.specs.declared.Firsts.{Firsts}
-use Rattle.topology.proofs.LinkBytes.{works-below, link-at, length-links}
+use Rattle.topology.proofs.LinkBytes.{works-below, link-at}
 use Rattle.topology.proofs.Shown.{nodes-shown}
 use Rattle.topology.proofs.Words.{joined-by, in-low-word, in-high-word, two-found, two-here}
 use Rattle.topology.proofs.Repeats.{first-link, one-first}
@@ -57,7 +58,7 @@ module _ (n count : ℕ) (bytes : List ℕ) (out : Outage) (nodes : ℕ) (law : 
       let net = networkOf n (linksOf count bytes) out in
       let s = adjacent-link net v w e in
       let works = and-left (linkWorks net (s .0)) _ (s .1) in
-      let below : s .0 < count = subst (λ (x : ℕ). s .0 < x) (length-links count bytes) (link-below net (s .0) works) in
+      let below : s .0 < count = subst (λ (x : ℕ). s .0 < x) (length-links-of count bytes) (link-below net (s .0) works) in
       let both = link-nodes net v w s in
       let shown = nodes-shown n (linksOf count bytes) out nodes law in (
         and-both (bit nodes v) (bit nodes w) (shown v ∙ both .0) (shown w ∙ both .1),

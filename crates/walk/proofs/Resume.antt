@@ -9,10 +9,10 @@ use lib.Dec.{leb}
 use lib.ListN.{length, take, drop, length-drop, drop-of-length-le}
 use borrow.Author.Tests.{le-leb, lt-leb}
 use Rattle.mass.specs.Split.{whole}
-use Rattle.sets.specs.Sets.{joined}
+use Rattle.sets.specs.Sets.{joined, digit}
 use Rattle.plan.specs.Plan.{Plan}
 use Rattle.plan.specs.Lists.{eventsOf}
-use Rattle.walk.specs.Scenario.{Scenario, digit, scenarioOf, scenario-length}
+use Rattle.walk.specs.Scenario.{Scenario, scenarioOf, scenario-length}
 use Rattle.walk.specs.Ends.{End, dropped, relevant, ends, endsAfter, sumEnds, valueOf, sumEnds-first}
 use Rattle.walk.specs.Pending.{root, pending-root}
 use Rattle.walk.specs.Walk.{planEnds, complete}

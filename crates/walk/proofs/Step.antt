@@ -12,10 +12,10 @@ use lib.Pow.{pow-pos}
 use lib.Seq.{getD-drop}
 use Rattle.mass.specs.Split.{certain, whole, failing, working}
 use Rattle.mass.specs.Laws.{fails-le, works-le}
-use Rattle.sets.specs.Sets.{joined}
+use Rattle.sets.specs.Sets.{joined, digit}
 use Rattle.plan.specs.Plan.{Event}
 use Rattle.plan.specs.Lists.{eventsOf}
-use Rattle.walk.specs.Scenario.{Scenario, Probabilities, scenarioOf, scenario-length, scenario-next, digit}
+use Rattle.walk.specs.Scenario.{Scenario, Probabilities, scenarioOf, scenario-length, scenario-next}
 use Rattle.walk.specs.Ends.{End, dropped, relevant}
 use Rattle.walk.specs.Pending.{Branch, branch, pending, pending-cut, pending-leaf, pending-node}
 use Rattle.walk.specs.Stack.{entry, branches, toCome, Entry, Entries, Stack, Stepped, Deciding, Decided}

@@ -13,17 +13,12 @@ use lib.Pow.{shr-shr}
 use borrow.Author.Tests.{eq-eqb, ne-eqb, eqb-true, eqb-false}
 use Rattle.mass.specs.Split.{certain, failing, working}
 use Rattle.mass.specs.Laws.{fails-le, works-le}
-use Rattle.sets.specs.Sets.{bit}
+use Rattle.sets.specs.Sets.{bit, digit}
 use Rattle.plan.specs.Plan.{Event}
 
 -- "A scenario says of each event "fails" or "works"": entry i is true where event i fails
 abbrev pub Scenario : Type 0
 Scenario = List Bool
-
--- a yes or no as a number, 1 or 0
-abbrev pub digit : Bool → ℕ
-digit true = 1
-digit false = 0
 
 -- the set of failing events, as a number: bit i, of value 2^i, is set where event i fails
 abbrev pub number : Scenario → ℕ

@@ -8,7 +8,8 @@ use lib.Dec.{leb}
 use lib.ListN.{length, take}
 use Rattle.mass.specs.Split.{whole}
 use Rattle.plan.specs.Plan.{Plan}
-use Rattle.walk.specs.Scenario.{Scenario, digit}
+use Rattle.walk.specs.Scenario.{Scenario}
+use Rattle.sets.specs.Sets.{digit}
 use Rattle.walk.specs.Ends.{End, dropped, relevant, ends, sumEnds, scenarios, scenarios-count}
 use Rattle.walk.specs.Member.{among}
 

@@ -5,7 +5,8 @@ use native.Mathlib.Omega.{arith}
 use lib.ListN.{length, drop}
 use Rattle.plan.specs.Lists.{eventsOf}
 use Rattle.plan.specs.Layout.{memberCount, eventBytes}
-use Rattle.files.proofs.WriterSizes.{size-next, events-most, length-eventsOf, bytes-end}
+use Rattle.plan.proofs.ListTheorems.{length-events-of}
+use Rattle.files.proofs.WriterSizes.{size-next, events-most, bytes-end}
 use Rattle.files.proofs.writer.events_size.Statement.{statement}
 use Rattle.files.proofs.writer.events_size.Tie as tie
 
@@ -33,7 +34,7 @@ next c =
 few : (c : tie.Start Inv-loop μ-loop) → length (eventBytes (eventsOf (c .args .count) (c .args .words .now))) ≤ 389 * 128
 few c =
     let es = eventsOf (c .args .count) (c .args .words .now) in
-    omega (arith, events-most es, length-eventsOf (c .args .count) (c .args .words .now))
+    omega (arith, events-most es, length-events-of (c .args .count) (c .args .words .now))
 
 loop-holds : tie.Need-loop-holds Inv-loop μ-loop
 loop-holds c = (omega arith, omega arith)

@@ -6,8 +6,9 @@ use lib.ListN.{length}
 use Rattle.plan.specs.Lists.{eventsOf}
 use Rattle.plan.specs.Layout.{layout}
 use Rattle.plan.specs.Records.{planOfLists, listsRefusal}
-use Rattle.plan.proofs.ListLaws.{Counted, roomy}
-use Rattle.files.proofs.WriterSizes.{plan-size, events-most, length-eventsOf}
+use Rattle.plan.proofs.TestLaws.{Ranges, room-none}
+use Rattle.plan.proofs.ListTheorems.{length-events-of}
+use Rattle.files.proofs.WriterSizes.{plan-size, events-most}
 use Rattle.files.proofs.WriterAnswer.{lists-counted, lists-refuse, room-refuses, written}
 use Rattle.files.proofs.writer.write_core.Statement.{statement}
 use Rattle.files.proofs.writer.write_core.Tie as tie
@@ -27,7 +28,7 @@ accepted : (c : tie.Else1)
     → (let a = entry c .args in listsRefusal (a .h) (a .link-room) (a .event-room) (a .links .now) (a .words .now) ≡ 0)
 accepted c = sym (c .before .lists-refusal .ensures) ∙ c .if1 .left
 
-counts : (c : tie.Else1) → (let h = entry c .args .h in Counted (h .nodes) (h .links) (h .events))
+counts : (c : tie.Else1) → (let h = entry c .args .h in Ranges (h .nodes) (h .links) (h .events))
 counts c = lists-counted _ _ _ _ _ (accepted c)
 
 -- the size is the file's
@@ -41,7 +42,7 @@ size c =
 -- the output has room
 fits : (c : tie.Else2)
     → (let a = entry (first (sized c)) .args in 20 + 2 * a .h .links + sized c .events-size .result ≤ length (a .out .now))
-fits c = roomy _ _ (sym (c .before .room-test .ensures) ∙ c .if2 .left)
+fits c = room-none _ _ (sym (c .before .room-test .ensures) ∙ c .if2 .left)
 
 lists-refusal-requires : tie.Need-lists-refusal-requires
 lists-refusal-requires c κs = tt
@@ -62,7 +63,7 @@ add-size-2 : tie.Need-add-size-2
 add-size-2 c =
     let a = entry (first c) .args in
     let es = eventsOf (a .h .events) (a .words .now) in
-    omega (arith, counts (first c), c .events-size .ensures, events-most es, length-eventsOf (a .h .events) (a .words .now))
+    omega (arith, counts (first c), c .events-size .ensures, events-most es, length-events-of (a .h .events) (a .words .now))
 
 room-test-requires : tie.Need-room-test-requires
 room-test-requires c κs = tt

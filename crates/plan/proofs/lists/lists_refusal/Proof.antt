@@ -9,7 +9,8 @@ use Rattle.mass.specs.Split.{certain}
 use Rattle.plan.specs.Lists.{linksOf, eventsOf}
 use Rattle.plan.specs.Tests.{countsTest, thresholdTest, limitTest, roomTest}
 use Rattle.plan.specs.Records.{linkListRefusal, eventListRefusal, listsRefusal}
-use Rattle.plan.proofs.ListLaws.{decides, first-last, Counted, counted}
+use Rattle.plan.proofs.ListLaws.{decides, first-last}
+use Rattle.plan.proofs.TestLaws.{Ranges, counts-none}
 use Rattle.plan.proofs.lists.lists_refusal.Statement.{statement}
 use Rattle.plan.proofs.lists.lists_refusal.Tie as tie
 
@@ -49,8 +50,8 @@ after₆ : (c : tie.Else6) → (let s = c .before .before .before .before .befor
 after₆ c = sym (first-skip _ _ (sym (c .before .link-list-refusal .ensures) ∙ c .if6 .left)) ∙ after₅ (c .before .before .before)
 
 counts : (c : tie.Else1)
-    → Counted (c .before .before .args .h .nodes) (c .before .before .args .h .links) (c .before .before .args .h .events)
-counts c = counted _ _ _ (sym (c .before .counts-test .ensures) ∙ c .if1 .left)
+    → Ranges (c .before .before .args .h .nodes) (c .before .before .args .h .links) (c .before .before .args .h .events)
+counts c = counts-none _ _ _ (sym (c .before .counts-test .ensures) ∙ c .if1 .left)
 
 counts-test-requires : tie.Need-counts-test-requires
 counts-test-requires c κs = tt
