@@ -99,13 +99,13 @@ module _ (b : List ℕ) (room v w : ℕ) where
         )
 
   -- a refusal changes nothing
-  pub host-refused : (out : List ℕ) (n : ℕ) (r : Paired) → r ≡ paired.Refused n → Told r
+  pub host-refused : (out news : List ℕ) (n : ℕ) (r : Paired) → r ≡ paired.Refused n → Told r
       → (n ≡ hostRefusal b room v w)
-      × ((out ≡ filled (hostRefusal b room v w) (sixteen (lowerOf (planOf b) v w) (upperOf (planOf b) v w)) out)
+      × ((out ≡ filled (hostRefusal b room v w) news out)
       × (hostRefusal b room v w ≡ 0 → Encloses (planOf b) v w (lowerIn out) (upperIn out) (count (planOf b))))
-  host-refused out n r k t =
+  host-refused out news n r k t =
       let is = pair-refused-is (hostRefusal b room v w) n (boundsOf (planOf b) v w) (sym k ∙ t .0) in
-      (is .0, (filled-none (hostRefusal b room v w) _ out (is .1), λ z. absurd (is .1 z)))
+      (is .0, (filled-none (hostRefusal b room v w) news out (is .1), λ z. absurd (is .1 z)))
 
   pub host-room : hostRefusal b room v w ≡ 0 → 16 ≤ room
   unfolding hostRefusal

@@ -25,7 +25,7 @@ returns : tie.Need-returns
 returns c =
     let a = c .before .before .before .before .before .before .args in
     let p = c .before .before .before .pair-of in
-    host-refused (a .plan .now) _ (a .v) (a .w) (a .out .now) _ _ (c .before .number .given .1) (p .ensures)
+    host-refused (a .plan .now) _ (a .v) (a .w) (a .out .now) _ _ _ (c .before .number .given .1) (p .ensures)
 
 same-length : tie.Need-same-length
 same-length c = search needs
