@@ -3,6 +3,7 @@
 use mathlib.Core.Path.{_≡_, refl, sym, ap, subst, _∙_}
 use mathlib.Core.Bool.{Bool, true, false, not, _&&_, and-true, and-false}
 use mathlib.Core.List.{List}
+use mathlib.Core.Logic.{_⊎_, inl, inr}
 use Prim.Native.Nat.{ℕ, zero, suc, _+_, _-_, _*_, _^_, _<_, _≤_}
 use native.Mathlib.Nat.{mul-le-mul-left}
 use native.Mathlib.Decide.{ℕ-discrete, decLt}
@@ -14,7 +15,7 @@ use lib.ListN.{length, getD}
 use Rattle.mass.specs.Split.{whole}
 use Rattle.sets.specs.Sets.{bit, digit}
 use Rattle.sets.specs.Laws.{bit-none}
-use Rattle.sets.specs.Bools.{and-left, and-right, of-not, not-so, clash}
+use Rattle.sets.specs.Bools.{and-left, and-right, and-both, of-not, not-of, not-so, clash, which}
 use Rattle.bounds.specs.Pairs.{start, place, pairCount}
 use Rattle.bounds.specs.PairLaws.{start-suc, start-mono, start-most, place-is, place-before, place-lt, pairs-most}
 use Rattle.bounds.specs.Adding.{AddingRow, AddedRow, AddingRows, AddedRows}
@@ -96,6 +97,26 @@ module _ (list₀ : List ℕ) (n all others mass : ℕ) (list : List ℕ) (left 
                 ap (λ (b : Bool). mass * digit b) (and-left (bit others w) _ (sym (is w) ∙ e)),
               ));
         }
+
+    -- no other comes after v: none comes after what is left
+    pub rows-stopped : later ≡ 0 → ((j : ℕ) → j < v → bit left j ≡ false) → AddedRows n all others mass list₀ list
+    rows-stopped e first =
+        record {
+          sized = g .sized;
+          each = λ u w h k. omega (arith, g .each u w h k, ap (λ (b : Bool). mass * digit b) (nothing u w h (which (bit left u))));
+          past = g .past;
+        }
+      where
+        nothing : (u w : ℕ) → u < w → (bit left u ≡ true) ⊎ (bit left u ≡ false) → (bit left u && bit others w) ≡ false
+        nothing u w h (inr d) = ap (λ (b : Bool). b && bit others w) d
+        nothing u w h (inl d) = ap (λ (b : Bool). b && bit others w) d ∙ not-so (bit others w) (λ o. clash (here o) (ap (λ (x : ℕ). bit x w) e ∙ bit-none w))
+          where
+            reached : Dec (u < v) → v ≤ u
+            reached (yes l) = absurd (clash d (first u l))
+            reached (no l) = omega arith
+
+            here : bit others w ≡ true → bit later w ≡ true
+            here o = is w ∙ and-both (bit others w) _ o (not-of (bit low w) (lows w ∙ le-ltb w (v + 1) (omega (arith, reached (decLt u v)))))
 
     module _ (list′ : List ℕ) (r : AddedRow (start n v) (v + 1) later mass list list′)
         (left′ : ℕ) (rest : (j : ℕ) → bit left′ j ≡ (bit left j && not (eqb j v))) where

@@ -16,7 +16,8 @@ fn add_row(lower: &mut [u64; 2016], start: usize, skip: usize, set: u64, mass: u
     }
 }
 
-// Adds to the entries of the pairs of each node of a set, of n nodes, with the nodes after it of another set.
+// Adds to the entries of the pairs of each node of a set, of n nodes, with the nodes after it of another set. Where no node comes after one, none comes
+// after those that are left.
 fn add_rows(lower: &mut [u64; 2016], n: usize, set: u64, others: u64, mass: u64)
     requires { ⌜ AddingRows n set others mass (now lower) ⌝ }
     ensures { λ r. ⌜ AddedRows n set others mass (now (lower .entry)) (now (lower .exit)) ⌝ }
@@ -25,6 +26,9 @@ fn add_rows(lower: &mut [u64; 2016], n: usize, set: u64, others: u64, mass: u64)
     while left != 0 {
         let v = sets::lowest(left);
         let later = sets::less(others, sets::first(v + 1));
+        if later == 0 {
+            return;
+        }
         add_row(&mut *lower, start_of(n, v), v + 1, later, mass);
         left = sets::rest(left);
     }

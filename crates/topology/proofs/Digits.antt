@@ -54,18 +54,3 @@ pub element-digit : (s i d : ℕ) → d ≡ digit (bit s i) → (bitXor d 1 < 2)
 element-digit s i d e =
     let t = turned-digit (bit s i) d e in
     (rw t (digit-lt (not (bit s i))), rw e (digit-lt (bit s i)))
-
--- a set times a digit: itself, or the empty set
-pub times-fits : (s d : ℕ) (b : Bool) → d ≡ digit b → s * d ≤ s
-times-fits s d b e = rw e (cases b)
-  where
-    cases : (x : Bool) → s * digit x ≤ s
-    cases true = omega arith
-    cases false = omega arith
-
-pub times-digit : (s d : ℕ) (b : Bool) → d ≡ digit b → (w : ℕ) → bit (s * d) w ≡ (b && bit s w)
-times-digit s d b e w = rw e (cases b)
-  where
-    cases : (x : Bool) → bit (s * digit x) w ≡ (x && bit s w)
-    cases true = ap (λ (y : ℕ). bit y w) (mul-one s)
-    cases false = ap (λ (y : ℕ). bit y w) (mul-zero s) ∙ bit-none w

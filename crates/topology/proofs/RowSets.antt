@@ -1,6 +1,6 @@
 -- The rows of neighbours, link by link.
 -- Assumes nothing.
-use mathlib.Core.Path.{_≡_, refl, sym, ap, ap₂, _∙_}
+use mathlib.Core.Path.{_≡_, refl, sym, ap, ap₂, subst, _∙_}
 use mathlib.Core.Bool.{Bool, true, false, not, _&&_, _||_, and-true, and-false, or-false}
 use mathlib.Core.List.{List}
 use mathlib.Core.Logic.{_⊎_, inl, inr}
@@ -13,7 +13,7 @@ use lib.Seq.{getD-set-same, getD-set-other}
 use borrow.Author.Tests.{eqb-true, eq-eqb, ne-eqb, lt-ltb, le-ltb}
 use Rattle.sets.specs.Sets.{bit, digit}
 use Rattle.sets.specs.Laws.{bit-none}
-use Rattle.sets.specs.Bools.{same-bool, which, and-left, and-right, or-either}
+use Rattle.sets.specs.Bools.{same-bool, clash, which, and-left, and-right, or-either}
 use Rattle.topology.specs.Topology.{ends}
 use Rattle.topology.specs.Whole.{endsOf, linkIn, joinedBy}
 use Rattle.topology.proofs.LinkBytes.{eqb-digit}
@@ -168,31 +168,78 @@ module _ (bytes : List ℕ) (base s : ℕ) (before : List ℕ) where
 
 module _ (all : List ℕ) (nodes : ℕ) where
   abbrev pub KeptBelow : ℕ → List ℕ → Type 0
-  KeptBelow k rows = (v w : ℕ) → bit (getD rows v 0) w ≡ (ltb v k && (bit (getD all v 0) w && (bit nodes v && bit nodes w)))
+  KeptBelow k rows = (v w : ℕ) → bit (getD rows v 0) w ≡ (ltb v k && (bit (getD all v 0) w && bit nodes w))
 
   pub kept-none : KeptBelow 0 (replicate 64 0)
   kept-none v w = rw (empty-row 64 v, le-ltb v 0 (omega arith)) (bit-none w)
 
-  pub kept-next : (k new : ℕ) (rows : List ℕ) → k < length rows → ((w : ℕ) → bit new w ≡ (bit (getD all k 0) w && (bit nodes k && bit nodes w)))
+  pub kept-next : (k new : ℕ) (rows : List ℕ) → k < length rows → ((w : ℕ) → bit new w ≡ (bit (getD all k 0) w && bit nodes w))
       → KeptBelow k rows → KeptBelow (k + 1) (set rows k new)
   kept-next k new rows h law old v w = at (ℕ-discrete v k) (decLt v k)
     where
-      at : Dec (v ≡ k) → Dec (v < k) → bit (getD (set rows k new) v 0) w ≡ (ltb v (k + 1) && (bit (getD all v 0) w && (bit nodes v && bit nodes w)))
+      at : Dec (v ≡ k) → Dec (v < k) → bit (getD (set rows k new) v 0) w ≡ (ltb v (k + 1) && (bit (getD all v 0) w && bit nodes w))
       at (yes e) d =
           let last : k < k + 1 = omega arith in
           rw (e, getD-set-same rows k new 0 h, lt-ltb k (k + 1) last) (law w)
       at (no n) (yes l) =
           let before : v < k + 1 = omega arith in
-          rw (getD-set-other rows k v new 0 n, lt-ltb v (k + 1) before) (old v w ∙ ap (λ (x : Bool). x && (bit (getD all v 0) w && (bit nodes v && bit nodes w))) (lt-ltb v k l))
+          rw (getD-set-other rows k v new 0 n, lt-ltb v (k + 1) before) (old v w ∙ ap (λ (x : Bool). x && (bit (getD all v 0) w && bit nodes w)) (lt-ltb v k l))
       at (no n) (no m) =
           let past : k + 1 ≤ v = omega arith in
-          rw (getD-set-other rows k v new 0 n, le-ltb v (k + 1) past) (old v w ∙ ap (λ (x : Bool). x && (bit (getD all v 0) w && (bit nodes v && bit nodes w))) (le-ltb v k (omega arith)))
+          rw (getD-set-other rows k v new 0 n, le-ltb v (k + 1) past) (old v w ∙ ap (λ (x : Bool). x && (bit (getD all v 0) w && bit nodes w)) (le-ltb v k (omega arith)))
 
-  pub kept-all : (n k : ℕ) (rows : List ℕ) → n ≤ k → ((v : ℕ) → bit nodes v ≡ true → v < n) → KeptBelow k rows
-      → (v w : ℕ) → bit (getD rows v 0) w ≡ (bit (getD all v 0) w && (bit nodes v && bit nodes w))
-  kept-all n k rows h below old v w = old v w ∙ at (which (bit nodes v))
+  pub kept-all : (n k : ℕ) (rows : List ℕ) → k ≤ n → n ≤ k → KeptBelow k rows → KeptBelow n rows
+  kept-all n k rows l h old =
+      let e : k ≡ n = omega arith in
+      subst (λ (x : ℕ). KeptBelow x rows) e old
+
+  -- the rows of the nodes that are not in the set emptied
+  pub kept-between : (n first down : ℕ) (rows rows′ : List ℕ) → ((v : ℕ) → bit nodes v ≡ true → v < n)
+      → ((v : ℕ) → bit first v ≡ ltb v n) → ((v : ℕ) → bit down v ≡ (bit first v && not (bit nodes v))) → KeptBelow n rows
+      → ((v w : ℕ) → bit (getD rows′ v 0) w ≡ (bit (getD rows v 0) w && not (bit down v)))
+      → (v w : ℕ) → bit (getD rows′ v 0) w ≡ (bit (getD all v 0) w && (bit nodes v && bit nodes w))
+  kept-between n first down rows rows′ below firsts downs old emptied v w =
+      emptied v w
+      ∙ ap₂ (λ (x y : Bool). x && not y) (old v w) (downs v ∙ ap (λ (x : Bool). x && not (bit nodes v)) (firsts v))
+      ∙ cases (ltb v n) (bit nodes v) (bit (getD all v 0) w) (bit nodes w) (λ e. lt-ltb v n (below v e))
     where
-      at : (bit nodes v ≡ true) ⊎ (bit nodes v ≡ false)
-          → (ltb v k && (bit (getD all v 0) w && (bit nodes v && bit nodes w))) ≡ (bit (getD all v 0) w && (bit nodes v && bit nodes w))
-      at (inl e) = ap (λ (x : Bool). x && (bit (getD all v 0) w && (bit nodes v && bit nodes w))) (lt-ltb v k (omega (arith, below v e)))
-      at (inr e) = rw (e, and-false (bit (getD all v 0) w), and-false (ltb v k))
+      cases : (l x a b : Bool) → (x ≡ true → l ≡ true) → ((l && (a && b)) && not (l && not x)) ≡ (a && (x && b))
+      cases true true a b h = and-true (a && b)
+      cases true false a b h = and-false (a && b) ∙ sym (and-false a)
+      cases false true a b h = absurd (clash (h refl) refl)
+      cases false false a b h = sym (and-false a)
+
+-- ---- the rows of a set emptied
+
+-- with the rows of what is left emptied, the rows are what they are to be
+pub record Clearing (rows₀ : List ℕ) (s : ℕ) (rows : List ℕ) (left : ℕ) : Type 0 where
+  pub size : length rows ≡ 64
+  pub within : (j : ℕ) → bit left j ≡ true → bit s j ≡ true
+  pub rest : (v w : ℕ) → (bit (getD rows v 0) w && not (bit left v)) ≡ (bit (getD rows₀ v 0) w && not (bit s v))
+
+module _ (rows₀ : List ℕ) (s : ℕ) where
+  pub clearing-none : length rows₀ ≡ 64 → Clearing rows₀ s rows₀ s
+  clearing-none h = record { size = h; within = λ j e. e; rest = λ v w. refl }
+
+  pub clearing-next : (rows : List ℕ) (left rest t found : ℕ) → found ≡ t → found < 64 → bit left found ≡ true
+      → ((j : ℕ) → bit rest j ≡ (bit left j && not (eqb j t)))
+      → Clearing rows₀ s rows left → Clearing rows₀ s (set rows found 0) rest
+  clearing-next rows left rest t found is h there law old =
+      record {
+        size = length-set rows found 0 ∙ old .size;
+        within = λ j e. old .within j (rest-in left rest t found is law j e);
+        rest = λ v w. at v w (ℕ-discrete v found);
+      }
+    where
+      at : (v w : ℕ) → Dec (v ≡ found) → (bit (getD (set rows found 0) v 0) w && not (bit rest v)) ≡ (bit (getD rows₀ v 0) w && not (bit s v))
+      at v w (yes e) =
+          rw (e, getD-set-same rows found 0 0 (omega (arith, old .size)), bit-none w, old .within found there) (sym (and-false (bit (getD rows₀ found 0) w)))
+      at v w (no d) =
+          rw (getD-set-other rows found v 0 0 d)
+          (ap (λ (x : Bool). bit (getD rows v 0) w && not x)
+          (law v ∙ ap (λ (x : Bool). bit left v && not x) (ne-eqb v t (λ e. d (e ∙ sym is))) ∙ and-true (bit left v))
+          ∙ old .rest v w)
+
+  pub clearing-all : (rows : List ℕ) (left : ℕ) → left ≡ 0 → Clearing rows₀ s rows left → (v w : ℕ) → bit (getD rows v 0) w ≡ (bit (getD rows₀ v 0) w && not (bit s v))
+  clearing-all rows left e old v w =
+      sym (ap (λ (x : Bool). bit (getD rows v 0) w && not x) (ap (λ (x : ℕ). bit x v) e ∙ bit-none v) ∙ and-true (bit (getD rows v 0) w)) ∙ old .rest v w

@@ -4,20 +4,39 @@ use crate::working::end;
 ghost use mathlib.Core.Path.{_≡_};
 ghost use mathlib.Core.Bool.{true, not, _&&_, _||_};
 ghost use Prim.Native.Nat.{ℕ, _+_, _≤_, _<_};
-ghost use lib.Dec.{eqb};
+ghost use lib.Dec.{eqb, ltb};
 ghost use lib.ListN.{length, getD};
 ghost use Rattle.sets.specs.Sets.{bit, digit};
 ghost use Rattle.topology.specs.Topology.{ends};
 ghost use Rattle.topology.specs.Code.{LinksHeld};
 ghost use Rattle.topology.specs.Whole.{endsOf, joinedBy};
 
-// The set itself where v is one of its elements, else the empty set.
-fn kept(nodes: u64, v: usize) -> u64
-    requires { ⌜ v < 64 ⌝ }
-    ensures { λ r. ⌜ ((w : ℕ) → bit r w ≡ (bit nodes v && bit nodes w)) ⌝ }
+// The rows of n nodes with only the nodes of a set in them.
+fn among(n: usize, all: &[u64; 64], nodes: u64) -> [u64; 64]
+    requires { ⌜ n ≤ 64 ⌝ }
+    ensures size { λ r. ⌜ length r ≡ 64 ⌝ }
+    ensures rows { λ r. ⌜ ((v w : ℕ) → bit (getD r v 0) w ≡ (ltb v n && (bit (getD (now (all .entry)) v 0) w && bit nodes w))) ⌝ }
 {
-    let on = sets::at(nodes, v);
-    nodes * on
+    let mut rows = [0u64; 64];
+    let mut v = 0;
+    while v < n {
+        rows[v] = sets::both(all[v], nodes);
+        v += 1;
+    }
+    rows
+}
+
+// Empties the rows of a set of nodes.
+fn clear(rows: &mut [u64; 64], set: u64)
+    requires { ⌜ length (now rows) ≡ 64 ⌝ }
+    ensures size { λ _. ⌜ length (now (rows .exit)) ≡ 64 ⌝ }
+    ensures rows { λ _. ⌜ ((v w : ℕ) → bit (getD (now (rows .exit)) v 0) w ≡ (bit (getD (now (rows .entry)) v 0) w && not (bit set v))) ⌝ }
+{
+    let mut left = set;
+    while left != 0 {
+        rows[sets::lowest(left)] = 0;
+        left = sets::rest(left);
+    }
 }
 
 // The rows with only the nodes of a set kept, which are below n.
@@ -27,12 +46,9 @@ pub fn between(n: usize, all: &[u64; 64], nodes: u64) -> [u64; 64]
     ensures size { λ r. ⌜ length r ≡ 64 ⌝ }
     ensures rows { λ r. ⌜ ((v w : ℕ) → bit (getD r v 0) w ≡ (bit (getD (now (all .entry)) v 0) w && (bit nodes v && bit nodes w))) ⌝ }
 {
-    let mut rows = [0u64; 64];
-    let mut v = 0;
-    while v < n {
-        rows[v] = sets::both(all[v], kept(nodes, v));
-        v += 1;
-    }
+    let down = sets::less(sets::first(n), nodes);
+    let mut rows = among(n, all, nodes);
+    clear(&mut rows, down);
     rows
 }
 

@@ -6,7 +6,7 @@ use native.Mathlib.Omega.{arith}
 use lib.Dec.{eqb}
 use borrow.Author.Needs.{needs}
 use Rattle.sets.specs.Sets.{bit}
-use Rattle.bounds.proofs.Rows.{RowsTurn, rows-begin, rows-done, node, row-asked, rows-turned}
+use Rattle.bounds.proofs.Rows.{RowsTurn, rows-begin, rows-done, rows-stopped, row-asked, rows-turned}
 use Rattle.bounds.proofs.add.add_rows.Statement.{statement}
 use Rattle.bounds.proofs.add.add_rows.Tie as tie
 
@@ -31,10 +31,15 @@ first-requires c κs = search needs
 less-requires : tie.Need-less-requires Inv-loop μ-loop
 less-requires c κs = search needs
 
+returns : tie.Need-returns Inv-loop μ-loop
+returns c =
+    let low = c .before .before .before .lowest in
+    rows-stopped _ _ _ _ _ _ _ (c .before .before .before .before .before .loop .inv) _ (low .ensures .1 .1 .0) _ (c .before .before .first .ensures) _ (c .before .less .ensures) (c .if1 .taken) (low .ensures .1 .1 .1)
+
 start-of-requires : tie.Need-start-of-requires Inv-loop μ-loop
 start-of-requires c κs =
-    let g = c .before .before .before .before .before .loop .inv in
-    (g .asked .few, omega (arith, g .asked .nodes _ (g .sub _ (c .before .before .before .lowest .ensures .1 .1 .0))))
+    let g = c .before .before .before .before .before .before .loop .inv in
+    (g .asked .few, omega (arith, g .asked .nodes _ (g .sub _ (c .before .before .before .before .lowest .ensures .1 .1 .0))))
 
 add-add-row : tie.Need-add-add-row Inv-loop μ-loop
 add-add-row c = search needs
@@ -42,7 +47,7 @@ add-add-row c = search needs
 add-row-requires : tie.Need-add-row-requires Inv-loop μ-loop
 add-row-requires c κs =
     rw (c .start-of .ensures)
-    (row-asked _ _ _ _ _ _ _ (c .before .before .before .before .before .before .loop .inv) _ (c .before .before .before .before .lowest .ensures .1 .1 .0) _ (c .before .before .before .first .ensures) _ (c .before .before .less .ensures))
+    (row-asked _ _ _ _ _ _ _ (c .before .before .before .before .before .before .before .loop .inv) _ (c .before .before .before .before .before .lowest .ensures .1 .1 .0) _ (c .before .before .before .before .first .ensures) _ (c .before .before .before .less .ensures))
 
 rest-requires : tie.Need-rest-requires Inv-loop μ-loop
 rest-requires c κs = search needs
@@ -52,16 +57,16 @@ loop-less c = c .rest .ensures .0
 
 loop-again : tie.Need-loop-again Inv-loop μ-loop
 loop-again c =
-    let low = c .before .before .before .before .before .before .lowest in
-    rows-turned _ _ _ _ _ _ _ (c .before .before .before .before .before .before .before .before .loop .inv) _ (low .ensures .1 .1 .0) _ (c .before .before .before .before .before .first .ensures) _ (c .before .before .before .before .less .ensures) _
+    let low = c .before .before .before .before .before .before .before .lowest in
+    rows-turned _ _ _ _ _ _ _ (c .before .before .before .before .before .before .before .before .before .loop .inv) _ (low .ensures .1 .1 .0) _ (c .before .before .before .before .before .before .first .ensures) _ (c .before .before .before .before .before .less .ensures) _
     (rw (c .before .before .start-of .ensures) at (c .before .add-row .ensures))
     _
     (λ j.
     c .rest .ensures .1 j
-    ∙ ap (λ (x : ℕ). bit (c .before .before .before .before .before .before .before .before .loop .left) j && not (eqb j x)) (sym (low .ensures .0)))
+    ∙ ap (λ (x : ℕ). bit (c .before .before .before .before .before .before .before .before .before .loop .left) j && not (eqb j x)) (sym (low .ensures .0)))
 
-returns : tie.Need-returns Inv-loop μ-loop
-returns c = rows-done _ _ _ _ _ _ _ (c .before .loop .inv) (c .loop-test .left)
+returns-2 : tie.Need-returns-2 Inv-loop μ-loop
+returns-2 c = rows-done _ _ _ _ _ _ _ (c .before .loop .inv) (c .loop-test .left)
 
 pub add-rows-spec : {M : Type 1} → statement M
 add-rows-spec =
@@ -74,10 +79,11 @@ add-rows-spec =
     add-first
     first-requires
     less-requires
+    returns
     start-of-requires
     add-add-row
     add-row-requires
     rest-requires
     loop-less
     loop-again
-    returns)
+    returns-2)

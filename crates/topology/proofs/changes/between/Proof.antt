@@ -1,84 +1,35 @@
--- `topology::changes::between` meets its contract. The loop's invariant: the rows below v are done, and the others are empty. Assumes nothing.
+-- `topology::changes::between` meets its contract. Assumes nothing.
 use borrow.Author.Needs.{needs}
-use mathlib.Core.Path.{_≡_, refl, ap, _∙_}
-use mathlib.Core.Bool.{Bool, _&&_}
-use Prim.Native.Nat.{_-_, _≤_}
-use native.Mathlib.Omega.{arith}
-use lib.ListN.{length, getD, length-set}
-use Rattle.sets.specs.Sets.{bit}
-use Rattle.topology.proofs.RowSets.{KeptBelow, kept-none, kept-next, kept-all}
+use Rattle.topology.proofs.RowSets.{kept-between}
 use Rattle.topology.proofs.changes.between.Statement.{statement}
 use Rattle.topology.proofs.changes.between.Tie as tie
 
-abbrev Inv-loop : tie.InvT-loop
-Inv-loop n all nodes rows₀ v₀ rows v = (v ≤ n) × ((length rows ≡ 64) × KeptBelow all nodes v rows)
+first-requires : tie.Need-first-requires
+first-requires c κs = search needs
 
-abbrev μ-loop : tie.MeasureT-loop
-μ-loop n all nodes rows₀ v₀ rows v = n - v
+less-requires : tie.Need-less-requires
+less-requires c κs = search needs
 
-loop-holds : tie.Need-loop-holds Inv-loop μ-loop
-loop-holds c = (omega arith, (refl, kept-none (c .args .all .now) (c .args .nodes)))
+among-requires : tie.Need-among-requires
+among-requires c κs = search needs
 
-mul-both : tie.Need-mul-both Inv-loop μ-loop
-mul-both c = search needs
+clear-requires : tie.Need-clear-requires
+clear-requires c κs = search needs
 
-element-copy-out-both : tie.Need-element-copy-out-both Inv-loop μ-loop
-element-copy-out-both c = search needs
-
-kept-requires : tie.Need-kept-requires Inv-loop μ-loop
-kept-requires c κs = search needs
-
-both-requires : tie.Need-both-requires Inv-loop μ-loop
-both-requires c κs = search needs
-
-mul-rows : tie.Need-mul-rows Inv-loop μ-loop
-mul-rows c = search needs
-
-array-write-rows : tie.Need-array-write-rows Inv-loop μ-loop
-array-write-rows c = search needs
-
-add-v : tie.Need-add-v Inv-loop μ-loop
-add-v c = search needs
-
-loop-less : tie.Need-loop-less Inv-loop μ-loop
-loop-less c = search needs
-
-loop-again : tie.Need-loop-again Inv-loop μ-loop
-loop-again c =
-    let loop = c .before .before .before .before .loop in
-    let start = c .before .before .before .before .before in
-    let a = start .args in (
-      omega arith,
-      (
-        simp length-set (loop .inv .1 .0),
-        kept-next (a .all .now) (a .nodes) (loop .v) (c .both .result) (loop .rows) (omega (arith, loop .inv .1 .0))
-            (λ w. c .both .ensures w ∙ ap (λ (x : Bool). bit (getD (a .all .now) (loop .v) 0) w && x) (c .before .kept .ensures w))
-            (loop .inv .1 .1),
-      ),
-    )
-
-returns : tie.Need-returns Inv-loop μ-loop
+returns : tie.Need-returns
 returns c =
-    let loop = c .before .loop in
-    let start = c .before .before in (
-      loop .inv .1 .0,
-      kept-all (start .args .all .now) (start .args .nodes) (start .args .n) (loop .v) (loop .rows) (c .loop-test .left) (start .pre .1) (loop .inv .1 .1),
+    let two = c .before .before in
+    let one = two .before in
+    let start = one .before .before in (
+      c .clear .ensures .0,
+      kept-between (start .args .all .now) (start .args .nodes) (start .args .n) (one .before .first .result) (one .less .result) (two .among .result) (c .clear .last .0)
+          (start .pre .1)
+          (one .before .first .ensures)
+          (one .less .ensures)
+          (two .among .ensures .1)
+          (c .clear .ensures .1),
     )
 
 pub between-spec : {M : Type 1} → statement M
 between-spec =
-    tie.close
-    (tie.spec
-    Inv-loop
-    μ-loop
-    loop-holds
-    mul-both
-    element-copy-out-both
-    kept-requires
-    both-requires
-    mul-rows
-    array-write-rows
-    add-v
-    loop-less
-    loop-again
-    returns)
+    tie.close (tie.spec first-requires less-requires among-requires clear-requires returns)
