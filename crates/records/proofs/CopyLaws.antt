@@ -85,7 +85,7 @@ module _ (b : List ℕ) (bytes : Bytes b) where
     unfolding planOf
     count-events = length-events (eventsIn b) _
 
-    same-plan : planOfLists (headerOf b) links (wordsOf records) ≡ planOf b
+    pub same-plan : planOfLists (headerOf b) links (wordsOf records) ≡ planOf b
     same-plan =
         let c = accepted-counts b e in
         let es = (planOf b) .events in
@@ -96,7 +96,7 @@ module _ (b : List ℕ) (bytes : Bytes b) where
     same-file : layout (planOfLists (headerOf b) links (wordsOf records)) ≡ b
     same-file = ap layout same-plan ∙ read-writes-again b bytes e .1
 
-    lists-pass : listsRefusal (headerOf b) (length links) (length records) links (wordsOf records) ≡ 0
+    pub lists-pass : listsRefusal (headerOf b) (length links) (length records) links (wordsOf records) ≡ 0
     unfolding listsRefusal first planOfLists headerOf
     lists-pass =
         let c = accepted-counts b e in

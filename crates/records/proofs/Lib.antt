@@ -4,3 +4,4 @@ pub mod PlanLaws
 pub mod EventRow
 pub mod Lending
 pub mod CopyLaws
+pub mod Arrays

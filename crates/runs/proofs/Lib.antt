@@ -1,2 +1,3 @@
 -- Laws that the proofs of the crate `runs` share.
 pub mod RunLaws
+pub mod FileLaws

@@ -1,10 +1,13 @@
 // The run over all pairs with the events in a lent list of records: document 01, sections "Plan file" and "Bounds of a pair". `run_records` is proved
-// by hand, and is thin over `run_words`.
+// by hand, and is thin over `run_words`; `run_plan` takes a plan file in their place.
 // Assumes nothing.
+mod running;
+
 use bounds::Ran;
 use plan::Header;
 use records::Event;
 use records::flatten;
+pub use running::run_plan;
 ghost use mathlib.Core.Path.{_≡_};
 ghost use Prim.Native.Nat.{_*_, min};
 ghost use lib.ListN.{take};
