@@ -72,6 +72,26 @@ mod raw {
             result: *mut u64,
             result_len: usize,
         ) -> u32;
+
+        pub fn probe_run_plan(
+            plan: *const u8,
+            plan_len: usize,
+            lower: *mut u64,
+            lower_len: usize,
+            upper: *mut u64,
+            upper_len: usize,
+            result: *mut u64,
+            result_len: usize,
+        ) -> u32;
+
+        pub fn probe_copy_plan(
+            plan: *const u8,
+            plan_len: usize,
+            out: *mut u8,
+            out_len: usize,
+            size: *mut u64,
+            size_len: usize,
+        ) -> u32;
     }
 }
 
@@ -166,4 +186,40 @@ pub fn pair(lent: &Lent, v: u64, w: u64) -> (u32, [u64; 2]) {
         result.len(),
     );
     (refusal, result)
+}
+
+/// The run on a plan file by way of records; the numbers are the examined count, complete and E.
+pub fn run_plan(plan: &[u8], lower: &mut [u64], upper: &mut [u64]) -> (u32, [u64; 3]) {
+    let mut result = [UNSET; 3];
+    // Safety: every pointer comes with the length of its slice, and no two slices overlap.
+    let refusal = unsafe {
+        raw::probe_run_plan(
+            plan.as_ptr(),
+            plan.len(),
+            lower.as_mut_ptr(),
+            lower.len(),
+            upper.as_mut_ptr(),
+            upper.len(),
+            result.as_mut_ptr(),
+            result.len(),
+        )
+    };
+    (refusal, result)
+}
+
+/// The copy of a plan file by way of records; the number is the size of what it laid down.
+pub fn copy_plan(plan: &[u8], out: &mut [u8]) -> (u32, u64) {
+    let mut size = [UNSET];
+    // Safety: every pointer comes with the length of its slice, and no two slices overlap.
+    let refusal = unsafe {
+        raw::probe_copy_plan(
+            plan.as_ptr(),
+            plan.len(),
+            out.as_mut_ptr(),
+            out.len(),
+            size.as_mut_ptr(),
+            size.len(),
+        )
+    };
+    (refusal, size[0])
 }

@@ -2,24 +2,11 @@
 
 use account::file::layout;
 use conformance::{compare, probe, proved, Tally};
-use plans::damage::damaged_file;
+use plans::damage::random_file;
 use plans::valid::{plan_of_size, random_plan, FULL};
 use plans::Rng;
 
 const FILES: usize = 30_000;
-
-/// A random file: one in four valid, one in forty of random bytes, the others damaged.
-fn random_file(rng: &mut Rng) -> Vec<u8> {
-    let plan = random_plan(rng);
-    if rng.one_in(4) {
-        return layout(&plan);
-    }
-    if rng.one_in(30) {
-        let length = rng.below(60);
-        return rng.bytes(length);
-    }
-    damaged_file(rng, &plan)
-}
 
 #[test]
 fn check_and_read_agree_on_many_files() {

@@ -5,6 +5,7 @@ use account::{Plan, CERTAIN, EVENT_WORDS, LARGEST_CAP, WHOLE};
 
 use crate::lists::Lists;
 use crate::rng::Rng;
+use crate::valid::random_plan;
 
 /// Values around the limits of one byte of a file.
 const BYTES: [u8; 11] = [0, 1, 2, 63, 64, 65, 127, 128, 129, 254, 255];
@@ -14,6 +15,19 @@ const HEADER: usize = 20;
 const COUNTS: usize = 5;
 const THRESHOLD: usize = 8;
 const CAP: usize = 16;
+
+/// A random file: one in four valid, one in forty of random bytes, the others damaged.
+pub fn random_file(rng: &mut Rng) -> Vec<u8> {
+    let plan = random_plan(rng);
+    if rng.one_in(4) {
+        return layout(&plan);
+    }
+    if rng.one_in(30) {
+        let length = rng.below(60);
+        return rng.bytes(length);
+    }
+    damaged_file(rng, &plan)
+}
 
 /// A plan's file with one to three damages.
 pub fn damaged_file(rng: &mut Rng, plan: &Plan) -> Vec<u8> {
