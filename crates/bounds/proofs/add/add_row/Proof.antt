@@ -38,7 +38,7 @@ element-copy-out-lower : tie.Need-element-copy-out-lower Inv-loop μ-loop
 element-copy-out-lower c = inside _ _ _ _ _ _ _ (c .before .before .loop .inv) _ (c .lowest .ensures .1 .1 .0)
 
 add-lower : tie.Need-add-lower Inv-loop μ-loop
-add-lower c = record { fits = room _ _ _ _ _ _ _ (c .before .before .before .loop .inv) _ (c .before .lowest .ensures .1 .1 .0) }
+add-lower c = record { fits = omega (arith, room _ _ _ _ _ _ _ (c .before .before .before .loop .inv) _ (c .before .lowest .ensures .1 .1 .0)) }
 
 mul-lower-2 : tie.Need-mul-lower-2 Inv-loop μ-loop
 mul-lower-2 c = omega (arith, inside _ _ _ _ _ _ _ (c .before .before .before .loop .inv) _ (c .before .lowest .ensures .1 .1 .0))
