@@ -18,15 +18,13 @@ use Rattle.plan.specs.Records.{planOfLists}
 use Rattle.plan.specs.declared.Header.{Header}
 use Rattle.topology.specs.Outage.{Outage, outageOf}
 use Rattle.topology.specs.Topology.{Network, networkOf, nodeWorks, adjacent}
-use Rattle.topology.specs.Paths.{WorkingLink, disconnected}
+use Rattle.topology.specs.Paths.{disconnected}
 use Rattle.topology.specs.Chains.{chain-map}
-use Rattle.topology.specs.Works.{adjacent-link, link-adjacent}
 use Rattle.topology.specs.Connection.{connected-is}
 use Rattle.topology.specs.Laws.{path-leads}
-use Rattle.topology.specs.RowPaths.{RowStep}
 use Rattle.topology.specs.Code.{outage, networkIn}
 use Rattle.topology.specs.declared.Failed.{Failed}
-use Rattle.topology.proofs.Shown.{nodes-shown, joining}
+use Rattle.topology.proofs.Shown.{nodes-shown, joining, step-link, link-step}
 use Rattle.walk.specs.Scenario.{Scenario, number, scenarioOf, number-scenario}
 use Rattle.walk.specs.Ends.{End, relevant, dropped}
 use Rattle.walk.specs.Stack.{endOf}
@@ -57,16 +55,10 @@ module _ (h : Header) (links words : List ℕ) (mass : ℕ) (lower : List ℕ) (
       }
 
   module _ (lower′ : List ℕ) (added : AddedCut (h .nodes) nodes mass rows lower lower′) where
-    step-link : (v w : ℕ) → RowStep rows v w → WorkingLink net v w
-    step-link v w s = adjacent-link net v w (sym (row v w) ∙ s)
-
-    link-step : (v w : ℕ) → WorkingLink net v w → RowStep rows v w
-    link-step v w s = row v w ∙ link-adjacent net v w s
-
     connected : (v w : ℕ) → Joined nodes rows v w → disconnected net v w ≡ false
     connected v w j =
         let here = sym (works v) ∙ j .0 in
-        let path = chain-map step-link (j .1) in
+        let path = chain-map (step-link net nodes rows works row) (j .1) in
         connected-is net v w .1 (here, path-leads net path here, path)
 
     -- each pair gains the mass where the topology disconnects it
@@ -76,7 +68,7 @@ module _ (h : Header) (links words : List ℕ) (mass : ℕ) (lower : List ℕ) (
         omega (arith, added .apart v w l k (λ j. clash e (connected v w j)), ap (λ (b : Bool). mass * digit b) e)
     gains v w l k (inr e) =
         let c = connected-is net v w .0 e in
-        omega (arith, added .joined v w l k (works v ∙ c .0, chain-map link-step (c .2)), ap (λ (b : Bool). mass * digit b) e)
+        omega (arith, added .joined v w l k (works v ∙ c .0, chain-map (link-step net nodes rows works row) (c .2)), ap (λ (b : Bool). mass * digit b) e)
 
     most : (i : ℕ) → Dec (i < pairCount (h .nodes)) → getD lower′ i 0 ≤ getD lower i 0 + mass
     most i (no m) = omega (arith, added .past i (omega arith))

@@ -47,10 +47,10 @@ module _ (net : Network) (nodes : ℕ) (rows : List ℕ)
     (up : (v : ℕ) → bit nodes v ≡ nodeWorks net v)
     (row : (v w : ℕ) → bit (getD rows v 0) w ≡ adjacent net v w)
   where
-    step-link : (v w : ℕ) → RowStep rows v w → WorkingLink net v w
+    pub step-link : (v w : ℕ) → RowStep rows v w → WorkingLink net v w
     step-link v w s = adjacent-link net v w (sym (row v w) ∙ s)
 
-    link-step : (v w : ℕ) → WorkingLink net v w → RowStep rows v w
+    pub link-step : (v w : ℕ) → WorkingLink net v w → RowStep rows v w
     link-step v w s = row v w ∙ link-adjacent net v w s
 
     pub joining : Joining nodes rows
