@@ -10,13 +10,13 @@ use lib.Dec.{leb, ltb}
 use lib.ListN.{length}
 use Rattle.mass.specs.Refusal.{refuse-none}
 use Rattle.plan.specs.Plan.{Plan, Link}
-use Rattle.plan.specs.Tests.{endsTest, limitTest}
+use Rattle.refusals.specs.Tests.{endsTest, limitTest}
 use Rattle.plan.specs.Lists.{linksOf}
 use Rattle.plan.specs.Records.{linkListRefusal, planRefusal, planOfLists, listsRefusal}
 use Rattle.plan.specs.declared.Header.{Header}
-use Rattle.plan.proofs.TestLaws.{or-none}
-use Rattle.plan.proofs.LayoutFile.{link-list-none, valid-none, ValidPlan}
-use Rattle.plan.proofs.ListTheorems.{lists-denote}
+use Rattle.refusals.proofs.TestLaws.{or-none}
+use Rattle.layout.proofs.LayoutFile.{link-list-none, valid-none, ValidPlan}
+use Rattle.layout.proofs.ListTheorems.{lists-denote}
 use Rattle.files.proofs.WriterAnswer.{lists-counted}
 use Rattle.topology.specs.Topology.{EndsBelow}
 use Rattle.walk.specs.Valid.{lists-probable}

@@ -12,13 +12,13 @@ use lib.Seq.{sets, sets-eq, take-length, length-take-le}
 use Rattle.mass.specs.Refusal.{refuse-none, first, first-none, first-skip, first-stop}
 use Rattle.mass.specs.Split.{whole}
 use Rattle.plan.specs.Plan.{Plan}
-use Rattle.plan.specs.Tests.{roomTest}
+use Rattle.refusals.specs.Tests.{roomTest}
 use Rattle.plan.specs.Records.{planRefusal, planOfLists, listsRefusal}
 use Rattle.plan.specs.Calls.{filled}
 use Rattle.plan.specs.declared.Header.{Header}
-use Rattle.plan.proofs.TestLaws.{or-none, room-none}
-use Rattle.plan.proofs.FileLaws.{stop, skip}
-use Rattle.plan.proofs.ListTheorems.{lists-denote}
+use Rattle.refusals.proofs.TestLaws.{or-none, room-none}
+use Rattle.refusals.proofs.OrderLaws.{stop, skip}
+use Rattle.layout.proofs.ListTheorems.{lists-denote}
 use Rattle.walk.specs.Walk.{massExamined, count}
 use Rattle.walk.specs.Laws.{massExamined-le}
 use Rattle.walk.specs.Valid.{plan-probable}

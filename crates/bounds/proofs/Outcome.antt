@@ -12,8 +12,8 @@ use Rattle.plan.specs.Plan.{Plan}
 use Rattle.plan.specs.Records.{planRefusal, planOfLists, listsRefusal}
 use Rattle.plan.specs.Calls.{filled}
 use Rattle.plan.specs.declared.Header.{Header}
-use Rattle.plan.proofs.CopyLaws.{byteCopy, wordCopy, copies-refused, copies-denote}
-use Rattle.plan.proofs.ListTheorems.{lists-denote}
+use Rattle.lent.proofs.CopyLaws.{byteCopy, wordCopy, copies-refused, copies-denote}
+use Rattle.layout.proofs.ListTheorems.{lists-denote}
 use Rattle.files.proofs.WriterAnswer.{lists-counted}
 use Rattle.walk.specs.Walk.{massExamined, count}
 use Rattle.bounds.specs.Pairs.{pairCount}

@@ -9,7 +9,7 @@ use native.Mathlib.Omega.{arith}
 use lib.ListN.{length, getD, take, set, replicate, length-map, getD-replicate, List·getD-eq-default, length-replicate}
 use lib.Seq.{sets, take-suc, length-take-le}
 use native.Mathlib.Decide.{decLt}
-use Rattle.plan.proofs.ListLaws.{sets-append}
+use Rattle.lent.proofs.ListLaws.{sets-append}
 use Rattle.bounds.specs.Calls.{Cleared}
 
 -- one entry more

@@ -10,7 +10,7 @@ use lib.ListN.{length, getD}
 use Rattle.mass.specs.Refusal.{refuse, first}
 use Rattle.mass.specs.Split.{whole}
 use Rattle.plan.specs.Plan.{Plan}
-use Rattle.plan.specs.Tests.{roomTest}
+use Rattle.refusals.specs.Tests.{roomTest}
 use Rattle.plan.specs.Records.{listsRefusal, planOfLists}
 use Rattle.plan.specs.declared.Header.{Header}
 use Rattle.walk.specs.Walk.{count, complete, massExamined}

@@ -31,17 +31,17 @@ fn run_test(
 ) -> u32
     ensures { λ r. ⌜ r ≡ runRefusal h «link_room» «event_room» (now (links .entry)) (now (words .entry)) «lower_room» «upper_room» ⌝ }
 {
-    let lists = plan::lists_refusal(h, link_room, event_room, links, words);
+    let lists = lent::lists_refusal(h, link_room, event_room, links, words);
     if lists != 0 {
         return lists;
     }
     let n = h.nodes as usize;
     let pairs = start_of(n, n);
-    let short = plan::room_test(lower_room, pairs);
+    let short = refusals::room_test(lower_room, pairs);
     if short != 0 {
         return short;
     }
-    plan::room_test(upper_room, pairs)
+    refusals::room_test(upper_room, pairs)
 }
 
 // The run on arrays: the lists stand in the arrays, and had room for `link_room` bytes and `event_room` whole events; the lists of bounds
@@ -98,7 +98,7 @@ fn give_bounds(n: usize, mass: u64, sums: &[u64; 2016], lower: &mut [u64], upper
     ensures { λ r. ⌜ now (upper .exit) ≡ sets (now (upper .entry)) 0 (map (λ x. (whole - mass) + x) (take (pairCount n) (now (sums .entry)))) ⌝ }
 {
     let pairs = start_of(n, n);
-    plan::copy_words(sums, lower, pairs);
+    lent::copy_words(sums, lower, pairs);
     copy_raised(sums, upper, pairs, mass::Mass::WHOLE.units - mass);
 }
 
@@ -119,7 +119,7 @@ pub fn run(h: Header, links: &[u8], events: &[u64], lower: &mut [u64], upper: &m
     let mut bytes = [0u8; 256];
     let mut words = [0u64; 512];
     let mut sums = [0u64; 2016];
-    plan::load(links, events, &mut bytes, &mut words);
+    lent::load(links, events, &mut bytes, &mut words);
     let answer = run_core(
         h,
         links.len(),
@@ -165,7 +165,7 @@ pub fn pair_core(
         (pairRefusal h «link_room» «event_room» (now (links .entry)) (now (words .entry)) v w)
         (boundsOf (planOfLists h (now (links .entry)) (now (words .entry))) v w) ⌝ }
 {
-    let lists = plan::lists_refusal(h, link_room, event_room, links, words);
+    let lists = lent::lists_refusal(h, link_room, event_room, links, words);
     if lists != 0 {
         return Paired::Refused(lists);
     }
@@ -189,6 +189,6 @@ pub fn pair(h: Header, links: &[u8], events: &[u64], v: u64, w: u64) -> Paired
 {
     let mut bytes = [0u8; 256];
     let mut words = [0u64; 512];
-    plan::load(links, events, &mut bytes, &mut words);
+    lent::load(links, events, &mut bytes, &mut words);
     pair_core(h, links.len(), events.len() / 4, &bytes, &words, v, w)
 }

@@ -13,12 +13,13 @@ use lib.Pow.{pow-mono, shl-exact, high, low}
 use lib.ListN.{getD, drop, set}
 use lib.Seq.{drop-drop, getD-drop, sets}
 use Rattle.sets.specs.Sets.{joined}
-use Rattle.plan.specs.Tests.{countOfKind, rank}
+use Rattle.refusals.specs.Tests.{countOfKind, rank}
 use Rattle.plan.specs.File.{eventSize, probabilityIn, setOf, eventsAt}
 use Rattle.plan.specs.Calls.{elementOf}
 use Rattle.plan.specs.Lists.{linksOf, linkBytes, eventWords}
 use Rattle.files.specs.Members.{nodeValue, linkValue, Above}
-use Rattle.plan.proofs.FileLaws.{suc-sub-one, high-power}
+use Rattle.refusals.proofs.ReachLaws.{high-power}
+use Rattle.plan.proofs.FileLaws.{suc-sub-one}
 
 -- ---- one element more in a word
 

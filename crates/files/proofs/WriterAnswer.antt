@@ -10,16 +10,16 @@ use Rattle.mass.specs.Refusal.{first, first-skip, first-stop, first-none}
 use Rattle.mass.specs.Split.{certain}
 use Rattle.plan.specs.Plan.{Plan}
 use Rattle.plan.specs.Lists.{linksOf, eventsOf}
-use Rattle.plan.specs.Tests.{countsTest, thresholdTest, limitTest, roomTest}
+use Rattle.refusals.specs.Tests.{countsTest, thresholdTest, limitTest, roomTest}
 use Rattle.plan.specs.Layout.{layout}
 use Rattle.plan.specs.Records.{linkListRefusal, eventListRefusal, planOfLists, listsRefusal}
 use Rattle.plan.specs.Calls.{filled, writeRefusal, writeAnswer}
 use Rattle.plan.specs.declared.Header.{Header}
 use Rattle.plan.specs.declared.Writing.{Writing}
 use Rattle.plan.specs.declared.Writing.the-variants.{Refused, Written}
-use Rattle.plan.proofs.ListLaws.{decides, first-last}
-use Rattle.plan.proofs.TestLaws.{Ranges, counts-none, room-none}
-use Rattle.plan.proofs.CopyLaws.{first-stays, countsAndRooms}
+use Rattle.lent.proofs.ListLaws.{decides, first-last}
+use Rattle.refusals.proofs.TestLaws.{Ranges, counts-none, room-none}
+use Rattle.lent.proofs.CopyLaws.{first-stays, countsAndRooms}
 
 module _ (h : Header) (linkRoom eventRoom : ℕ) (links words : List ℕ) where
   -- lists that are not refused have counts in range

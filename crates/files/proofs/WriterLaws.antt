@@ -7,8 +7,8 @@ use native.Mathlib.Numerals.{add-one}
 use native.Mathlib.Omega.{arith}
 use lib.ListN.{length, take, drop, set}
 use lib.Seq.{sets, length-take-le}
-use Rattle.plan.proofs.ListTheorems.{length-links-of, length-events-of}
-use Rattle.plan.proofs.ListLaws.{less-one, sets-then, eventAt}
+use Rattle.layout.proofs.ListTheorems.{length-links-of, length-events-of}
+use Rattle.lent.proofs.ListLaws.{less-one, sets-then, eventAt}
 use Rattle.sets.specs.Sets.{joined}
 use Rattle.plan.specs.Lists.{eventOf, eventsOf}
 use Rattle.plan.specs.Records.{planOfLists}

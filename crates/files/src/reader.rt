@@ -1,11 +1,11 @@
 // Reading a plan file into lent lists. A first pass only checks, so that a refusal changes nothing.
+use lent::copy_bytes;
+use lent::copy_words;
 use plan::Element;
 use plan::Header;
 use plan::Reading;
 use plan::Step;
 use plan::byte_at;
-use plan::copy_bytes;
-use plan::copy_words;
 use plan::number_at;
 ghost use mathlib.Core.Path.{_≡_};
 ghost use mathlib.Core.List.{[], _∷_};
@@ -146,11 +146,11 @@ pub fn read_test(s: &[u8], link_room: usize, event_room: usize) -> u32
     if number != 0 {
         return number;
     }
-    let link_list = plan::room_test(link_room, 2 * (byte_at(s, 6) as usize));
+    let link_list = refusals::room_test(link_room, 2 * (byte_at(s, 6) as usize));
     if link_list != 0 {
         return link_list;
     }
-    plan::room_test(event_room, byte_at(s, 7) as usize)
+    refusals::room_test(event_room, byte_at(s, 7) as usize)
 }
 
 // Reads a plan into the arrays, where the lent lists have room for `link_room` bytes and `event_room` whole events.

@@ -1,10 +1,10 @@
 // Writing a plan file from a header and lent lists. All tests are made before the first byte is laid down, so that a refusal changes nothing.
+use lent::lists_refusal;
+use lent::load;
+use lent::put_bytes;
 use plan::Header;
 use plan::Writing;
-use plan::lists_refusal;
-use plan::load;
-use plan::put_bytes;
-use plan::room_test;
+use refusals::room_test;
 ghost use mathlib.Core.Path.{_≡_};
 ghost use mathlib.Core.List.{[], _∷_, _++_};
 ghost use Prim.Native.Nat.{_+_, _*_, _/_, _≤_, min};

@@ -11,12 +11,13 @@ use lib.ListN.{length, getD, drop, length-drop}
 use lib.Seq.{getD-drop}
 use Rattle.mass.specs.Refusal.{first-none, refuse-none}
 use Rattle.mass.specs.Split.{certain}
-use Rattle.plan.specs.Tests.{shortTest, countOfKind, rank, countsTest}
+use Rattle.refusals.specs.Tests.{shortTest, countOfKind, rank, countsTest}
 use Rattle.plan.specs.File.{headerRefusal, linksRefusal, memberRefusal, membersRefusal, eventRefusal, eventsRefusal, eventSize, probabilityIn, refusal, nodesIn, linksIn, eventsIn}
 use Rattle.plan.specs.Calls.{elementOf, stepOf}
 use Rattle.plan.specs.declared.Element.{Element}
 use Rattle.plan.specs.declared.Step.the-variants as step
-use Rattle.plan.proofs.FileLaws.{suc-sub-one, or-false}
+use Rattle.refusals.proofs.TestLaws.{or-none}
+use Rattle.plan.proofs.FileLaws.{suc-sub-one}
 use Rattle.plan.proofs.FileLawsSteps.{step-go, member-step, links-step, members-step, event-step, events-step}
 
 -- ---- what acceptance says of the bytes that are there
@@ -98,7 +99,7 @@ pub member-accepted : (nodes links least at : ℕ) (s : List ℕ)
     → (getD s (at + 1) 0 < countOfKind nodes links (getD s at 0)) × (least ≤ rank (getD s at 0) (getD s (at + 1) 0))
 member-accepted nodes links least at s e =
     let f = first-none _ _ (sym (member-step nodes links least at s) ∙ e) in
-    let g = or-false _ _ (refuse-none _ 9 (first-none _ _ (f .1) .0)) in
+    let g = or-none _ _ (refuse-none _ 9 (first-none _ _ (f .1) .0)) in
     (leb-false _ _ (g .0), ltb-false _ _ (g .1))
 
 -- so it is read, and is never refused
@@ -117,9 +118,9 @@ step-never number e h = let z : _≡_ {A = ℕ} 0 1 = cc in omega arith
 -- the counts are in their ranges
 pub counts-none : (nodes links events : ℕ) → countsTest nodes links events ≡ 0 → (nodes ≤ 64) × (links ≤ 128) × (events ≤ 128)
 counts-none nodes links events e =
-    let f = or-false (ltb nodes 1 || ltb 64 nodes || ltb 128 links) (ltb 128 events) (refuse-none _ 3 e) in
-    let g = or-false (ltb nodes 1 || ltb 64 nodes) (ltb 128 links) (f .0) in
-    (ltb-false _ _ (or-false (ltb nodes 1) (ltb 64 nodes) (g .0) .1), ltb-false _ _ (g .1), ltb-false _ _ (f .1))
+    let f = or-none (ltb nodes 1 || ltb 64 nodes || ltb 128 links) (ltb 128 events) (refuse-none _ 3 e) in
+    let g = or-none (ltb nodes 1 || ltb 64 nodes) (ltb 128 links) (f .0) in
+    (ltb-false _ _ (or-none (ltb nodes 1) (ltb 64 nodes) (g .0) .1), ltb-false _ _ (g .1), ltb-false _ _ (f .1))
 
 module _ (b : List ℕ) (e : refusal b ≡ 0) where
   pub accepted-header : headerRefusal b ≡ 0

@@ -8,7 +8,7 @@ use lib.ListN.{length, getD, drop}
 use lib.Seq.{drop-drop, getD-drop}
 use Rattle.mass.specs.Refusal.{first}
 use Rattle.mass.specs.Split.{probabilityTest}
-use Rattle.plan.specs.Tests.{shortTest, endsTest, orderTest, memberTest, rank, leftTest}
+use Rattle.refusals.specs.Tests.{shortTest, endsTest, orderTest, memberTest, rank, leftTest}
 use Rattle.plan.specs.File.{linksRefusal, memberRefusal, membersRefusal, eventRefusal, eventsRefusal, eventSize, probabilityIn}
 use Rattle.plan.specs.Calls.{elementOf, stepOf, stepAnswer, stepNumber}
 use Rattle.plan.specs.declared.Element.{Element}

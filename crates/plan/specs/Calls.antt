@@ -8,7 +8,7 @@ use lib.Seq.{sets}
 use Rattle.mass.specs.Refusal.{first}
 use Rattle.plan.specs.Plan.{Plan}
 use Rattle.plan.specs.Lists.{linkBytes, eventWords}
-use Rattle.plan.specs.Tests.{roomTest}
+use Rattle.refusals.specs.Tests.{roomTest}
 use Rattle.plan.specs.Layout.{layout}
 use Rattle.plan.specs.File.{refusal, memberRefusal, planOf, nodesIn, linksIn, eventsIn, thresholdIn, limitIn}
 use Rattle.plan.specs.Records.{listsRefusal, planOfLists}

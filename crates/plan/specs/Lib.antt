@@ -1,7 +1,6 @@
 -- What the contracts of the crate `plan` cite.
 pub mod Plan
 pub mod Lists
-pub mod Tests
 pub mod Layout
 pub mod File
 pub mod Records

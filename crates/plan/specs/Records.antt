@@ -7,7 +7,7 @@ use Rattle.mass.specs.Refusal.{first}
 use Rattle.mass.specs.Split.{certain, probabilityTest}
 use Rattle.plan.specs.Plan.{Plan, Link, Event}
 use Rattle.plan.specs.Lists.{linksOf, eventsOf}
-use Rattle.plan.specs.Tests.{countsTest, thresholdTest, limitTest, endsTest, orderTest, setsTest, roomTest}
+use Rattle.refusals.specs.Tests.{countsTest, thresholdTest, limitTest, endsTest, orderTest, setsTest, roomTest}
 use Rattle.plan.specs.declared.Header.{Header}
 
 -- "each link, 7"

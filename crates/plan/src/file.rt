@@ -5,12 +5,11 @@ use crate::Step;
 use crate::bytes::byte_at;
 use crate::bytes::left_of;
 use crate::bytes::number_at;
-use crate::tests;
 ghost use mathlib.Core.Path.{_≡_};
 ghost use Prim.Native.Nat.{_+_, _*_, _≤_, _<_};
 ghost use lib.ListN.{length, getD, drop};
 ghost use Rattle.mass.specs.Split.{certain};
-ghost use Rattle.plan.specs.Tests.{rank};
+ghost use Rattle.refusals.specs.Tests.{rank};
 ghost use Rattle.plan.specs.File.{headerRefusal, linksRefusal, membersRefusal, eventRefusal, eventsRefusal, eventSize, refusal};
 ghost use Rattle.plan.specs.Calls.{elementOf, stepOf, stepNumber, headerOf};
 
@@ -18,27 +17,27 @@ ghost use Rattle.plan.specs.Calls.{elementOf, stepOf, stepNumber, header
 pub fn header_refusal(s: &[u8]) -> u32
     ensures { λ r. ⌜ r ≡ headerRefusal (now (s .entry)) ⌝ }
 {
-    let short = tests::short_test(s.len(), 20);
+    let short = refusals::short_test(s.len(), 20);
     if short != 0 {
         return short;
     }
-    let mark = tests::mark_test(byte_at(s, 0), byte_at(s, 1), byte_at(s, 2));
+    let mark = refusals::mark_test(byte_at(s, 0), byte_at(s, 1), byte_at(s, 2));
     if mark != 0 {
         return mark;
     }
-    let version = tests::version_test(number_at(s, 3, 2));
+    let version = refusals::version_test(number_at(s, 3, 2));
     if version != 0 {
         return version;
     }
-    let counts = tests::counts_test(byte_at(s, 5), byte_at(s, 6), byte_at(s, 7));
+    let counts = refusals::counts_test(byte_at(s, 5), byte_at(s, 6), byte_at(s, 7));
     if counts != 0 {
         return counts;
     }
-    let threshold = tests::threshold_test(number_at(s, 8, 8));
+    let threshold = refusals::threshold_test(number_at(s, 8, 8));
     if threshold != 0 {
         return threshold;
     }
-    tests::limit_test(number_at(s, 16, 4))
+    refusals::limit_test(number_at(s, 16, 4))
 }
 
 // The numbers of the header.
@@ -62,11 +61,11 @@ pub fn links_refusal(s: &[u8], start: usize, count: u64, nodes: u64) -> u32
     let mut at = start;
     let mut left = count;
     while 0 < left {
-        let short = tests::short_test(left_of(s, at), 2);
+        let short = refusals::short_test(left_of(s, at), 2);
         if short != 0 {
             return short;
         }
-        let ends = tests::ends_test(nodes, byte_at(s, at), byte_at(s, at + 1));
+        let ends = refusals::ends_test(nodes, byte_at(s, at), byte_at(s, at + 1));
         if ends != 0 {
             return ends;
         }
@@ -90,13 +89,13 @@ pub fn element_of(kind: u64, number: u64) -> Element
 pub fn member_at(s: &[u8], at: usize, nodes: u64, links: u64, least: u64) -> Step
     ensures { λ r. ⌜ r ≡ stepOf nodes links least (drop at (now (s .entry))) ⌝ }
 {
-    let short = tests::short_test(left_of(s, at), 2);
+    let short = refusals::short_test(left_of(s, at), 2);
     if short != 0 {
         return Step::Refused(short);
     }
     let kind = byte_at(s, at);
     let number = byte_at(s, at + 1);
-    let wrong = tests::member_test(nodes, links, least, kind, number);
+    let wrong = refusals::member_test(nodes, links, least, kind, number);
     if wrong != 0 {
         return Step::Refused(wrong);
     }
@@ -144,7 +143,7 @@ pub fn members_refusal(s: &[u8], start: usize, count: u64, nodes: u64, links: u6
 pub fn event_refusal(s: &[u8], at: usize, nodes: u64, links: u64, before: u64) -> u32
     ensures { λ r. ⌜ r ≡ eventRefusal nodes links before (drop at (now (s .entry))) ⌝ }
 {
-    let short = tests::short_test(left_of(s, at), 5);
+    let short = refusals::short_test(left_of(s, at), 5);
     if short != 0 {
         return short;
     }
@@ -153,7 +152,7 @@ pub fn event_refusal(s: &[u8], at: usize, nodes: u64, links: u64, before: u64) -
     if above != 0 {
         return above;
     }
-    let order = tests::order_test(before, q);
+    let order = refusals::order_test(before, q);
     if order != 0 {
         return order;
     }
@@ -184,7 +183,7 @@ pub fn events_refusal(s: &[u8], start: usize, count: u64, nodes: u64, links: u64
         at += event_size(s, at);
         left -= 1;
     }
-    tests::left_test(left_of(s, at))
+    refusals::left_test(left_of(s, at))
 }
 
 // The number with which a list of bytes is refused, or 0 where it is a plan.

@@ -1,9 +1,7 @@
-// The plan file: document 01, section "Plan file". The check of a file, and the tests of lent lists.
+// The plan file: document 01, section "Plan file". The check of a file.
 // Assumes nothing.
 mod bytes;
 mod file;
-mod lists;
-mod tests;
 
 pub use bytes::byte_at;
 pub use bytes::number_at;
@@ -13,13 +11,6 @@ pub use file::header_of;
 pub use file::member_at;
 pub use file::members_refusal;
 pub use file::rank_at;
-pub use lists::copy_bytes;
-pub use lists::copy_words;
-pub use lists::lists_refusal;
-pub use lists::load;
-pub use lists::put_bytes;
-pub use lists::smaller;
-pub use tests::room_test;
 
 // The numbers of a plan: the counts of nodes, links and events, the threshold, and the greatest number of ends of the walk (cap).
 pub struct Header {

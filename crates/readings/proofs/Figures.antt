@@ -12,7 +12,7 @@ use Rattle.mass.specs.Split.{certain, whole}
 use Rattle.plan.specs.Plan.{Plan}
 use Rattle.plan.specs.Records.{planOfLists, planRefusal}
 use Rattle.plan.specs.declared.Header.{Header}
-use Rattle.plan.proofs.ListTheorems.{lists-denote}
+use Rattle.layout.proofs.ListTheorems.{lists-denote}
 use Rattle.walk.specs.Walk.{massExamined}
 use Rattle.walk.specs.Valid.{plan-probable}
 use Rattle.sums.specs.Bounds.{upper-le}

@@ -9,8 +9,8 @@ use Rattle.mass.specs.Split.{whole}
 use Rattle.plan.specs.Plan.{Plan}
 use Rattle.plan.specs.Records.{listsRefusal, planOfLists}
 use Rattle.plan.specs.declared.Header.{Header}
-use Rattle.plan.proofs.CopyLaws.{byteCopy, wordCopy, copies-refused, copies-denote}
-use Rattle.plan.proofs.FileLaws.{stop, skip}
+use Rattle.lent.proofs.CopyLaws.{byteCopy, wordCopy, copies-refused, copies-denote}
+use Rattle.refusals.proofs.OrderLaws.{stop, skip}
 use Rattle.walk.specs.Scenario.{Scenario}
 use Rattle.walk.specs.Ends.{End, scenarios}
 use Rattle.walk.specs.Walk.{examined}

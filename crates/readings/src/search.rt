@@ -105,7 +105,7 @@ fn witness_core(
         (examined (planOfLists h (now (links .entry)) (now (words .entry))))
         (witnessRefusal h «link_room» «event_room» (now (links .entry)) (now (words .entry)) v w) r ⌝ }
 {
-    let lists = plan::lists_refusal(h, link_room, event_room, links, words);
+    let lists = lent::lists_refusal(h, link_room, event_room, links, words);
     if lists != 0 {
         return Witnessed::Refused(lists);
     }
@@ -125,6 +125,6 @@ pub fn witness(h: Header, links: &[u8], events: &[u64], v: u64, w: u64) -> Witne
 {
     let mut bytes = [0u8; 256];
     let mut words = [0u64; 512];
-    plan::load(links, events, &mut bytes, &mut words);
+    lent::load(links, events, &mut bytes, &mut words);
     witness_core(h, links.len(), events.len() / 4, &bytes, &words, v, w)
 }

@@ -11,7 +11,7 @@ use Rattle.mass.specs.Refusal.{first, first-stop, refuse}
 use Rattle.mass.specs.Split.{certain}
 use Rattle.plan.specs.Lists.{linkBytes, eventsOf}
 use Rattle.plan.specs.Layout.{layout, Bytes}
-use Rattle.plan.specs.Tests.{roomTest}
+use Rattle.refusals.specs.Tests.{roomTest}
 use Rattle.plan.specs.File.{refusal, planOf, nodesIn, linksIn, eventsIn}
 use Rattle.plan.specs.Records.{planOfLists, listsRefusal, planRefusal, eventListRefusal}
 use Rattle.plan.specs.Calls.{filled, headerOf, headerIn, readRefusal, readAnswer, writeRefusal, writeAnswer}
@@ -19,9 +19,9 @@ use Rattle.plan.specs.declared.Header.{Header}
 use Rattle.plan.specs.declared.Reading.{Reading}
 use Rattle.plan.specs.declared.Writing.{Writing}
 use Rattle.plan.proofs.FileLawsAccepted.{accepted-counts}
-use Rattle.plan.proofs.LayoutFile.{file-none, valid-none}
-use Rattle.plan.proofs.ListTheorems.{length-links-of, read-denotes}
-use Rattle.plan.proofs.Theorems.{read-writes-again}
+use Rattle.layout.proofs.LayoutFile.{file-none, valid-none}
+use Rattle.layout.proofs.ListTheorems.{length-links-of, read-denotes}
+use Rattle.layout.proofs.Theorems.{read-writes-again}
 use Rattle.files.proofs.ReaderLawsAnswer.{read-accepted, length-links}
 use Rattle.files.proofs.WriterAnswer.{Outcome}
 use Rattle.records.specs.Events.{wordsOf, eventRecords, filledRecords}

@@ -14,9 +14,9 @@ use Rattle.plan.specs.Records.{planOfLists}
 use Rattle.plan.specs.Calls.{filled, headerOf, headerIn, readRefusal, readAnswer}
 use Rattle.plan.specs.declared.Header.{Header}
 use Rattle.plan.specs.declared.Writing.{Writing}
-use Rattle.plan.proofs.TestLaws.{Ranges, counts-none, room-none}
+use Rattle.refusals.proofs.TestLaws.{Ranges, counts-none, room-none}
 use Rattle.files.proofs.ReaderLawsAnswer.{header-bounds}
-use Rattle.plan.proofs.CopyLaws.{countsAndRooms, same-plan, copied}
+use Rattle.lent.proofs.CopyLaws.{countsAndRooms, same-plan, copied}
 use Rattle.files.proofs.WriterAnswer.{Outcome, same-outcome}
 use Rattle.records.specs.Events.{wordsOf, recordsOf, eventRecords, filledRecords}
 use Rattle.records.specs.declared.Event.{Event}

@@ -24,7 +24,7 @@ pub fn read_words(s: &[u8], links: &mut [u8], event_room: usize, words: &mut [u6
     let mut bytes = [0u8; 256];
     let answer = files::read_core(s, links.len(), event_room, &mut bytes, words);
     let header = files::header_in(answer);
-    plan::copy_bytes(&bytes, links, 2 * (header.links as usize));
+    lent::copy_bytes(&bytes, links, 2 * (header.links as usize));
     answer
 }
 
@@ -65,7 +65,7 @@ pub fn write_words(
         (layout (planOfLists h (now (links .entry)) (now (words .entry)))) (now (out .entry)) ⌝ }
 {
     let mut bytes = [0u8; 256];
-    plan::copy_bytes(links, &mut bytes[..], plan::smaller(links.len(), 256));
+    lent::copy_bytes(links, &mut bytes[..], lent::smaller(links.len(), 256));
     files::write_core(h, links.len(), event_room, &bytes, words, out)
 }
 

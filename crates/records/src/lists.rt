@@ -47,7 +47,7 @@ pub fn fill(words: &[u64; 512], events: &mut [Event], count: usize)
 pub fn flatten(events: &[Event], words: &mut [u64; 512])
     ensures { λ r. ⌜ now (words .exit) ≡ sets (now (words .entry)) 0 (wordsOf (take 128 (now (events .entry)))) ⌝ }
 {
-    let count = plan::smaller(events.len(), 128);
+    let count = lent::smaller(events.len(), 128);
     let mut i = 0;
     while i < count {
         put_event(&mut *words, i, events[i]);

@@ -14,12 +14,12 @@ use Rattle.mass.specs.Split.{certain}
 use Rattle.plan.specs.Plan as plan
 use Rattle.plan.specs.Plan.{Plan}
 use Rattle.plan.specs.Lists.{linksOf, eventsOf}
-use Rattle.plan.specs.Tests.{roomTest}
+use Rattle.refusals.specs.Tests.{roomTest}
 use Rattle.plan.specs.Records.{planOfLists, listsRefusal, linkListRefusal, eventListRefusal}
 use Rattle.plan.specs.Calls.{filled}
 use Rattle.plan.specs.declared.Header.{Header}
-use Rattle.plan.proofs.TestLaws.{Ranges, counts-none, room-none}
-use Rattle.plan.proofs.CopyLaws.{same-plan}
+use Rattle.refusals.proofs.TestLaws.{Ranges, counts-none, room-none}
+use Rattle.lent.proofs.CopyLaws.{same-plan}
 use Rattle.bounds.specs.Pairs.{pairCount}
 use Rattle.bounds.specs.Bounds.{lowerList, upperList, EnclosesAll}
 use Rattle.bounds.specs.Calls.{runRefusal, runNumber, ranAnswer, totalsOf, totalsIn}

@@ -38,7 +38,7 @@ pub fn run_words(
     ensures demand3 { λ r. ⌜ (runNumber h (now (links .entry)) (take (4 * min count 128) (now (words .entry))) (now (lower .entry)) (now (upper .entry)) ≡ 0
         → EnclosesAll (planOfLists h (now (links .entry)) (take (4 * min count 128) (now (words .entry)))) (now (lower .exit)) (now (upper .exit)) (totalsIn r .count)) ⌝ }
 {
-    let used = 4 * plan::smaller(count, 128);
+    let used = 4 * lent::smaller(count, 128);
     let all = &words[..];
     bounds::run(h, links, &all[0..used], lower, upper)
 }

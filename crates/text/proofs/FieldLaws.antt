@@ -6,7 +6,7 @@ use Prim.Native.Nat.{ℕ, _+_, _-_, _/_, _%_, _<_, _≤_}
 use native.Mathlib.Omega.{arith}
 use lib.ListN.{length, set, length-append}
 use lib.Seq.{sets}
-use Rattle.plan.proofs.ListLaws.{sets-then}
+use Rattle.lent.proofs.ListLaws.{sets-then}
 use Rattle.text.specs.Decimal.{decimal, decimal-small, decimal-large}
 use Rattle.text.specs.Listing.{field, line, refusedText}
 

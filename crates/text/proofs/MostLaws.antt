@@ -13,12 +13,12 @@ use Rattle.mass.specs.Refusal.{refuse, first, refuse-none}
 use Rattle.mass.specs.Split.{whole, certain, probabilityTest}
 use Rattle.plan.specs.Plan.{Plan}
 use Rattle.plan.specs.Layout.{Bytes}
-use Rattle.plan.specs.Tests.{shortTest, markTest, versionTest, countsTest, thresholdTest, limitTest, endsTest, orderTest, memberTest, countOfKind, rank, roomTest}
+use Rattle.refusals.specs.Tests.{shortTest, markTest, versionTest, countsTest, thresholdTest, limitTest, endsTest, orderTest, memberTest, countOfKind, rank, roomTest}
 use Rattle.plan.specs.File.{headerRefusal, linksRefusal, memberRefusal, membersRefusal, eventRefusal, eventsRefusal, refusal, planOf, nodesIn, linksIn, eventsIn, versionIn, thresholdIn, limitIn, probabilityIn, membersIn, eventSize}
 use Rattle.plan.specs.Records.{planRefusal}
-use Rattle.plan.proofs.TestLaws.{counts-none, Ranges, or-none}
-use Rattle.plan.proofs.LayoutFile.{valid-none}
-use Rattle.plan.proofs.Theorems.{read-writes-again, longest, prefix-decides}
+use Rattle.refusals.proofs.TestLaws.{counts-none, Ranges, or-none}
+use Rattle.layout.proofs.LayoutFile.{valid-none}
+use Rattle.layout.proofs.Theorems.{read-writes-again, longest, prefix-decides}
 use Rattle.sets.specs.Sets.{digit}
 use Rattle.walk.specs.Walk.{count, complete, massExamined, planEnds}
 use Rattle.walk.specs.Laws.{massExamined-le, count-le}

@@ -7,7 +7,7 @@ use native.Mathlib.Numerals.{add-one}
 use native.Mathlib.Omega.{arith}
 use lib.ListN.{length, getD, length-append}
 use lib.Seq.{sets}
-use Rattle.plan.proofs.ListLaws.{sets-then}
+use Rattle.lent.proofs.ListLaws.{sets-then}
 use Rattle.bounds.specs.Pairs.{place, start}
 use Rattle.bounds.specs.PairLaws.{place-is, place-lt, pairs-most}
 use Rattle.text.specs.Listing.{line, rowText, rowsText, pairsText}

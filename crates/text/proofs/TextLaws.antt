@@ -9,13 +9,13 @@ use lib.ListN.{length, getD, take, length-append}
 use lib.Seq.{sets, length-sets}
 use Rattle.mass.specs.Split.{whole}
 use Rattle.plan.specs.Plan.{Plan}
-use Rattle.plan.specs.Tests.{roomTest}
+use Rattle.refusals.specs.Tests.{roomTest}
 use Rattle.plan.specs.File.{refusal, planOf}
 use Rattle.plan.specs.Records.{planRefusal, planOfLists, listsRefusal}
 use Rattle.plan.specs.Calls.{filled, headerOf, readAnswer}
 use Rattle.plan.specs.declared.Header.{Header}
 use Rattle.plan.specs.declared.Reading.the-variants as reading
-use Rattle.plan.proofs.ListTheorems.{length-links-of, length-events-of}
+use Rattle.layout.proofs.ListTheorems.{length-links-of, length-events-of}
 use Rattle.files.proofs.ReaderLawsAnswer.{take-sets}
 use Rattle.walk.specs.Walk.{count, complete, massExamined}
 use Rattle.bounds.specs.Pairs.{place}

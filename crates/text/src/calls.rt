@@ -8,7 +8,7 @@ ghost use mathlib.Core.Path.{_≡_};
 ghost use Prim.Native.Nat.{_≤_};
 ghost use lib.ListN.{length};
 ghost use lib.Seq.{sets};
-ghost use Rattle.plan.specs.Tests.{roomTest};
+ghost use Rattle.refusals.specs.Tests.{roomTest};
 ghost use Rattle.plan.specs.Records.{planOfLists, listsRefusal};
 ghost use Rattle.plan.specs.Calls.{filled};
 ghost use Rattle.text.specs.Listing.{planText, listing};
@@ -56,6 +56,6 @@ pub fn listing_text(plan: &[u8], out: &mut [u8]) -> Listed
     if out.len() < size {
         return Listed::Refused(12);
     }
-    plan::copy_bytes(&text, out, size);
+    lent::copy_bytes(&text, out, size);
     Listed::Text(size)
 }

@@ -11,8 +11,8 @@ use Rattle.plan.specs.Plan.{Plan}
 use Rattle.plan.specs.Records.{listsRefusal, planOfLists}
 use Rattle.plan.specs.Calls.{filled}
 use Rattle.plan.specs.declared.Header.{Header}
-use Rattle.plan.proofs.FileLaws.{stop, skip}
-use Rattle.plan.proofs.CopyLaws.{byteCopy, wordCopy, copies-refused, copies-denote}
+use Rattle.refusals.proofs.OrderLaws.{stop, skip}
+use Rattle.lent.proofs.CopyLaws.{byteCopy, wordCopy, copies-refused, copies-denote}
 use Rattle.topologies.specs.Listing.{Listing, listingOf}
 use Rattle.topologies.specs.Words.{entryWords, entriesOf, Gave}
 use Rattle.topologies.specs.Calls.{listingIn, topologiesRefusal, listedAnswer, listAfter}

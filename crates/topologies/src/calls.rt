@@ -21,7 +21,7 @@ fn topologies_core(
         (length (listingIn h (now (links .entry)) (now (words .entry)) (now (list .entry)) .entries)) ⌝ }
     ensures list { λ r. ⌜ now (list .exit) ≡ listAfter h «link_room» «event_room» (now (links .entry)) (now (words .entry)) (now (list .entry)) ⌝ }
 {
-    let lists = plan::lists_refusal(h, link_room, event_room, links, words);
+    let lists = lent::lists_refusal(h, link_room, event_room, links, words);
     if lists != 0 {
         return Listed::Refused(lists);
     }
@@ -42,6 +42,6 @@ pub fn topologies(h: Header, links: &[u8], events: &[u64], list: &mut [u64]) -> 
 {
     let mut bytes = [0u8; 256];
     let mut words = [0u64; 512];
-    plan::load(links, events, &mut bytes, &mut words);
+    lent::load(links, events, &mut bytes, &mut words);
     topologies_core(h, links.len(), events.len() / 4, &bytes, &words, list)
 }

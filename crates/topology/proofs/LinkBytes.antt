@@ -15,7 +15,7 @@ use Rattle.sets.specs.Laws.{bit-none, bit-joined-low, bit-joined-high}
 use Rattle.sets.specs.Bools.{same-bool}
 use Rattle.plan.specs.Plan.{Link}
 use Rattle.plan.specs.Lists.{linksOf}
-use Rattle.plan.proofs.ListTheorems.{length-links-of}
+use Rattle.layout.proofs.ListTheorems.{length-links-of}
 use Rattle.topology.specs.Outage.{Outage}
 use Rattle.topology.specs.Topology.{networkOf, linkAt, nodeWorks, linkWorks, EndsBelow}
 

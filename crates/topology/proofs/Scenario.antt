@@ -14,7 +14,7 @@ use Rattle.sets.specs.Sets.{bit, joined}
 use Rattle.sets.specs.Bools.{and-left, and-right, and-both, or-either, or-left, or-right, which, clash, not-so, not-of, of-not, same-bool, any-found, any-here}
 use Rattle.plan.specs.Plan.{Link}
 use Rattle.plan.specs.Lists.{linksOf}
-use Rattle.plan.proofs.ListTheorems.{length-links-of}
+use Rattle.layout.proofs.ListTheorems.{length-links-of}
 use Rattle.topology.specs.Outage.{Outage}
 use Rattle.topology.specs.Topology.{networkOf, linkWorks, ends, joins, adjacent}
 use Rattle.topology.specs.Works.{adjacent-link, link-adjacent, link-below, link-nodes}

@@ -9,8 +9,8 @@ use Rattle.plan.specs.Plan.{Link}
 use Rattle.plan.specs.Lists.{linksOf}
 use Rattle.plan.specs.Records.{linkListRefusal, listsRefusal}
 use Rattle.plan.specs.declared.Header.{Header}
-use Rattle.plan.proofs.TestLaws.{or-none, counts-none}
-use Rattle.plan.proofs.LayoutFile.{link-list-none}
+use Rattle.refusals.proofs.TestLaws.{or-none, counts-none}
+use Rattle.layout.proofs.LayoutFile.{link-list-none}
 use Rattle.topology.specs.Topology.{EndsBelow}
 use Rattle.topology.specs.Code.{LinksHeld}
 

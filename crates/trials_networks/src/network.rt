@@ -12,7 +12,7 @@ ghost use Rattle.topology.specs.Code.{LinksHeld};
 pub fn links(bytes: &[u8]) -> [u8; 256] {
     let mut all = [0u8; 256];
     if bytes.len() <= 256 {
-        plan::copy_bytes(bytes, &mut all, bytes.len());
+        lent::copy_bytes(bytes, &mut all, bytes.len());
     }
     all
 }
@@ -38,7 +38,7 @@ fn held(n: usize, links: &[u8; 256], count: usize) -> bool
         threshold: 1,
         limit: 1,
     };
-    plan::lists_refusal(h, 256, 128, links, &words) == 0
+    lent::lists_refusal(h, 256, 128, links, &words) == 0
 }
 
 // What is expected at node v: the list starts at node `first`, and all others have the empty set.

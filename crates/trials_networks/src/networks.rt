@@ -4,8 +4,8 @@ use crate::network::links;
 use crate::network::pair;
 use crate::network::parts;
 use crate::network::works;
-use plan::copy_words;
-use plan::put_bytes;
+use lent::copy_words;
+use lent::put_bytes;
 use vectors::many_links;
 use vectors::same;
 

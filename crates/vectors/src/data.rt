@@ -1,9 +1,9 @@
 // What the vectors on reading and writing share.
 use crate::compare::same;
 use crate::compare::same_part;
+use lent::put_bytes;
 use plan::Header;
 use plan::Reading;
-use plan::put_bytes;
 
 // What a lent list holds before a call.
 pub const BYTE: u8 = 170;

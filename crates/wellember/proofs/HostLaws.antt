@@ -9,17 +9,17 @@ use lib.Seq.{sets, sets-eq, take-at, drop-at}
 use Rattle.mass.specs.Refusal.{first, first-none, first-skip}
 use Rattle.plan.specs.Plan.{Plan}
 use Rattle.plan.specs.Layout.{little}
-use Rattle.plan.specs.Tests.{roomTest}
+use Rattle.refusals.specs.Tests.{roomTest}
 use Rattle.plan.specs.File.{refusal, planOf}
 use Rattle.plan.specs.Records.{planRefusal, planOfLists}
 use Rattle.plan.specs.Calls.{filled, headerOf, readAnswer}
 use Rattle.plan.specs.declared.Header.{Header}
 use Rattle.plan.specs.declared.Reading.the-variants as reading
-use Rattle.plan.proofs.FileLaws.{stop}
-use Rattle.plan.proofs.TestLaws.{room-none}
-use Rattle.plan.proofs.ListLaws.{first-last, sets-then}
-use Rattle.plan.proofs.LayoutNumbers.{length-little, value-little}
-use Rattle.plan.proofs.ListTheorems.{lists-denote}
+use Rattle.refusals.proofs.OrderLaws.{stop}
+use Rattle.refusals.proofs.TestLaws.{room-none}
+use Rattle.lent.proofs.ListLaws.{first-last, sets-then}
+use Rattle.layout.proofs.LayoutNumbers.{length-little, value-little}
+use Rattle.layout.proofs.ListTheorems.{lists-denote}
 use Rattle.walk.specs.Walk.{count}
 use Rattle.bounds.specs.Bounds.{lowerOf, upperOf, Encloses}
 use Rattle.bounds.specs.Calls.{pairRefusal, pairAnswer, boundsOf, boundsIn}

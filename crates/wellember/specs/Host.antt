@@ -6,7 +6,7 @@ use Prim.Native.Nat.{ℕ}
 use lib.ListN.{take, drop}
 use Rattle.mass.specs.Refusal.{first}
 use Rattle.plan.specs.Layout.{little, value}
-use Rattle.plan.specs.Tests.{roomTest}
+use Rattle.refusals.specs.Tests.{roomTest}
 use Rattle.plan.specs.File.{refusal, nodesIn}
 use Rattle.bounds.specs.Calls.{pairTest}
 

@@ -9,7 +9,7 @@ ghost use Prim.Native.Nat.{_≤_};
 ghost use lib.ListN.{length};
 ghost use lib.Seq.{sets};
 ghost use Rattle.mass.specs.Refusal.{first};
-ghost use Rattle.plan.specs.Tests.{roomTest};
+ghost use Rattle.refusals.specs.Tests.{roomTest};
 ghost use Rattle.plan.specs.File.{refusal, planOf};
 ghost use Rattle.plan.specs.Records.{planOfLists};
 ghost use Rattle.plan.specs.Calls.{filled};
@@ -24,7 +24,7 @@ fn pair_in(h: Header, room: usize, links: &[u8; 256], words: &[u64; 512], v: u64
         (first (roomTest room 16 ∷ pairRefusal h 256 128 (now (links .entry)) (now (words .entry)) v w ∷ []))
         (boundsOf (planOfLists h (now (links .entry)) (now (words .entry))) v w) ⌝ }
 {
-    let short = plan::room_test(room, 16);
+    let short = refusals::room_test(room, 16);
     if short != 0 {
         return Paired::Refused(short);
     }

@@ -13,7 +13,7 @@ use Rattle.bounds.proofs.calls.give_bounds.Reads as reads
 use Rattle.bounds.proofs.calls.give_bounds.Lts as lts
 use Rattle.bounds.proofs.calls.copy_raised.Reads as copy-raised-reads
 use Rattle.bounds.proofs.places.start_of.Reads as start-of-reads
-use Rattle.plan.proofs.copy_words.Reads as copy-words-reads
+use Rattle.lent.proofs.copy_words.Reads as copy-words-reads
 
 -- src/calls.rt:100:9
 start-of-requires : tie.Need-start-of-requires

@@ -12,7 +12,7 @@ use Rattle.bounds.proofs.calls.pair.Tie as tie
 use Rattle.bounds.proofs.calls.pair.Reads as reads
 use Rattle.bounds.proofs.calls.pair.Lts as lts
 use Rattle.bounds.proofs.calls.pair_core.Reads as pair-core-reads
-use Rattle.plan.proofs.load.Reads as load-reads
+use Rattle.lent.proofs.load.Reads as load-reads
 
 -- src/calls.rt:171:5
 load-requires : tie.Need-load-requires

@@ -1,7 +1,7 @@
 -- `bounds::calls::pair_core` meets its contract. Assumes nothing.
 use mathlib.Core.Path.{sym, ap, _∙_}
 use native.Mathlib.Omega.{arith}
-use Rattle.plan.proofs.ListTheorems.{lists-denote}
+use Rattle.layout.proofs.ListTheorems.{lists-denote}
 use Rattle.bounds.specs.PairLaws.{pairs-most}
 use Rattle.bounds.specs.declared.Totals.{Totals}
 use Rattle.bounds.proofs.Accepted.{lists-held, limit-most}
@@ -14,7 +14,7 @@ use Rattle.bounds.proofs.calls.pair_core.Lts as lts
 use Rattle.bounds.proofs.calls.bounds_at.Reads as bounds-at-reads
 use Rattle.bounds.proofs.places.pair_test.Reads as pair-test-reads
 use Rattle.bounds.proofs.whole.walk_all.Reads as walk-all-reads
-use Rattle.plan.proofs.lists_refusal.Reads as lists-refusal-reads
+use Rattle.lent.proofs.lists_refusal.Reads as lists-refusal-reads
 
 -- src/calls.rt:168:9
 lists-refusal-requires : tie.Need-lists-refusal-requires

@@ -14,7 +14,7 @@ use Rattle.bounds.proofs.calls.run.Reads as reads
 use Rattle.bounds.proofs.calls.run.Lts as lts
 use Rattle.bounds.proofs.calls.give_bounds.Reads as give-bounds-reads
 use Rattle.bounds.proofs.calls.run_core.Reads as run-core-reads
-use Rattle.plan.proofs.load.Reads as load-reads
+use Rattle.lent.proofs.load.Reads as load-reads
 
 -- src/calls.rt:122:5
 load-requires : tie.Need-load-requires

@@ -2,8 +2,8 @@
 use borrow.Author.Needs.{needs}
 use mathlib.Core.Path.{sym, ap, _∙_}
 use native.Mathlib.Omega.{arith}
-use Rattle.plan.specs.Tests.{roomTest}
-use Rattle.plan.proofs.FileLaws.{stop, skip, last}
+use Rattle.refusals.specs.Tests.{roomTest}
+use Rattle.refusals.proofs.OrderLaws.{stop, skip, last}
 use Rattle.files.proofs.WriterAnswer.{lists-counted}
 use Rattle.bounds.specs.Calls.{runRefusal}
 use Rattle.bounds.proofs.calls.run_test.Statement.{statement}
@@ -11,8 +11,8 @@ use Rattle.bounds.proofs.calls.run_test.Tie as tie
 use Rattle.bounds.proofs.calls.run_test.Reads as reads
 use Rattle.bounds.proofs.calls.run_test.Lts as lts
 use Rattle.bounds.proofs.places.start_of.Reads as start-of-reads
-use Rattle.plan.proofs.lists_refusal.Reads as lists-refusal-reads
-use Rattle.plan.proofs.room_test.Reads as room-test-reads
+use Rattle.lent.proofs.lists_refusal.Reads as lists-refusal-reads
+use Rattle.refusals.proofs.room_test.Reads as room-test-reads
 
 -- src/calls.rt:32:9
 lists-refusal-requires : tie.Need-lists-refusal-requires

@@ -7,7 +7,7 @@ use native.Mathlib.Omega.{arith}
 use lib.ListN.{length, getD, drop}
 use Rattle.sets.specs.Sets.{joined}
 use borrow.Author.Needs.{needs}
-use Rattle.plan.specs.Tests.{countOfKind, rank}
+use Rattle.refusals.specs.Tests.{countOfKind, rank}
 use Rattle.plan.specs.File.{memberRefusal, membersRefusal, setOf}
 use Rattle.files.specs.Members.{nodeValue, linkValue}
 use Rattle.plan.specs.Calls.{elementOf}

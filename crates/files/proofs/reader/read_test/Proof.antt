@@ -4,9 +4,9 @@ use Prim.Native.Nat.{ℕ, _*_, _≤_}
 use native.Mathlib.Omega.{arith}
 use borrow.Author.Needs.{needs}
 use lib.ListN.{length}
-use Rattle.plan.specs.Tests.{roomTest}
+use Rattle.refusals.specs.Tests.{roomTest}
 use Rattle.plan.specs.Calls.{readRefusal}
-use Rattle.plan.proofs.FileLaws.{stop, skip, last, on}
+use Rattle.refusals.proofs.OrderLaws.{stop, skip, last, on}
 use Rattle.plan.proofs.FileLawsAccepted.{plan-fits}
 use Rattle.files.proofs.reader.read_test.Statement.{statement}
 use Rattle.files.proofs.reader.read_test.Tie as tie

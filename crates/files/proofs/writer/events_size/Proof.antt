@@ -5,7 +5,7 @@ use native.Mathlib.Omega.{arith}
 use lib.ListN.{length, drop}
 use Rattle.plan.specs.Lists.{eventsOf}
 use Rattle.plan.specs.Layout.{memberCount, eventBytes}
-use Rattle.plan.proofs.ListTheorems.{length-events-of}
+use Rattle.layout.proofs.ListTheorems.{length-events-of}
 use Rattle.files.proofs.WriterSizes.{size-next, events-most, bytes-end}
 use Rattle.files.proofs.writer.events_size.Statement.{statement}
 use Rattle.files.proofs.writer.events_size.Tie as tie

@@ -7,7 +7,7 @@ use lib.ListN.{length, drop}
 use lib.Seq.{sets}
 use Rattle.plan.specs.Lists.{eventsOf}
 use Rattle.plan.specs.Layout.{eventBytes}
-use Rattle.plan.proofs.ListLaws.{eventAt}
+use Rattle.lent.proofs.ListLaws.{eventAt}
 use Rattle.files.proofs.WriterSizes.{length-bytes-next}
 use Rattle.files.proofs.WriterLaws.{laid-next, laid-end}
 use Rattle.files.proofs.writer.put_events.Statement.{statement}

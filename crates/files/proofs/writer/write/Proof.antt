@@ -2,7 +2,7 @@
 use borrow.Author.Needs.{needs}
 use mathlib.Core.Path.{refl, _∙_, ap₂}
 use Rattle.plan.specs.Records.{planOfLists}
-use Rattle.plan.proofs.CopyLaws.{copies-plan}
+use Rattle.lent.proofs.CopyLaws.{copies-plan}
 use Rattle.files.proofs.WriterAnswer.{same-outcome}
 use Rattle.files.proofs.writer.write.Statement.{statement}
 use Rattle.files.proofs.writer.write.Tie as tie

@@ -6,8 +6,8 @@ use lib.ListN.{length}
 use Rattle.plan.specs.Lists.{eventsOf}
 use Rattle.plan.specs.Layout.{layout}
 use Rattle.plan.specs.Records.{planOfLists, listsRefusal}
-use Rattle.plan.proofs.TestLaws.{Ranges, room-none}
-use Rattle.plan.proofs.ListTheorems.{length-events-of}
+use Rattle.refusals.proofs.TestLaws.{Ranges, room-none}
+use Rattle.layout.proofs.ListTheorems.{length-events-of}
 use Rattle.files.proofs.WriterSizes.{plan-size, events-most}
 use Rattle.files.proofs.WriterAnswer.{lists-counted, lists-refuse, room-refuses, written}
 use Rattle.files.proofs.writer.write_core.Statement.{statement}

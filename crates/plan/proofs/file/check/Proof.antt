@@ -5,7 +5,7 @@ use native.Mathlib.Omega.{arith}
 use lib.ListN.{length, drop}
 use Rattle.mass.specs.Split.{certain}
 use Rattle.plan.specs.File.{linksRefusal, eventsRefusal, nodesIn, linksIn, refusal}
-use Rattle.plan.proofs.FileLaws.{stop, skip, last}
+use Rattle.refusals.proofs.OrderLaws.{stop, skip, last}
 use Rattle.plan.proofs.FileLawsAccepted.{header-fits, links-fit}
 use Rattle.plan.proofs.file.check.Statement.{statement}
 use Rattle.plan.proofs.file.check.Tie as tie

@@ -4,9 +4,9 @@ use Prim.Native.Nat.{ℕ, _+_, _≤_}
 use native.Mathlib.Omega.{arith}
 use lib.ListN.{length, drop}
 use Rattle.mass.specs.Split.{probabilityTest}
-use Rattle.plan.specs.Tests.{shortTest, orderTest}
+use Rattle.refusals.specs.Tests.{shortTest, orderTest}
 use Rattle.plan.specs.File.{probabilityIn, membersRefusal}
-use Rattle.plan.proofs.FileLaws.{stop, skip, last, on}
+use Rattle.refusals.proofs.OrderLaws.{stop, skip, last, on}
 use Rattle.plan.proofs.FileLawsSteps.{event-step}
 use Rattle.plan.proofs.FileLawsAccepted.{short-fits}
 use Rattle.plan.proofs.file.event_refusal.Statement.{statement}

@@ -5,9 +5,9 @@ use Prim.Native.Nat.{ℕ, _+_, _-_, _≤_}
 use native.Mathlib.Omega.{arith}
 use lib.ListN.{length, drop}
 use Rattle.mass.specs.Split.{certain}
-use Rattle.plan.specs.Tests.{leftTest}
+use Rattle.refusals.specs.Tests.{leftTest}
 use Rattle.plan.specs.File.{eventsRefusal}
-use Rattle.plan.proofs.FileLaws.{stop, skip, last, on}
+use Rattle.refusals.proofs.OrderLaws.{stop, skip, last, on}
 use Rattle.plan.proofs.FileLawsSteps.{events-step, events-none}
 use Rattle.plan.proofs.FileLawsAccepted.{event-head, event-fits}
 use Rattle.plan.proofs.file.events_refusal.Statement.{statement}

@@ -1,9 +1,9 @@
 use Prim.Native.Nat.{_≤_}
 use native.Mathlib.Omega.{arith}
 use lib.ListN.{length}
-use Rattle.plan.specs.Tests.{markTest, versionTest, countsTest, thresholdTest, limitTest}
+use Rattle.refusals.specs.Tests.{markTest, versionTest, countsTest, thresholdTest, limitTest}
 use Rattle.plan.specs.File.{headerRefusal}
-use Rattle.plan.proofs.FileLaws.{stop, skip, last, on, on3}
+use Rattle.refusals.proofs.OrderLaws.{stop, skip, last, on, on3}
 use Rattle.plan.proofs.FileLawsAccepted.{enough}
 use Rattle.plan.proofs.file.header_refusal.Statement.{statement}
 use Rattle.plan.proofs.file.header_refusal.Tie as tie

@@ -5,8 +5,8 @@ use Prim.Native.Nat.{ℕ, _+_, _≤_}
 use native.Mathlib.Omega.{arith}
 use lib.ListN.{length, getD, drop}
 use Rattle.plan.specs.File.{linksRefusal}
-use Rattle.plan.specs.Tests.{shortTest, endsTest}
-use Rattle.plan.proofs.FileLaws.{stop, skip, last, on}
+use Rattle.refusals.specs.Tests.{shortTest, endsTest}
+use Rattle.refusals.proofs.OrderLaws.{stop, skip, last, on}
 use Rattle.plan.proofs.FileLawsSteps.{links-step, links-none}
 use Rattle.plan.proofs.FileLawsAccepted.{short-fits}
 use Rattle.plan.proofs.file.links_refusal.Statement.{statement}

@@ -2,9 +2,9 @@ use mathlib.Core.Path.{_≡_, sym, _∙_, ap₂}
 use Prim.Native.Nat.{ℕ, _+_, _≤_}
 use native.Mathlib.Omega.{arith}
 use lib.ListN.{length, getD, drop}
-use Rattle.plan.specs.Tests.{shortTest, memberTest}
+use Rattle.refusals.specs.Tests.{shortTest, memberTest}
 use Rattle.plan.specs.Calls.{elementOf}
-use Rattle.plan.proofs.FileLaws.{stop, skip, none, on}
+use Rattle.refusals.proofs.OrderLaws.{stop, skip, none, on}
 use Rattle.plan.proofs.FileLawsSteps.{step-stop, step-go, member-step}
 use Rattle.plan.proofs.FileLawsAccepted.{short-fits}
 use Rattle.plan.proofs.file.member_at.Statement.{statement}

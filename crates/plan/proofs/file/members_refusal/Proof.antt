@@ -6,7 +6,7 @@ use native.Mathlib.Omega.{arith}
 use lib.ListN.{length, drop}
 use Rattle.plan.specs.File.{memberRefusal, membersRefusal}
 use Rattle.plan.specs.Calls.{stepNumber}
-use Rattle.plan.proofs.FileLaws.{stop, skip, last}
+use Rattle.refusals.proofs.OrderLaws.{stop, skip, last}
 use Rattle.plan.proofs.FileLawsSteps.{step-number, members-step, members-none}
 use Rattle.plan.proofs.FileLawsAccepted.{member-fits}
 use Rattle.plan.proofs.file.members_refusal.Statement.{statement}

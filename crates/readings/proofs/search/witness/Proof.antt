@@ -12,7 +12,7 @@ use Rattle.readings.proofs.search.witness.Statement.{statement}
 use Rattle.readings.proofs.search.witness.Tie as tie
 use Rattle.readings.proofs.search.witness.Reads as reads
 use Rattle.readings.proofs.search.witness.Lts as lts
-use Rattle.plan.proofs.load.Reads as load-reads
+use Rattle.lent.proofs.load.Reads as load-reads
 use Rattle.readings.proofs.search.witness_core.Reads as witness-core-reads
 
 load-requires : tie.Need-load-requires

@@ -6,7 +6,7 @@ use Prim.Native.Nat.{ℕ}
 use Rattle.mass.specs.Refusal.{first, first-skip}
 use Rattle.mass.specs.Split.{massTest}
 use Rattle.mass.proofs.Answer.{mass-fits}
-use Rattle.plan.proofs.FileLaws.{stop, skip}
+use Rattle.refusals.proofs.OrderLaws.{stop, skip}
 use Rattle.readings.specs.Downtime.{downtimeAnswer, downtimeRefusal, secondsOf}
 use Rattle.readings.specs.declared.Seconds.{Seconds}
 use Rattle.readings.specs.declared.Timed.the-variants as timed

@@ -53,10 +53,10 @@ use Rattle.records.specs.Events.{wordsOf}
 use Rattle.records.specs.declared.Event.{Event}
 use Rattle.records.proofs.EventLaws.{flatten-more, take-cap}
 use Rattle.records.proofs.EventRow.{E, event, event-vals, event-tells, event-makes, event-lawful, event-copy, no-event, word, words-ty, events-ty, Words}
-use Rattle.plan.proofs.smaller as smaller
-use Rattle.plan.proofs.smaller.Symbol as smaller-def
-use Rattle.plan.proofs.smaller.Symbol.{name as #smaller}
-use Rattle.plan.proofs.smaller.Met as smaller-thm
+use Rattle.lent.proofs.smaller as smaller
+use Rattle.lent.proofs.smaller.Symbol as smaller-def
+use Rattle.lent.proofs.smaller.Symbol.{name as #smaller}
+use Rattle.lent.proofs.smaller.Met as smaller-thm
 use Rattle.records.proofs.lists.put_event as put-event
 use Rattle.records.proofs.lists.put_event.Symbol as put-event-def
 use Rattle.records.proofs.lists.put_event.Symbol.{name as #put-event}

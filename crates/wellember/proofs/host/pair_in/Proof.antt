@@ -2,7 +2,7 @@
 use mathlib.Core.Path.{sym, ap, _∙_}
 use Prim.Native.Nat.{ℕ}
 use Rattle.plan.specs.Records.{planOfLists}
-use Rattle.plan.proofs.FileLaws.{stop}
+use Rattle.refusals.proofs.OrderLaws.{stop}
 use Rattle.bounds.specs.Calls.{pairAnswer, boundsOf}
 use Rattle.bounds.proofs.Answers.{pair-refuses}
 use Rattle.wellember.proofs.HostLaws.{room-passed}

@@ -1,0 +1,3 @@
+-- Laws of lent lists that proofs share.
+pub mod ListLaws
+pub mod CopyLaws

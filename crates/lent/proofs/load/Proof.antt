@@ -1,0 +1,44 @@
+-- `lent::load` meets its contract. Assumes nothing.
+use borrow.Author.Needs.{needs}
+use denote.Ref.{now}
+use mathlib.Core.Path.{ap, _∙_}
+use Prim.Native.Nat.{ℕ}
+use lib.ListN.{take}
+use lib.Seq.{sets}
+use Rattle.lent.proofs.load.Statement.{statement}
+use Rattle.lent.proofs.load.Tie as tie
+use Rattle.lent.proofs.load.Reads as reads
+use Rattle.lent.proofs.load.Lts as lts
+use Rattle.lent.proofs.smaller.Reads as smaller-reads
+use Rattle.lent.proofs.copy_bytes.Reads as copy-bytes-reads
+use Rattle.lent.proofs.copy_words.Reads as copy-words-reads
+
+-- src/calls.rt:29:36
+smaller-requires : tie.Need-smaller-requires
+smaller-requires c κs = search needs
+
+-- src/calls.rt:29:5
+copy-bytes-requires : tie.Need-copy-bytes-requires
+copy-bytes-requires c κs = search needs
+
+-- src/calls.rt:30:37
+smaller-requires-2 : tie.Need-smaller-requires-2
+smaller-requires-2 c κs = search needs
+
+-- src/calls.rt:30:5
+copy-words-requires : tie.Need-copy-words-requires
+copy-words-requires c κs = search needs
+
+-- src/calls.rt:25:1
+returns : tie.Need-returns
+returns c = (
+  c .before .before .before .copy-bytes .ensures
+      ∙ ap (λ (k : ℕ). sets (now (c .before .before .before .before .before .before .before .before .args .bytes)) 0 (take k (now (c .before .before .before .before .before .before .before .before .args .links)))) (c .before .before .before .before .smaller .ensures),
+  c .copy-words .ensures
+      ∙ ap (λ (k : ℕ). sets (now (c .before .before .before .before .before .before .before .before .args .words)) 0 (take k (now (c .before .before .before .before .before .before .before .before .args .events)))) (c .before .smaller2 .ensures),
+)
+
+pub load-spec : {M : Type 1} → statement M
+load-spec =
+    tie.close
+    (tie.spec smaller-requires copy-bytes-requires smaller-requires-2 copy-words-requires returns)

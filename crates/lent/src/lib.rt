@@ -1,0 +1,147 @@
+// Lent lists: copying them, and the number with which they are refused, in the writer's order.
+// Assumes nothing.
+use plan::Header;
+use plan::byte_at;
+ghost use mathlib.Core.Path.{_≡_};
+ghost use Prim.Native.Nat.{_+_, _*_, _≤_, min};
+ghost use lib.ListN.{length, take};
+ghost use lib.Seq.{sets};
+ghost use Rattle.mass.specs.Split.{certain};
+ghost use Rattle.plan.specs.Lists.{linksOf, eventsOf};
+ghost use Rattle.plan.specs.Records.{linkListRefusal, eventListRefusal, listsRefusal};
+
+// Lays the first `count` bytes of a list down from a position on.
+pub fn put_bytes(from: &[u8], to: &mut [u8], at: usize, count: usize)
+    requires { ⌜ (count ≤ length (now from)) × (at + count ≤ length (now to)) ⌝ }
+    ensures { λ r. ⌜ now (to .exit) ≡ sets (now (to .entry)) at (take count (now (from .entry))) ⌝ }
+{
+    let mut i = 0;
+    while i < count {
+        to[at + i] = from[i];
+        i += 1;
+    }
+}
+
+// Copies the first `count` bytes.
+pub fn copy_bytes(from: &[u8], to: &mut [u8], count: usize)
+    requires { ⌜ (count ≤ length (now from)) × (count ≤ length (now to)) ⌝ }
+    ensures { λ r. ⌜ now (to .exit) ≡ sets (now (to .entry)) 0 (take count (now (from .entry))) ⌝ }
+{
+    put_bytes(from, to, 0, count);
+}
+
+// Copies the first `count` words.
+pub fn copy_words(from: &[u64], to: &mut [u64], count: usize)
+    requires { ⌜ (count ≤ length (now from)) × (count ≤ length (now to)) ⌝ }
+    ensures { λ r. ⌜ now (to .exit) ≡ sets (now (to .entry)) 0 (take count (now (from .entry))) ⌝ }
+{
+    let mut i = 0;
+    while i < count {
+        to[i] = from[i];
+        i += 1;
+    }
+}
+
+// Takes the first bytes and words of lent lists into the arrays.
+pub fn load(links: &[u8], events: &[u64], bytes: &mut [u8; 256], words: &mut [u64; 512])
+    ensures { λ r. ⌜ now (bytes .exit) ≡ sets (now (bytes .entry)) 0 (take (min (length (now (links .entry))) 256) (now (links .entry))) ⌝ }
+    ensures { λ r. ⌜ now (words .exit) ≡ sets (now (words .entry)) 0 (take (min (length (now (events .entry))) 512) (now (events .entry))) ⌝ }
+{
+    copy_bytes(links, bytes, smaller(links.len(), 256));
+    copy_words(events, words, smaller(events.len(), 512));
+}
+
+// The smaller of two numbers.
+pub fn smaller(a: usize, b: usize) -> usize
+    ensures { λ r. ⌜ r ≡ min a b ⌝ }
+{
+    if a < b {
+        return a;
+    }
+    b
+}
+
+// Each link, 7.
+pub fn link_list_refusal(links: &[u8], count: u64, nodes: u64) -> u32
+    requires { ⌜ (count ≤ 128) × (2 * count ≤ length (now links)) ⌝ }
+    ensures { λ r. ⌜ r ≡ linkListRefusal nodes (linksOf count (now (links .entry))) ⌝ }
+{
+    let mut at = 0;
+    let mut left = count;
+    while 0 < left {
+        let ends = refusals::ends_test(nodes, byte_at(links, at), byte_at(links, at + 1));
+        if ends != 0 {
+            return ends;
+        }
+        at += 2;
+        left -= 1;
+    }
+    0
+}
+
+// Each event, 8, 9, 10.
+pub fn event_list_refusal(words: &[u64], count: u64, nodes: u64, links: u64) -> u32
+    requires { ⌜ ((count ≤ 128) × (4 * count ≤ length (now words))) × ((nodes ≤ 64) × (links ≤ 128)) ⌝ }
+    ensures { λ r. ⌜ r ≡ eventListRefusal nodes links certain (eventsOf count (now (words .entry))) ⌝ }
+{
+    let mut at = 0;
+    let mut left = count;
+    let mut before = mass::CERTAIN;
+    while 0 < left {
+        let q = words[at];
+        let above = mass::probability_test(q);
+        if above != 0 {
+            return above;
+        }
+        let order = refusals::order_test(before, q);
+        if order != 0 {
+            return order;
+        }
+        let sets = refusals::sets_test(nodes, links, words[at + 1], words[at + 2], words[at + 3]);
+        if sets != 0 {
+            return sets;
+        }
+        before = q;
+        at += 4;
+        left -= 1;
+    }
+    0
+}
+
+// The number with which a header and lent lists are refused: 4 to 6, 12 for the two lists, 7, then 8, 9, 10. The lists stand in the
+// arrays; they had room for `link_room` bytes and `event_room` whole events.
+pub fn lists_refusal(
+    h: Header,
+    link_room: usize,
+    event_room: usize,
+    links: &[u8; 256],
+    words: &[u64; 512],
+) -> u32
+    ensures { λ r. ⌜ r ≡ listsRefusal h «link_room» «event_room» (now (links .entry)) (now (words .entry)) ⌝ }
+{
+    let counts = refusals::counts_test(h.nodes, h.links, h.events);
+    if counts != 0 {
+        return counts;
+    }
+    let threshold = refusals::threshold_test(h.threshold);
+    if threshold != 0 {
+        return threshold;
+    }
+    let limit = refusals::limit_test(h.limit);
+    if limit != 0 {
+        return limit;
+    }
+    let link_list = refusals::room_test(link_room, 2 * (h.links as usize));
+    if link_list != 0 {
+        return link_list;
+    }
+    let event_list = refusals::room_test(event_room, h.events as usize);
+    if event_list != 0 {
+        return event_list;
+    }
+    let ends = link_list_refusal(links, h.links, h.nodes);
+    if ends != 0 {
+        return ends;
+    }
+    event_list_refusal(words, h.events, h.nodes, h.links)
+}

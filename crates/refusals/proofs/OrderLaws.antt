@@ -1,0 +1,35 @@
+-- Laws of the order of tests, for the function that makes them: r is what a test's function returned.
+-- Assumes nothing.
+use mathlib.Core.Path.{_≡_, refl, sym, _∙_, ap}
+use mathlib.Core.List.{List, [], _∷_}
+use Prim.Native.Nat.{ℕ, zero, suc}
+use Rattle.mass.specs.Refusal.{first, first-skip, first-stop}
+
+-- the test refuses
+pub stop : {r number : ℕ} (later : List ℕ) → r ≡ number → (r ≡ 0 → ⊥) → r ≡ first (number ∷ later)
+stop {number = n} l e h = e ∙ sym (first-stop n l (λ z. h (e ∙ z)))
+
+-- the test does not refuse, and a later one decides
+pub skip : {x r number : ℕ} (later : List ℕ) → r ≡ number → r ≡ 0 → x ≡ first later → x ≡ first (number ∷ later)
+skip {number = n} l e z h = h ∙ sym (first-skip n l (sym e ∙ z))
+
+-- no test is left
+pub none : 0 ≡ first []
+unfolding first
+none = refl
+
+-- the last test decides
+pub last : {r number : ℕ} → r ≡ number → r ≡ first (number ∷ [])
+unfolding first
+last {r} {number} e = go number e
+  where
+    go : (n : ℕ) → r ≡ n → r ≡ first (n ∷ [])
+    go zero h = h
+    go (suc n) h = h
+
+-- a test on what other calls returned
+pub on : (f : ℕ → ℕ) {r a x : ℕ} → r ≡ f a → a ≡ x → r ≡ f x
+on f e p = e ∙ ap f p
+
+pub on3 : (f : ℕ → ℕ → ℕ → ℕ) {r a b c x y z : ℕ} → r ≡ f a b c → a ≡ x → b ≡ y → c ≡ z → r ≡ f x y z
+on3 f e p q t = e ∙ (λ i. f (p i) (q i) (t i))
