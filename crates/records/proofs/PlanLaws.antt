@@ -17,7 +17,7 @@ use Rattle.plan.specs.declared.Writing.{Writing}
 use Rattle.plan.proofs.TestLaws.{Ranges, counts-none, room-none}
 use Rattle.files.proofs.ReaderLawsAnswer.{header-bounds}
 use Rattle.plan.proofs.CopyLaws.{countsAndRooms, same-plan, copied}
-use Rattle.files.proofs.WriterAnswer.{Outcome, same-outcome}
+use Rattle.writer.proofs.WriterAnswer.{Outcome, same-outcome}
 use Rattle.records.specs.Events.{wordsOf, recordsOf, eventRecords, filledRecords}
 use Rattle.records.specs.declared.Event.{Event}
 use Rattle.records.proofs.EventLaws.{length-words, length-event-words, records-event-words, take-words}
