@@ -23,7 +23,7 @@ use Rattle.plan.proofs.LayoutFile.{file-none, valid-none}
 use Rattle.plan.proofs.ListTheorems.{length-links-of, read-denotes}
 use Rattle.plan.proofs.Theorems.{read-writes-again}
 use Rattle.files.proofs.ReaderLawsAnswer.{read-accepted, length-links}
-use Rattle.files.proofs.WriterAnswer.{Outcome}
+use Rattle.writer.proofs.WriterAnswer.{Outcome}
 use Rattle.records.specs.Events.{wordsOf}
 use Rattle.reader.specs.Filled.{eventRecords, filledRecords}
 use Rattle.reader.specs.Copying.{copyRefusal, copyAnswer}

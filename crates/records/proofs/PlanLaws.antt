@@ -12,7 +12,7 @@ use Rattle.plan.specs.declared.Header.{Header}
 use Rattle.plan.specs.declared.Writing.{Writing}
 use Rattle.plan.proofs.TestLaws.{Ranges, counts-none, room-none}
 use Rattle.plan.proofs.CopyLaws.{countsAndRooms, same-plan, copied}
-use Rattle.files.proofs.WriterAnswer.{Outcome, same-outcome}
+use Rattle.writer.proofs.WriterAnswer.{Outcome, same-outcome}
 use Rattle.records.specs.Events.{wordsOf}
 use Rattle.records.specs.declared.Event.{Event}
 use Rattle.records.proofs.EventLaws.{length-words, take-words}

@@ -27,7 +27,7 @@ pub fn write_words(
 {
     let mut bytes = [0u8; 256];
     plan::copy_bytes(links, &mut bytes[..], plan::smaller(links.len(), 256));
-    files::write_core(h, links.len(), event_room, &bytes, words, out)
+    writer::write_core(h, links.len(), event_room, &bytes, words, out)
 }
 
 // Writes a plan from lent lists: links two bytes each, events a record each.
