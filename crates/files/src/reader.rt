@@ -176,6 +176,25 @@ pub fn read_core(
     Reading::Accepted(header)
 }
 
+// Reads the plan that begins at `at` into the arrays. A position past the end is that of an empty file.
+pub fn read_at(
+    s: &[u8],
+    at: usize,
+    link_room: usize,
+    event_room: usize,
+    links: &mut [u8; 256],
+    words: &mut [u64; 512],
+) -> Reading
+    ensures answer { λ r. ⌜ r ≡ readAnswer (readRefusal «link_room» «event_room» (drop at (now (s .entry)))) (headerOf (drop at (now (s .entry)))) ⌝ }
+    ensures links { λ r. ⌜ now (links .exit) ≡ filled (readRefusal «link_room» «event_room» (drop at (now (s .entry))))
+        (linkBytes ((planOf (drop at (now (s .entry)))) .links)) (now (links .entry)) ⌝ }
+    ensures words { λ r. ⌜ now (words .exit) ≡ filled (readRefusal «link_room» «event_room» (drop at (now (s .entry))))
+        (eventWords ((planOf (drop at (now (s .entry)))) .events)) (now (words .entry)) ⌝ }
+{
+    let from = plan::smaller(at, s.len());
+    read_core(&s[from..], link_room, event_room, links, words)
+}
+
 // The header of an answer: all numbers are 0 where it refuses.
 pub fn header_in(answer: Reading) -> Header
     ensures { λ r. ⌜ r ≡ headerIn answer ⌝ }
