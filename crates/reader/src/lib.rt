@@ -10,7 +10,7 @@ use plan::Step;
 use records::Event;
 use records::fill;
 use words::events_in;
-use words::read_words;
+use words::read_words_at;
 ghost use mathlib.Core.Path.{_≡_};
 ghost use lib.ListN.{length, drop};
 ghost use Rattle.plan.specs.Lists.{linkBytes};
@@ -37,6 +37,26 @@ impl<'a> Reader<'a> {
     {
         plan::member_at(self.src, self.at, nodes, links, least)
     }
+
+    // Reads the plan that begins at the reader's position into lent lists: the links' bytes, and a record to an event. A refusal changes nothing; a
+    // position past the end leaves no byte, and 1 is given.
+    pub fn read(self, links: &mut [u8], events: &mut [Event]) -> Reading
+        ensures answer { λ r. ⌜ r ≡ readAnswer
+            (readRefusal (length (now (links .entry))) (length (now (events .entry))) (drop (self .entry .at) (now (self .entry .src))))
+            (headerOf (drop (self .entry .at) (now (self .entry .src)))) ⌝ }
+        ensures links { λ r. ⌜ now (links .exit) ≡ filled
+            (readRefusal (length (now (links .entry))) (length (now (events .entry))) (drop (self .entry .at) (now (self .entry .src))))
+            (linkBytes ((planOf (drop (self .entry .at) (now (self .entry .src)))) .links)) (now (links .entry)) ⌝ }
+        ensures events { λ r. ⌜ now (events .exit) ≡ filledRecords
+            (readRefusal (length (now (links .entry))) (length (now (events .entry))) (drop (self .entry .at) (now (self .entry .src))))
+            (eventRecords ((planOf (drop (self .entry .at) (now (self .entry .src)))) .events)) (now (events .entry)) ⌝ }
+    {
+        let mut words = [0u64; 512];
+        let answer = read_words_at(self.src, self.at, links, events.len(), &mut words);
+        let count = events_in(answer);
+        fill(&words, events, count);
+        answer
+    }
 }
 
 // A step on a slice and a position: its contract says nothing of a reader, so whoever calls it needs no walk by hand.
@@ -52,9 +72,5 @@ pub fn read_records(s: &[u8], links: &mut [u8], events: &mut [Event]) -> Reading
     ensures links { λ r. ⌜ now (links .exit) ≡ filled (readRefusal (length (now (links .entry))) (length (now (events .entry))) (now (s .entry))) (linkBytes ((planOf (now (s .entry))) .links)) (now (links .entry)) ⌝ }
     ensures events { λ r. ⌜ now (events .exit) ≡ filledRecords (readRefusal (length (now (links .entry))) (length (now (events .entry))) (now (s .entry))) (eventRecords ((planOf (now (s .entry))) .events)) (now (events .entry)) ⌝ }
 {
-    let mut words = [0u64; 512];
-    let answer = read_words(s, links, events.len(), &mut words);
-    let count = events_in(answer);
-    fill(&words, events, count);
-    answer
+    Reader::new(s, 0).read(links, events)
 }
