@@ -17,7 +17,7 @@ use Rattle.plan.specs.declared.Header.{Header}
 use Rattle.refusals.proofs.TestLaws.{or-none}
 use Rattle.layout.proofs.LayoutFile.{link-list-none, valid-none, ValidPlan}
 use Rattle.layout.proofs.ListTheorems.{lists-denote}
-use Rattle.files.proofs.WriterAnswer.{lists-counted}
+use Rattle.writer.proofs.WriterAnswer.{lists-counted}
 use Rattle.topology.specs.Topology.{EndsBelow}
 use Rattle.walk.specs.Valid.{lists-probable}
 use Rattle.bounds.specs.Tallied.{Held}

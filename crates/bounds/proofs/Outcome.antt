@@ -14,7 +14,7 @@ use Rattle.plan.specs.Calls.{filled}
 use Rattle.plan.specs.declared.Header.{Header}
 use Rattle.lent.proofs.CopyLaws.{byteCopy, wordCopy, copies-refused, copies-denote}
 use Rattle.layout.proofs.ListTheorems.{lists-denote}
-use Rattle.files.proofs.WriterAnswer.{lists-counted}
+use Rattle.writer.proofs.WriterAnswer.{lists-counted}
 use Rattle.walk.specs.Walk.{massExamined, count}
 use Rattle.bounds.specs.Pairs.{pairCount}
 use Rattle.bounds.specs.Bounds.{lowerList, upperList, Encloses, EnclosesAll}

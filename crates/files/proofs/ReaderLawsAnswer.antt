@@ -2,11 +2,13 @@
 -- Assumes nothing.
 use mathlib.Core.Path.{_≡_, refl, sym, _∙_, ap}
 use mathlib.Core.List.{List}
-use Prim.Native.Nat.{ℕ, zero, suc, _+_, _*_, _≤_}
+use Prim.Native.Nat.{ℕ, zero, suc, _+_, _-_, _*_, _≤_, min}
+use native.Mathlib.Nat.{min-eq-left, min-eq-right}
+use native.Mathlib.Decide.{decLe}
 use native.Mathlib.Omega.{arith}
 use borrow.Author.Tests.{ltb-false}
-use lib.ListN.{length, take, drop}
-use lib.Seq.{sets, sets-eq, take-at, length-sets}
+use lib.ListN.{length, take, drop, length-drop, drop-of-length-le}
+use lib.Seq.{sets, sets-eq, take-at, take-all, drop-length, length-sets}
 use Rattle.mass.specs.Refusal.{first-none, refuse-none}
 use Rattle.plan.specs.File.{eventSize, refusal, eventsAt, linksIn, eventsIn, planOf}
 use Rattle.plan.specs.Calls.{filled, headerOf, readRefusal, readAnswer, headerIn}
@@ -14,6 +16,17 @@ use Rattle.plan.specs.Lists.{linksOf, linkBytes, eventWords}
 use Rattle.plan.specs.declared.Header.{Header}
 use Rattle.plan.specs.declared.Reading.the-variants as reading
 use Rattle.plan.proofs.FileLawsAccepted.{accepted-counts}
+
+-- ---- a reading from a position on: past the end there is nothing
+
+pub from-smaller : (s : List ℕ) (at from : ℕ) → from ≡ min at (length s) → take (length s - from) (drop from s) ≡ drop at s
+from-smaller s at from e = take-all (length s - from) (drop from s) (omega (arith, length-drop from s)) ∙ ap (λ (n : ℕ). drop n s) e ∙ go (decLe at (length s))
+  where
+    go : Dec (at ≤ length s) → drop (min at (length s)) s ≡ drop at s
+    go (yes h) = ap (λ (n : ℕ). drop n s) (min-eq-left h)
+    go (no h) =
+        let l : length s ≤ at = omega arith in
+        ap (λ (n : ℕ). drop n s) (min-eq-right l) ∙ drop-length s ∙ sym (drop-of-length-le s l)
 
 -- ---- an accepted reading: there is room
 

@@ -1,11 +1,10 @@
-// Reading a plan file into lent lists, and writing it from them: document 01, section "Plan file".
+// Reading a plan file into lent lists: document 01, section "Plan file".
 // Assumes nothing.
 mod reader;
-mod writer;
 
+pub use reader::Members;
 pub use reader::header_in;
+pub use reader::members_of;
 pub use reader::read;
+pub use reader::read_at;
 pub use reader::read_core;
-pub use writer::put_number;
-pub use writer::write;
-pub use writer::write_core;

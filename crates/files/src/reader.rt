@@ -27,7 +27,7 @@ pub struct Members {
 }
 
 // The sets with one more element, which is above those that they hold.
-pub fn with_element(m: Members, element: Element) -> Members
+fn with_element(m: Members, element: Element) -> Members
     requires { ⌜ Above element (m .nodes) (joined (m .low) (m .high)) ⌝ }
     ensures nodes { λ r. ⌜ r .nodes ≡ m .nodes + nodeValue element ⌝ }
     ensures links { λ r. ⌜ joined (r .low) (r .high) ≡ joined (m .low) (m .high) + linkValue element ⌝ }
@@ -86,7 +86,7 @@ pub fn members_of(s: &[u8], start: usize, count: u64, nodes: u64, links: u64) ->
 }
 
 // Lays down the four words of an event.
-pub fn put_event(words: &mut [u64; 512], at: usize, q: u64, m: Members)
+fn put_event(words: &mut [u64; 512], at: usize, q: u64, m: Members)
     requires { ⌜ at + 4 ≤ 512 ⌝ }
     ensures { λ r. ⌜ now (words .exit) ≡ sets (now (words .entry)) at (q ∷ m .nodes ∷ m .low ∷ m .high ∷ []) ⌝ }
 {
@@ -97,14 +97,7 @@ pub fn put_event(words: &mut [u64; 512], at: usize, q: u64, m: Members)
 }
 
 // Lays down the words of the events, which are accepted.
-pub fn fill_events(
-    s: &[u8],
-    start: usize,
-    count: u64,
-    nodes: u64,
-    links: u64,
-    words: &mut [u64; 512],
-)
+fn fill_events(s: &[u8], start: usize, count: u64, nodes: u64, links: u64, words: &mut [u64; 512])
     requires { ⌜ (nodes ≤ 64) × (links ≤ 128) × (count ≤ 128) ⌝ }
     requires { ⌜ eventsRefusal nodes links certain count (drop start (now s)) ≡ 0 ⌝ }
     ensures { λ r. ⌜ now (words .exit) ≡ sets (now (words .entry)) 0 (eventWords (eventsAt count (drop start (now (s .entry))))) ⌝ }
@@ -122,7 +115,7 @@ pub fn fill_events(
 }
 
 // Lays down the bytes of the links.
-pub fn fill_links(s: &[u8], start: usize, count: u64, links: &mut [u8; 256])
+fn fill_links(s: &[u8], start: usize, count: u64, links: &mut [u8; 256])
     requires { ⌜ (count ≤ 128) × (start + 2 * count ≤ length (now s)) ⌝ }
     ensures { λ r. ⌜ now (links .exit) ≡ sets (now (links .entry)) 0 (linkBytes (linksOf count (drop start (now (s .entry))))) ⌝ }
 {
@@ -139,7 +132,7 @@ pub fn fill_links(s: &[u8], start: usize, count: u64, links: &mut [u8; 256])
 }
 
 // The tests of a reading: 1 to 11, then 12 for the two lists.
-pub fn read_test(s: &[u8], link_room: usize, event_room: usize) -> u32
+fn read_test(s: &[u8], link_room: usize, event_room: usize) -> u32
     ensures { λ r. ⌜ r ≡ readRefusal «link_room» «event_room» (now (s .entry)) ⌝ }
 {
     let number = plan::check(s);
@@ -181,6 +174,25 @@ pub fn read_core(
         &mut *words,
     );
     Reading::Accepted(header)
+}
+
+// Reads the plan that begins at `at` into the arrays. A position past the end is that of an empty file.
+pub fn read_at(
+    s: &[u8],
+    at: usize,
+    link_room: usize,
+    event_room: usize,
+    links: &mut [u8; 256],
+    words: &mut [u64; 512],
+) -> Reading
+    ensures answer { λ r. ⌜ r ≡ readAnswer (readRefusal «link_room» «event_room» (drop at (now (s .entry)))) (headerOf (drop at (now (s .entry)))) ⌝ }
+    ensures links { λ r. ⌜ now (links .exit) ≡ filled (readRefusal «link_room» «event_room» (drop at (now (s .entry))))
+        (linkBytes ((planOf (drop at (now (s .entry)))) .links)) (now (links .entry)) ⌝ }
+    ensures words { λ r. ⌜ now (words .exit) ≡ filled (readRefusal «link_room» «event_room» (drop at (now (s .entry))))
+        (eventWords ((planOf (drop at (now (s .entry)))) .events)) (now (words .entry)) ⌝ }
+{
+    let from = lent::smaller(at, s.len());
+    read_core(&s[from..], link_room, event_room, links, words)
 }
 
 // The header of an answer: all numbers are 0 where it refuses.

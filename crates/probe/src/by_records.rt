@@ -25,7 +25,7 @@ pub extern "C" fn probe_run_plan(
 
 #[no_mangle]
 pub extern "C" fn probe_copy_plan(plan: &[u8], out: &mut [u8], size: &mut [u64]) -> u32 {
-    match records::copy_plan(plan, out) {
+    match reader::copy_plan(plan, out) {
         Writing::Refused(number) => {
             put(size, 0, 0);
             number

@@ -55,7 +55,7 @@ pub extern "C" fn probe_write(
     size: &mut [u64],
 ) -> u32 {
     let h = header(nodes, links_count, events_count, threshold, limit);
-    match files::write(h, links, events, out) {
+    match writer::write(h, links, events, out) {
         Writing::Refused(number) => {
             put(size, 0, 0);
             number

@@ -1,17 +1,14 @@
 -- Laws of lists of records and their words: one undoes the other, and one step of each loop that goes from one to the other.
 -- Assumes nothing.
 use mathlib.Core.Path.{_≡_, refl, sym, _∙_, ap}
-use mathlib.Core.List.{List, [], _∷_, _++_, append-assoc}
-use Prim.Native.Nat.{ℕ, zero, suc, _+_, _*_, _/_, _%_, _^_, _≤_, _<_, min}
+use mathlib.Core.List.{List, [], _∷_, _++_}
+use Prim.Native.Nat.{ℕ, zero, suc, _+_, _*_, _≤_, _<_, min}
 use native.Mathlib.Nat.{add-zero, zero-add}
 use native.Mathlib.Numerals.{add-one}
 use native.Mathlib.Omega.{arith}
-use lib.ListN.{length, getD, set, take, drop, length-append}
-use lib.Seq.{sets, sets-eq, getD-drop, drop-drop, take-suc, take-append-le, length-take-le, take-take}
-use Rattle.plan.specs.Plan as plan
-use Rattle.plan.specs.Lists.{eventWords}
-use Rattle.plan.specs.Calls.{filled}
-use Rattle.records.specs.Events.{wordsOf, recordIn, recordsOf, recordOf, eventRecords, filledRecords}
+use lib.ListN.{length, getD, set, take, drop}
+use lib.Seq.{sets, getD-drop, drop-drop, take-suc, length-take-le}
+use Rattle.records.specs.Events.{wordsOf, recordIn, recordsOf}
 use Rattle.records.specs.declared.Event.{Event}
 
 -- ---- words and records
@@ -62,17 +59,6 @@ words-records (suc count) (a ∷ b ∷ c ∷ []) h = absurd (none count h)
     none k l = omega arith
 words-records (suc count) (a ∷ b ∷ c ∷ d ∷ words) h =
     rw (four count) (ap (λ (ws : List ℕ). a ∷ b ∷ c ∷ d ∷ ws) (words-records count words (omega arith)))
-
--- a plan's events: their records have their words, and the words of events give their records, whatever follows
-pub words-event-records : (es : List plan.Event) → wordsOf (eventRecords es) ≡ eventWords es
-unfolding wordsOf eventRecords eventWords
-words-event-records [] = refl
-words-event-records (e ∷ es) = ap (λ (ws : List ℕ). e .probability ∷ e .nodes ∷ e .links % 2 ^ 64 ∷ e .links / 2 ^ 64 ∷ ws) (words-event-records es)
-
-pub records-event-words : (es : List plan.Event) (after : List ℕ) → recordsOf (length es) (eventWords es ++ after) ≡ eventRecords es
-unfolding recordsOf eventRecords eventWords
-records-event-words [] after = refl
-records-event-words (e ∷ es) after = ap (λ (fs : List Event). recordOf e ∷ fs) (records-event-words es after)
 
 -- ---- one turn of each loop
 
@@ -126,11 +112,6 @@ take-cap {A} (suc k) (x ∷ l) = ap (λ (n : ℕ). take n (x ∷ l)) (more (leng
     more m n = omega arith
 
 -- ---- parts of lists
-
-pub length-event-words : (es : List plan.Event) → length (eventWords es) ≡ 4 * length es
-unfolding eventWords
-length-event-words [] = refl
-length-event-words (e ∷ es) = omega (arith, length-event-words es)
 
 pub take-words : (k : ℕ) (es : List Event) → take (4 * k) (wordsOf es) ≡ wordsOf (take k es)
 unfolding wordsOf

@@ -3,5 +3,3 @@ pub mod EventLaws
 pub mod PlanLaws
 pub mod EventRow
 pub mod Lending
-pub mod CopyLaws
-pub mod Arrays

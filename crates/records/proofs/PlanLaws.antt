@@ -1,26 +1,21 @@
--- Laws of a plan whose events stand in a list of records: what is read into one, and what is written from one.
+-- Laws of a plan that is written from a list of records.
 -- Assumes nothing.
-use mathlib.Core.Path.{_≡_, refl, sym, _∙_, ap}
+use mathlib.Core.Path.{_≡_, refl}
 use mathlib.Core.List.{List}
-use Prim.Native.Nat.{ℕ, zero, suc, _+_, _*_, _≤_, min}
+use Prim.Native.Nat.{ℕ, _+_, _*_, _≤_, min}
 use native.Mathlib.Omega.{arith}
 use lib.ListN.{length, take, drop, length-take}
-use lib.Seq.{sets, sets-eq, take-append-le, take-take, length-take-le}
+use lib.Seq.{sets, sets-eq, take-append-le, take-take}
 use Rattle.mass.specs.Refusal.{first, first-none}
-use Rattle.plan.specs.Plan as plan
-use Rattle.plan.specs.Lists.{eventWords}
-use Rattle.plan.specs.File.{planOf, eventsAt, eventsIn, linksIn}
 use Rattle.plan.specs.Records.{planOfLists}
-use Rattle.plan.specs.Calls.{filled, headerOf, headerIn, readRefusal, readAnswer}
 use Rattle.plan.specs.declared.Header.{Header}
 use Rattle.plan.specs.declared.Writing.{Writing}
 use Rattle.refusals.proofs.TestLaws.{Ranges, counts-none, room-none}
-use Rattle.files.proofs.ReaderLawsAnswer.{header-bounds}
 use Rattle.lent.proofs.CopyLaws.{countsAndRooms, same-plan, copied}
-use Rattle.files.proofs.WriterAnswer.{Outcome, same-outcome}
-use Rattle.records.specs.Events.{wordsOf, recordsOf, eventRecords, filledRecords}
+use Rattle.writer.proofs.WriterAnswer.{Outcome, same-outcome}
+use Rattle.records.specs.Events.{wordsOf}
 use Rattle.records.specs.declared.Event.{Event}
-use Rattle.records.proofs.EventLaws.{length-words, length-event-words, records-event-words, take-words}
+use Rattle.records.proofs.EventLaws.{length-words, take-words}
 
 -- a copy of the first 256 bytes of the links denotes the same plan
 pub copied-links : (h : Header) (links words bytes : List ℕ) (m room : ℕ)
@@ -34,51 +29,7 @@ copied-links h links words bytes m room b e z =
     let l : 2 * h .links ≤ length links = room-none _ _ (four .0) in
     same-plan h _ _ _ _ (copied links bytes m (2 * h .links) (omega arith) (omega arith) (omega arith)) refl
 
--- ---- reading: records laid down from the words that were read
-
-records-filled : (number count : ℕ) (es : List plan.Event) (room : List ℕ) (list : List Event)
-    → (number ≡ 0 → (count ≡ length es) × (4 * length es ≤ length room)) → ((number ≡ 0 → ⊥) → count ≡ 0)
-    → sets list 0 (recordsOf count (filled number (eventWords es) room)) ≡ filledRecords number (eventRecords es) list
-unfolding recordsOf
-records-filled zero count es room list f g =
-    let e = f refl in
-    let n : length (eventWords es) ≤ length room = omega (arith, length-event-words es, e .1) in
-    rw (sets-eq (eventWords es) room 0 (omega arith), e .0, records-event-words es _)
-records-filled (suc number) count es room list f g = rw (g (λ z. never number z))
-  where
-    never : (n : ℕ) → suc n ≡ 0 → ⊥
-    never n z = omega arith
-
--- a plan has as many events as its count says
-pub length-events : (count : ℕ) (b : List ℕ) → length (eventsAt count b) ≡ count
-unfolding eventsAt
-length-events zero b = refl
-length-events (suc count) b = ap suc (length-events count _)
-
--- `count` is how many events the answer hands over
-module _ (linkRoom eventRoom : ℕ) (b : List ℕ) (count : ℕ) (p : count ≡ (headerIn (readAnswer (readRefusal linkRoom eventRoom b) (headerOf b))) .events) where
-  pub count-bounds : (count ≤ 128) × (count ≤ eventRoom)
-  count-bounds =
-      let h = header-bounds linkRoom eventRoom b _ refl in (rw p (h .3), rw p (h .1))
-
-  pub read-list : (room : List ℕ) (list : List Event) → length room ≡ 512
-      → sets list 0 (recordsOf count (filled (readRefusal linkRoom eventRoom b) (eventWords ((planOf b) .events)) room))
-      ≡ filledRecords (readRefusal linkRoom eventRoom b) (eventRecords ((planOf b) .events)) list
-  unfolding planOf headerOf
-  read-list room list long =
-      records-filled (readRefusal linkRoom eventRoom b) count ((planOf b) .events) room list
-      (λ e.
-      let n : count ≡ eventsIn b = p ∙ ap (λ (k : ℕ). (headerIn (readAnswer k (headerOf b))) .events) e in
-      let l : length ((planOf b) .events) ≡ eventsIn b = length-events (eventsIn b) _ in
-      (n ∙ sym l, omega (arith, l, n, count-bounds .0)))
-      (λ z. p ∙ stop (readRefusal linkRoom eventRoom b) z)
-    where
-      stop : (k : ℕ) → (k ≡ 0 → ⊥) → (headerIn (readAnswer k (headerOf b))) .events ≡ 0
-      stop zero z = absurd (z refl)
-      stop (suc k) z = refl
-
--- ---- writing: the first 128 records have the words that are used
-
+-- the first 128 records have the words that are used
 pub written-list : (h : Header) (links out left room : List ℕ) (es : List Event) (answer : Writing) → length room ≡ 512
     → Outcome h (length links) (length es) links (sets room 0 (wordsOf (take 128 es))) out left answer
     → Outcome h (length links) (length es) links (wordsOf es) out left answer

@@ -18,10 +18,11 @@ use Rattle.plan.specs.declared.Reading.{Reading}
 use Rattle.bounds.specs.Bounds.{lowerList, upperList, EnclosesAll}
 use Rattle.bounds.specs.Calls.{runRefusal, runNumber, ranAnswer, totalsOf, totalsIn}
 use Rattle.bounds.specs.declared.Ran.{Ran}
-use Rattle.records.specs.Events.{wordsOf, eventRecords, filledRecords}
+use Rattle.records.specs.Events.{wordsOf}
+use Rattle.reader.specs.Filled.{eventRecords, filledRecords}
 use Rattle.records.specs.declared.Event.{Event}
 use Rattle.records.proofs.EventLaws.{length-words}
-use Rattle.records.proofs.CopyLaws.{no-links, no-events, full-rooms, same-plan, lists-pass}
+use Rattle.reader.proofs.CopyLaws.{no-links, no-events, full-rooms, same-plan, lists-pass}
 use Rattle.runs.specs.Running.{fileRefusal, fileNumber, fileAnswer}
 use Rattle.runs.proofs.RunLaws.{Outcome}
 

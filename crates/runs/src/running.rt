@@ -2,8 +2,8 @@
 use crate::run_records;
 use bounds::Ran;
 use plan::Reading;
+use reader::read_records;
 use records::Event;
-use records::read_records;
 ghost use mathlib.Core.Path.{_≡_};
 ghost use lib.ListN.{length};
 ghost use Rattle.plan.specs.File.{planOf};

@@ -14,7 +14,7 @@ use Rattle.plan.specs.Lists.{linksOf}
 use Rattle.plan.specs.Records.{listsRefusal, planOfLists}
 use Rattle.plan.specs.declared.Header.{Header}
 use Rattle.layout.proofs.ListTheorems.{length-links-of}
-use Rattle.files.proofs.WriterAnswer.{lists-counted}
+use Rattle.writer.proofs.WriterAnswer.{lists-counted}
 use Rattle.walk.specs.Scenario.{Probabilities}
 use Rattle.walk.specs.Valid.{lists-probable}
 use Rattle.walk.specs.Walk.{firstEnds, massExamined}

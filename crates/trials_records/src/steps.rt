@@ -36,19 +36,19 @@ pub fn links() {
         b"RSG\x01\x00\x03\x03\x03\x01\x00\x00\x00\x00\x00\x00\x00\x64\x00\x00\x00\x00\x01\x00\x02\x01\x02\x01\x00\x00\x00\x01\x01\x00\x01\x00\x00\x00\x01\x01\x01\x01\x00\x00\x00\x01\x01\x02";
     step(
         b"the triangle's first member",
-        records::read_member(plan, 31, 3, 3, 0),
+        reader::read_member(plan, 31, 3, 3, 0),
         1,
         0,
     );
     step(
         b"the triangle's second member",
-        records::read_member(plan, 38, 3, 3, 0),
+        reader::read_member(plan, 38, 3, 3, 0),
         1,
         1,
     );
     step(
         b"the triangle's third member",
-        records::read_member(plan, 45, 3, 3, 0),
+        reader::read_member(plan, 45, 3, 3, 0),
         1,
         2,
     );
@@ -58,13 +58,13 @@ pub fn links() {
 pub fn nodes() {
     step(
         b"node 2",
-        records::read_member(b"\x00\x02", 0, 3, 3, 2),
+        reader::read_member(b"\x00\x02", 0, 3, 3, 2),
         0,
         2,
     );
     step(
         b"link 127 after node 63",
-        records::read_member(b"\x00\x3f\x01\x7f", 2, 64, 128, 64),
+        reader::read_member(b"\x00\x3f\x01\x7f", 2, 64, 128, 64),
         1,
         127,
     );
@@ -74,43 +74,43 @@ pub fn nodes() {
 pub fn refused() {
     step(
         b"one byte",
-        records::read_member(b"\x00\x02\x00", 2, 3, 3, 0),
+        reader::read_member(b"\x00\x02\x00", 2, 3, 3, 0),
         2,
         1,
     );
     step(
         b"at the end",
-        records::read_member(b"\x00\x02", 2, 3, 3, 0),
+        reader::read_member(b"\x00\x02", 2, 3, 3, 0),
         2,
         1,
     );
     step(
         b"past the end",
-        records::read_member(b"\x00\x02", 18_446_744_073_709_551_615, 3, 3, 0),
+        reader::read_member(b"\x00\x02", 18_446_744_073_709_551_615, 3, 3, 0),
         2,
         1,
     );
     step(
         b"node 3 of 3",
-        records::read_member(b"\x00\x03", 0, 3, 3, 0),
+        reader::read_member(b"\x00\x03", 0, 3, 3, 0),
         2,
         10,
     );
     step(
         b"link 3 of 3",
-        records::read_member(b"\x01\x03", 0, 64, 3, 0),
+        reader::read_member(b"\x01\x03", 0, 64, 3, 0),
         2,
         10,
     );
     step(
         b"kind 2",
-        records::read_member(b"\x02\x00", 0, 3, 3, 0),
+        reader::read_member(b"\x02\x00", 0, 3, 3, 0),
         2,
         10,
     );
     step(
         b"a member that does not rise",
-        records::read_member(b"\x00\x02", 0, 3, 3, 3),
+        reader::read_member(b"\x00\x02", 0, 3, 3, 3),
         2,
         10,
     );

@@ -10,7 +10,7 @@ use vectors::same;
 
 // Holds the answer of a writing to the number of a refusal, and the output to the pattern.
 fn refused_into(label: &[u8], h: Header, links: &[u8], events: &[u64], out: &mut [u8], want: u64) {
-    match files::write(h, links, events, out) {
+    match writer::write(h, links, events, out) {
         Writing::Refused(number) => {
             same(label, number as u64, want);
         }

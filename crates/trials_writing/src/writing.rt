@@ -27,7 +27,7 @@ pub fn written(label: &[u8], answer: Writing, want: u64) {
 // The triangle of document 01: 20 bytes, 6 for the links and 7 for each event. Three bytes are left over.
 pub fn triangle() {
     let mut out = [BYTE; 50];
-    let answer = files::write(
+    let answer = writer::write(
         header(3, 3, 3, 1, 100),
         b"\x00\x01\x00\x02\x01\x02",
         &[1, 0, 1, 0, 1, 0, 2, 0, 1, 0, 4, 0],
@@ -44,7 +44,7 @@ pub fn triangle() {
 // Node 63, link 127 and both words of the links. Two bytes are left over.
 pub fn large() {
     let mut out = [BYTE; 304];
-    let answer = files::write(
+    let answer = writer::write(
         header(64, 128, 2, 1_000_000_000_000_000_000, 1_000_000),
         &many_links(),
         &large_events(),
@@ -58,7 +58,7 @@ pub fn large() {
 // What stands past a count is not used: links that 7 would refuse, an event that 8 and 10 would refuse, and three words that make no event.
 pub fn past_the_counts() {
     let mut out = [BYTE; 32];
-    let answer = files::write(
+    let answer = writer::write(
         header(2, 1, 1, 1, 100),
         b"\x00\x01\xff\xff\x01",
         &[
@@ -88,7 +88,7 @@ pub fn past_the_counts() {
 // No link and no event, whatever the lists hold, into an output of exactly 20 bytes: t = 0x0102030405060708 and cap = 658,188 = 0x000a0b0c.
 pub fn header_alone() {
     let mut out = [BYTE; 20];
-    let answer = files::write(
+    let answer = writer::write(
         header(64, 0, 0, 72_623_859_790_382_856, 658_188),
         b"\xff\xff",
         &[18_446_744_073_709_551_615, 1, 1, 1],
@@ -115,7 +115,7 @@ pub fn read_then_written() {
     );
     written(
         b"write again what was read",
-        files::write(h, &links, &events, &mut out),
+        writer::write(h, &links, &events, &mut out),
         302,
     );
     same_bytes(b"what was read and written again", &out, &large_file());
@@ -128,7 +128,7 @@ pub fn longest() {
     let mut links = [BYTE; 256];
     let mut events = [WORD; 512];
     let h = header(64, 128, 128, 1, 1);
-    let answer = files::write(h, &many_links(), &full_events(), &mut out);
+    let answer = writer::write(h, &many_links(), &full_events(), &mut out);
     written(b"write the longest plan", answer, 50_068);
     same_bytes(b"past the longest plan", &out[50_068..50_069], b"\xaa");
     accepted(

@@ -4,7 +4,7 @@ use mathlib.Core.Path.{sym, ap, _∙_}
 use native.Mathlib.Omega.{arith}
 use Rattle.refusals.specs.Tests.{roomTest}
 use Rattle.refusals.proofs.OrderLaws.{stop, skip, last}
-use Rattle.files.proofs.WriterAnswer.{lists-counted}
+use Rattle.writer.proofs.WriterAnswer.{lists-counted}
 use Rattle.bounds.specs.Calls.{runRefusal}
 use Rattle.bounds.proofs.calls.run_test.Statement.{statement}
 use Rattle.bounds.proofs.calls.run_test.Tie as tie

@@ -53,7 +53,7 @@ use Rattle.plan.proofs.Header as T
 use Rattle.plan.proofs.Header.Laws as T′
 use Rattle.plan.proofs.Writing as R
 use Rattle.plan.proofs.Writing.Laws as R′
-use Rattle.files.proofs.WriterAnswer.{Outcome}
+use Rattle.writer.proofs.WriterAnswer.{Outcome}
 use Rattle.records.specs.Events.{wordsOf}
 use Rattle.records.specs.declared.Event.{Event}
 use Rattle.records.proofs.EventRow.{E, words-ty, Words}

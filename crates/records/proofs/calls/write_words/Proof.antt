@@ -6,7 +6,7 @@ use Prim.Native.Nat.{ℕ}
 use native.Mathlib.Omega.{arith}
 use borrow.Author.Needs.{needs}
 use Rattle.plan.specs.Records.{planOfLists}
-use Rattle.files.proofs.WriterAnswer.{same-outcome}
+use Rattle.writer.proofs.WriterAnswer.{same-outcome}
 use Rattle.records.proofs.PlanLaws.{copied-links}
 use Rattle.records.proofs.calls.write_words.Statement.{statement}
 use Rattle.records.proofs.calls.write_words.Tie as tie

@@ -65,16 +65,17 @@ use Rattle.bounds.specs.Calls.{runNumber, ranAnswer, totalsOf, totalsIn}
 use Rattle.bounds.specs.declared.Ran.{Ran}
 use Rattle.bounds.proofs.Ran as O
 use Rattle.bounds.proofs.Ran.Laws as O′
-use Rattle.records.specs.Events.{wordsOf, eventRecords, filledRecords}
+use Rattle.records.specs.Events.{wordsOf}
+use Rattle.reader.specs.Filled.{eventRecords, filledRecords}
 use Rattle.records.specs.declared.Event.{Event}
 use Rattle.records.proofs.EventRow.{E, event, event-vals, event-tells, event-lawful}
 use Rattle.records.proofs.Lending.{array-lies, lends-mut, back-mut, Kept, lends-imm, back-imm, says4}
-use Rattle.records.proofs.CopyLaws.{no-links, no-events}
-use Rattle.records.proofs.Arrays.{Bytes′, Events′, links-val, events-val, links-room, events-room, links-own, events-own, row-bytes}
-use Rattle.records.proofs.read_records as reads
-use Rattle.records.proofs.read_records.Symbol as reads-def
-use Rattle.records.proofs.read_records.Symbol.{name as #read-records}
-use Rattle.records.proofs.read_records.Met as reads-thm
+use Rattle.reader.proofs.CopyLaws.{no-links, no-events}
+use Rattle.reader.proofs.Arrays.{Bytes′, Events′, links-val, events-val, links-room, events-room, links-own, events-own, row-bytes}
+use Rattle.reader.proofs.read_records as reads
+use Rattle.reader.proofs.read_records.Symbol as reads-def
+use Rattle.reader.proofs.read_records.Symbol.{name as #read-records}
+use Rattle.reader.proofs.read_records.Met as reads-thm
 use Rattle.runs.specs.Running.{fileNumber, fileAnswer}
 use Rattle.runs.proofs.FileLaws.{Told, ran-plan}
 use Rattle.runs.proofs.run_records as runs
@@ -330,7 +331,7 @@ run-plan-spec 𝓤 H 𝓜 𝓖 𝓡 =
     entered 𝓤 H (tripleOf 𝓤 H (𝓖 .A) plans.signature (plans.spec 𝓤 H (𝓖 .A) (𝓜 .mem) (𝓡 .run)))
     (tables 𝓤 H 𝓜 𝓡 code.env .C) (tables 𝓤 H 𝓜 𝓡 code.env .Λ) #run-plan code.function (code.unfolded 𝓤 H 𝓜 𝓡)
     (plan-meets 𝓤 H (𝓖 .A) (givenOf 𝓤 H 𝓜 𝓖) (𝓜 .mem) (𝓡 .run) (tablesOf 𝓤 H 𝓜 (tables 𝓤 H 𝓜 𝓡 code.env))
-    (cited 𝓤 H (Reads 𝓤 H (𝓖 .A) (𝓜 .mem) (𝓡 .run)) 𝓜 𝓡 code.env #read-records reads-def.routine code.calls-records·read-records (reads-thm.met 𝓤 H 𝓜 𝓖 𝓡))
+    (cited 𝓤 H (Reads 𝓤 H (𝓖 .A) (𝓜 .mem) (𝓡 .run)) 𝓜 𝓡 code.env #read-records reads-def.routine code.calls-reader·read-records (reads-thm.met 𝓤 H 𝓜 𝓖 𝓡))
     (cited 𝓤 H (HeaderIn 𝓤 H (𝓖 .A) (𝓜 .mem) (𝓡 .run)) 𝓜 𝓡 code.env #head head-def.routine code.calls-files·header-in (head-thm.met 𝓤 H 𝓜 𝓖 𝓡))
     (cited 𝓤 H (RunRecords 𝓤 H (𝓖 .A) (𝓜 .mem) (𝓡 .run)) 𝓜 𝓡 code.env #run-records runs-def.routine code.calls-runs·run-records (runs-thm.met 𝓤 H 𝓜 𝓖 𝓡))
     (cited 𝓤 H (AnswerOf 𝓤 H (𝓖 .A) (𝓜 .mem) (𝓡 .run)) 𝓜 𝓡 code.env #answer-of answer-of-def.routine code.calls-runs·running·answer-of (answer-of-thm.met 𝓤 H 𝓜 𝓖 𝓡)))

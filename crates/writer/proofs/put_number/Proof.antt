@@ -1,0 +1,67 @@
+-- `writer::put_number` meets its contract: what is left, laid down from the position on, makes the whole. Assumes nothing.
+use mathlib.Core.Path.{_≡_, refl, _∙_}
+use Prim.Native.Nat.{_+_}
+use native.Mathlib.Omega.{arith}
+use lib.ListN.{length, length-set}
+use lib.Seq.{sets}
+use Rattle.plan.specs.Layout.{little}
+use Rattle.writer.proofs.WriterLaws.{number-next, number-end}
+use Rattle.writer.proofs.put_number.Statement.{statement}
+use Rattle.writer.proofs.put_number.Tie as tie
+
+abbrev Inv-loop : tie.InvT-loop
+Inv-loop out₀ at width x i₀ left₀ rest₀ out i left rest =
+    (i + left ≡ at + width) × ((length out ≡ length out₀) × (sets out i (little left rest) ≡ sets out₀ at (little width x)))
+
+abbrev μ-loop : tie.MeasureT-loop
+μ-loop out₀ at width x i₀ left₀ rest₀ out i left rest = left
+
+loop-holds : tie.Need-loop-holds Inv-loop μ-loop
+loop-holds c = (refl, (refl, refl))
+
+cast-out : tie.Need-cast-out Inv-loop μ-loop
+cast-out c = omega arith
+
+slice-write-out : tie.Need-slice-write-out Inv-loop μ-loop
+slice-write-out c = omega arith
+
+add-i : tie.Need-add-i Inv-loop μ-loop
+add-i c = omega arith
+
+sub-left : tie.Need-sub-left Inv-loop μ-loop
+sub-left c = omega arith
+
+loop-less : tie.Need-loop-less Inv-loop μ-loop
+loop-less c = omega arith
+
+loop-again : tie.Need-loop-again Inv-loop μ-loop
+loop-again c = (
+  omega arith,
+  (
+    simp length-set (c .before .loop .inv .1 .0),
+    number-next _ _ _ _ (c .loop-test .taken) ∙ c .before .loop .inv .1 .1,
+  ),
+)
+
+same-length : tie.Need-same-length Inv-loop μ-loop
+same-length c = c .before .loop .inv .1 .0
+
+returns : tie.Need-returns Inv-loop μ-loop
+returns c =
+    number-end _ _ _ _ (c .loop-test .left) ∙ c .before .loop .inv .1 .1
+
+pub put-number-spec : {M : Type 1} → statement M
+put-number-spec =
+    tie.close
+    (tie.spec
+    Inv-loop
+    μ-loop
+    loop-holds
+    cast-out
+    slice-write-out
+    add-i
+    sub-left
+    loop-less
+    loop-again
+    same-length
+    returns)

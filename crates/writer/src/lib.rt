@@ -1,0 +1,217 @@
+// Writing a plan file from a header and lent lists: document 01, section "Plan file". All tests are made before the first byte is laid down, so
+// that a refusal changes nothing.
+// Assumes nothing.
+use plan::Header;
+use plan::Writing;
+use lent::lists_refusal;
+use lent::load;
+use lent::put_bytes;
+use refusals::room_test;
+ghost use mathlib.Core.Path.{_≡_};
+ghost use mathlib.Core.List.{[], _∷_, _++_};
+ghost use Prim.Native.Nat.{_+_, _*_, _/_, _≤_, min};
+ghost use lib.ListN.{length};
+ghost use lib.Seq.{sets};
+ghost use Rattle.sets.specs.Sets.{joined};
+ghost use Rattle.plan.specs.Lists.{eventOf, eventsOf};
+ghost use Rattle.plan.specs.Layout.{little, elements, memberBytes, eventBytes, layout};
+ghost use Rattle.plan.specs.Records.{planOfLists};
+ghost use Rattle.plan.specs.Calls.{filled, writeRefusal, writeAnswer};
+
+// How many elements a set of one word has.
+fn count_elements(set: u64) -> u64
+    ensures { λ r. ⌜ (r ≡ length (elements 64 0 set)) × (r ≤ 64) ⌝ }
+{
+    let mut left: u64 = 64;
+    let mut rest = set;
+    let mut count = 0;
+    while 0 < left {
+        count += rest % 2;
+        rest = rest / 2;
+        left -= 1;
+    }
+    count
+}
+
+// How many members an event has.
+fn member_count(nodes: u64, low: u64, high: u64) -> u64
+    ensures { λ r. ⌜ (r ≡ length (elements 64 0 nodes) + length (elements 128 0 (joined low high))) × (r ≤ 192) ⌝ }
+{
+    count_elements(nodes) + count_elements(low) + count_elements(high)
+}
+
+// How many bytes events take.
+fn events_size(words: &[u64], count: u64) -> usize
+    requires { ⌜ (count ≤ 128) × (4 * count ≤ length (now words)) ⌝ }
+    ensures { λ r. ⌜ r ≡ length (eventBytes (eventsOf count (now (words .entry)))) ⌝ }
+{
+    let mut at = 0;
+    let mut left = count;
+    let mut size = 0;
+    while 0 < left {
+        let members = member_count(words[at + 1], words[at + 2], words[at + 3]);
+        size += 5 + 2 * (members as usize);
+        at += 4;
+        left -= 1;
+    }
+    size
+}
+
+// Lays down a number in `width` bytes, the lowest byte first.
+pub fn put_number(out: &mut [u8], at: usize, width: usize, x: u64)
+    requires { ⌜ at + width ≤ length (now out) ⌝ }
+    ensures { λ r. ⌜ now (out .exit) ≡ sets (now (out .entry)) at (little width x) ⌝ }
+{
+    let mut i = at;
+    let mut left = width;
+    let mut rest = x;
+    while 0 < left {
+        out[i] = (rest % 256) as u8;
+        rest = rest / 256;
+        i += 1;
+        left -= 1;
+    }
+}
+
+// Lays down the member whose bit is the lowest of a set, if it is there, and says where the next one goes.
+fn put_member(out: &mut [u8], at: usize, kind: u8, number: u8, set: u64) -> usize
+    requires { ⌜ at + 2 * length (elements 1 number set) ≤ length (now out) ⌝ }
+    ensures { λ r. ⌜ (now (out .exit) ≡ sets (now (out .entry)) at (memberBytes kind (elements 1 number set)))
+        × (r ≡ at + 2 * length (elements 1 number set)) ⌝ }
+{
+    if set % 2 == 0 {
+        return at;
+    }
+    out[at] = kind;
+    out[at + 1] = number;
+    at + 2
+}
+
+// Lays down the members of a set of one word, whose lowest bit stands for `first`, and says where the next one goes.
+fn put_members(out: &mut [u8], at: usize, kind: u8, first: u8, set: u64) -> usize
+    requires { ⌜ (first ≤ 64) × (at + 2 * length (elements 64 first set) ≤ length (now out)) ⌝ }
+    ensures { λ r. ⌜ (now (out .exit) ≡ sets (now (out .entry)) at (memberBytes kind (elements 64 first set)))
+        × (r ≡ at + 2 * length (elements 64 first set)) ⌝ }
+{
+    let mut i = at;
+    let mut left: u64 = 64;
+    let mut number = first;
+    let mut rest = set;
+    while 0 < left {
+        i = put_member(out, i, kind, number, rest);
+        number += 1;
+        rest = rest / 2;
+        left -= 1;
+    }
+    i
+}
+
+// Lays down an event, and says where the next one goes.
+fn put_event(out: &mut [u8], at: usize, q: u64, nodes: u64, low: u64, high: u64) -> usize
+    requires { ⌜ at + length (eventBytes (eventOf q nodes low high ∷ [])) ≤ length (now out) ⌝ }
+    ensures { λ r. ⌜ (now (out .exit) ≡ sets (now (out .entry)) at (eventBytes (eventOf q nodes low high ∷ [])))
+        × (r ≡ at + length (eventBytes (eventOf q nodes low high ∷ []))) ⌝ }
+{
+    put_number(out, at, 4, q);
+    put_number(out, at + 4, 1, member_count(nodes, low, high));
+    let a = put_members(out, at + 5, 0, 0, nodes);
+    let b = put_members(out, a, 1, 0, low);
+    put_members(out, b, 1, 64, high)
+}
+
+// Lays down all events.
+fn put_events(out: &mut [u8], start: usize, words: &[u64], count: u64)
+    requires { ⌜ ((count ≤ 128) × (4 * count ≤ length (now words)))
+        × (start + length (eventBytes (eventsOf count (now words))) ≤ length (now out)) ⌝ }
+    ensures { λ r. ⌜ now (out .exit) ≡ sets (now (out .entry)) start (eventBytes (eventsOf count (now (words .entry)))) ⌝ }
+{
+    let mut i = start;
+    let mut at = 0;
+    let mut left = count;
+    while 0 < left {
+        i = put_event(
+            out,
+            i,
+            words[at],
+            words[at + 1],
+            words[at + 2],
+            words[at + 3],
+        );
+        at += 4;
+        left -= 1;
+    }
+}
+
+// Lays down the header: the mark, the version, the counts, the threshold and the cap.
+fn put_header(out: &mut [u8], h: Header)
+    requires { ⌜ (20 ≤ length (now out)) × ((h .nodes ≤ 64) × ((h .links ≤ 128) × (h .events ≤ 128))) ⌝ }
+    ensures { λ r. ⌜ now (out .exit) ≡ sets (now (out .entry)) 0
+        (82 ∷ 83 ∷ 71 ∷ (little 2 1 ++ (h .nodes ∷ h .links ∷ h .events ∷ (little 8 (h .threshold) ++ little 4 (h .limit))))) ⌝ }
+{
+    out[0] = b'R';
+    out[1] = b'S';
+    out[2] = b'G';
+    put_number(out, 3, 2, 1);
+    out[5] = h.nodes as u8;
+    out[6] = h.links as u8;
+    out[7] = h.events as u8;
+    put_number(out, 8, 8, h.threshold);
+    put_number(out, 16, 4, h.limit);
+}
+
+// Lays down the file of a plan that no test refuses.
+fn put_plan(h: Header, links: &[u8], words: &[u64], out: &mut [u8])
+    requires { ⌜ (h .nodes ≤ 64) × ((h .links ≤ 128) × (h .events ≤ 128)) ⌝ }
+    requires { ⌜ (2 * h .links ≤ length (now links)) × (4 * h .events ≤ length (now words)) ⌝ }
+    requires { ⌜ length (layout (planOfLists h (now links) (now words))) ≤ length (now out) ⌝ }
+    ensures { λ r. ⌜ now (out .exit) ≡ sets (now (out .entry)) 0 (layout (planOfLists h (now (links .entry)) (now (words .entry)))) ⌝ }
+{
+    let count = 2 * (h.links as usize);
+    put_header(out, h);
+    put_bytes(links, out, 20, count);
+    put_events(out, 20 + count, words, h.events);
+}
+
+// Writes a plan: all tests, then its bytes. The lists stand in the arrays; they had room for `link_room` bytes and `event_room` whole events.
+pub fn write_core(
+    h: Header,
+    link_room: usize,
+    event_room: usize,
+    links: &[u8; 256],
+    words: &[u64; 512],
+    out: &mut [u8],
+) -> Writing
+    ensures { λ r. ⌜ r ≡ writeAnswer
+        (writeRefusal h «link_room» «event_room» (now (links .entry)) (now (words .entry)) (length (now (out .entry))))
+        (length (layout (planOfLists h (now (links .entry)) (now (words .entry))))) ⌝ }
+    ensures { λ r. ⌜ now (out .exit) ≡ filled
+        (writeRefusal h «link_room» «event_room» (now (links .entry)) (now (words .entry)) (length (now (out .entry))))
+        (layout (planOfLists h (now (links .entry)) (now (words .entry)))) (now (out .entry)) ⌝ }
+{
+    let number = lists_refusal(h, link_room, event_room, links, words);
+    if number != 0 {
+        return Writing::Refused(number);
+    }
+    let size = 20 + 2 * (h.links as usize) + events_size(words, h.events);
+    let short = room_test(out.len(), size);
+    if short != 0 {
+        return Writing::Refused(short);
+    }
+    put_plan(h, links, words, out);
+    Writing::Written(size)
+}
+
+// Writes a plan from lent lists: links two bytes each, events four words each.
+pub fn write(h: Header, links: &[u8], events: &[u64], out: &mut [u8]) -> Writing
+    ensures { λ r. ⌜ r ≡ writeAnswer
+        (writeRefusal h (length (now (links .entry))) (length (now (events .entry)) / 4) (now (links .entry)) (now (events .entry)) (length (now (out .entry))))
+        (length (layout (planOfLists h (now (links .entry)) (now (events .entry))))) ⌝ }
+    ensures { λ r. ⌜ now (out .exit) ≡ filled
+        (writeRefusal h (length (now (links .entry))) (length (now (events .entry)) / 4) (now (links .entry)) (now (events .entry)) (length (now (out .entry))))
+        (layout (planOfLists h (now (links .entry)) (now (events .entry)))) (now (out .entry)) ⌝ }
+{
+    let mut bytes = [0u8; 256];
+    let mut words = [0u64; 512];
+    load(links, events, &mut bytes, &mut words);
+    write_core(h, links.len(), events.len() / 4, &bytes, &words, out)
+}
