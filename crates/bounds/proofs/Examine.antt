@@ -28,12 +28,12 @@ use Rattle.topology.proofs.Shown.{nodes-shown, joining, step-link, link-step}
 use Rattle.walk.specs.Scenario.{Scenario, number, scenarioOf, number-scenario}
 use Rattle.walk.specs.Ends.{End, relevant, dropped}
 use Rattle.walk.specs.Stack.{endOf}
-use Rattle.bounds.specs.Pairs.{place, pairCount}
-use Rattle.bounds.specs.PairLaws.{unplace}
+use Rattle.pairs.specs.Pairs.{place, pairCount}
+use Rattle.pairs.proofs.PairLaws.{unplace}
 use Rattle.bounds.specs.Bounds.{intact, cuts}
-use Rattle.bounds.specs.Adding.{Joined, AddingCut, AddedCut}
+use Rattle.pairs.specs.Adding.{Joined, AddingCut, AddedCut}
 use Rattle.bounds.specs.Tallied.{Held, Sums, Examined}
-use Rattle.bounds.proofs.Row.{at-most}
+use Rattle.pairs.proofs.Row.{at-most}
 
 module _ (h : Header) (links words : List ℕ) (mass : ℕ) (lower : List ℕ) (failed : Failed) (nodes : ℕ) (rows : List ℕ)
     (up : (v : ℕ) → bit nodes v ≡ (ltb v (h .nodes) && not (bit (failed .nodes) v)))

@@ -1,7 +1,4 @@
 -- Laws that the proofs of the crate `bounds` share.
-pub mod Row
-pub mod Rows
-pub mod Cut
 pub mod Examine
 pub mod Turn
 pub mod Root

@@ -16,7 +16,7 @@ use Rattle.lent.proofs.CopyLaws.{byteCopy, wordCopy, copies-refused, copies-den
 use Rattle.layout.proofs.ListTheorems.{lists-denote}
 use Rattle.writer.proofs.WriterAnswer.{lists-counted}
 use Rattle.walk.specs.Walk.{massExamined, count}
-use Rattle.bounds.specs.Pairs.{pairCount}
+use Rattle.pairs.specs.Pairs.{pairCount}
 use Rattle.bounds.specs.Bounds.{lowerList, upperList, Encloses, EnclosesAll}
 use Rattle.bounds.specs.Calls.{runRefusal, runNumber, ranAnswer, totalsOf, totalsIn, pairRefusal, pairNumber, pairAnswer, boundsOf, boundsIn, Summed, Giving}
 use Rattle.bounds.specs.declared.Totals.{Totals}

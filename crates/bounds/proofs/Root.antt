@@ -22,7 +22,7 @@ use Rattle.walk.specs.Laws.{masses-le}
 use Rattle.walk.specs.Walk.{planEnds, firstEnds, count-sum}
 use Rattle.walk.specs.Stack.{Begun, Stack, Entries, entry, branches, toCome}
 use Rattle.walk.proofs.Resume.{begun-stack, begun-whole, root-entry, none-to-come, complete-none, complete-some}
-use Rattle.bounds.specs.Pairs.{place}
+use Rattle.pairs.specs.Pairs.{place}
 use Rattle.bounds.specs.Bounds.{cuts, lowerOf}
 use Rattle.bounds.specs.Tallied.{Held, coming, Ready, Tallied}
 use Rattle.bounds.specs.Calls.{totalsOf, Summed, Cleared}

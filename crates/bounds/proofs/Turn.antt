@@ -16,11 +16,11 @@ use Rattle.walk.specs.Ends.{End, sumEnds, weighed, valueOf, sumEnds-first}
 use Rattle.walk.specs.Stack.{Stack, Stepped, nextEnd}
 use Rattle.walk.specs.declared.Next.{Next}
 use Rattle.walk.proofs.Resume.{step-sum, step-drop, value-mass, value-one, none-to-come}
-use Rattle.bounds.specs.Pairs.{place}
+use Rattle.pairs.specs.Pairs.{place}
 use Rattle.bounds.specs.Bounds.{cuts}
 use Rattle.bounds.specs.Tallied.{Held, Sums, Examined, coming, Ready, Tallied}
 use Rattle.bounds.specs.declared.Tally.{Tally}
-use Rattle.bounds.proofs.Row.{at-most}
+use Rattle.pairs.proofs.Row.{at-most}
 
 -- in the loop: what is left from here on gives what the whole was to give
 pub record Turn (h : Header) (links words : List ℕ) (at₀ : ℕ) (stack₀ lower₀ : List ℕ) (number₀ mass₀ k : ℕ) (stack lower : List ℕ) (at number mass left : ℕ)

@@ -12,7 +12,7 @@ use Rattle.walk.specs.Scenario.{Scenario, number}
 use Rattle.walk.specs.Walk.{count}
 use Rattle.sums.specs.Exact.{exactCut, exactMissed}
 use Rattle.sums.specs.Bounds.{lower, upper, Demand3}
-use Rattle.bounds.specs.Pairs.{table, place}
+use Rattle.pairs.specs.Pairs.{table, place}
 
 -- nothing has failed before the first event
 abbrev pub intact : Outage

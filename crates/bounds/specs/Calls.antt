@@ -2,19 +2,17 @@
 -- For each case of an answer, `ranAnswer` and `pairAnswer` say which number and values it stands for.
 -- Assumes nothing.
 use mathlib.Core.Path.{_≡_}
-use mathlib.Core.Bool.{_||_}
 use mathlib.Core.List.{List, [], _∷_}
 use Prim.Native.Nat.{ℕ, zero, suc, _/_, _<_, _≤_}
-use lib.Dec.{leb}
 use lib.ListN.{length, getD}
-use Rattle.mass.specs.Refusal.{refuse, first}
+use Rattle.mass.specs.Refusal.{first}
 use Rattle.mass.specs.Split.{whole}
 use Rattle.plan.specs.Plan.{Plan}
 use Rattle.refusals.specs.Tests.{roomTest}
 use Rattle.plan.specs.Records.{listsRefusal, planOfLists}
 use Rattle.plan.specs.declared.Header.{Header}
 use Rattle.walk.specs.Walk.{count, complete, massExamined}
-use Rattle.bounds.specs.Pairs.{place, pairCount}
+use Rattle.pairs.specs.Pairs.{place, pairCount, pairTest}
 use Rattle.bounds.specs.Bounds.{lowerOf, upperOf}
 use Rattle.bounds.specs.declared.Totals.{Totals}
 use Rattle.bounds.specs.declared.Ran.{Ran}
@@ -49,10 +47,6 @@ ranAnswer (suc number) totals = ran.Refused (suc number)
 abbrev pub totalsIn : Ran → Totals
 totalsIn (ran.Refused number) = record { count = 0; complete = 0; mass = 0 }
 totalsIn (ran.Done totals) = totals
-
--- 13: a pair without v < w < N
-abbrev pub pairTest : ℕ → ℕ → ℕ → ℕ
-pairTest nodes v w = refuse (leb w v || leb nodes w) 13
 
 -- the bounds of one pair: the lists' tests, then 13
 unfoldable pub pairRefusal : Header → ℕ → ℕ → List ℕ → List ℕ → ℕ → ℕ → ℕ

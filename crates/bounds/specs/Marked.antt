@@ -12,7 +12,7 @@ use Rattle.topology.specs.Topology.{nodeWorks, linkWorks, joins, adjacent}
 use Rattle.topology.specs.Paths.{via, disconnected}
 use Rattle.walk.specs.Ends.{ends}
 use Rattle.walk.specs.Walk.{count, complete, massExamined}
-use Rattle.bounds.specs.Pairs.{row, rows, table}
+use Rattle.pairs.specs.Pairs.{row, rows, table}
 use Rattle.bounds.specs.Bounds.{lowerList, upperList}
 
 -- the link 0-1, an event on it, and the plans of two nodes

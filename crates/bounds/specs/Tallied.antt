@@ -15,7 +15,7 @@ use Rattle.walk.specs.Scenario.{Scenario, Probabilities, scenarioOf}
 use Rattle.walk.specs.Ends.{End, sumEnds, valueOf, weighed}
 use Rattle.walk.specs.Stack.{Stack, toCome, nextEnd}
 use Rattle.walk.specs.declared.Next.{Next}
-use Rattle.bounds.specs.Pairs.{place}
+use Rattle.pairs.specs.Pairs.{place}
 use Rattle.bounds.specs.Bounds.{cuts}
 use Rattle.bounds.specs.declared.Tally.{Tally}
 

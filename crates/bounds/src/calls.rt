@@ -2,9 +2,9 @@
 use crate::PairBounds;
 use crate::Paired;
 use crate::Ran;
-use crate::places::pair_test;
-use crate::places::start_of;
 use crate::whole::walk_all;
+use pairs::pair_test;
+use pairs::start_of;
 use plan::Header;
 ghost use mathlib.Core.Path.{_≡_};
 ghost use mathlib.Core.List.{map};
@@ -15,7 +15,7 @@ ghost use Rattle.mass.specs.Split.{whole};
 ghost use Rattle.plan.specs.Records.{planOfLists};
 ghost use Rattle.plan.specs.Calls.{filled};
 ghost use Rattle.walk.specs.Walk.{count};
-ghost use Rattle.bounds.specs.Pairs.{place, pairCount};
+ghost use Rattle.pairs.specs.Pairs.{place, pairCount};
 ghost use Rattle.bounds.specs.Bounds.{lowerList, upperList, Encloses, EnclosesAll};
 ghost use Rattle.bounds.specs.Calls.{runRefusal, totalsOf, ranAnswer, totalsIn, runNumber, pairRefusal, boundsOf, pairAnswer, boundsIn, pairNumber, Summed, Cleared, Giving};
 

@@ -1,6 +1,6 @@
 // The loop of the run over the ends of the walk.
 use crate::Tally;
-use crate::add::add_cut;
+use pairs::add_cut;
 use plan::Header;
 use topology::Failed;
 use topology::Firsts;

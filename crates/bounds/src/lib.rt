@@ -1,9 +1,7 @@
 // The run over all pairs and the bounds of one pair: document 01, section "Bounds of a pair".
 // Assumes nothing.
-mod add;
 mod calls;
 mod ends;
-mod places;
 mod whole;
 
 pub use calls::pair;
@@ -11,8 +9,6 @@ pub use calls::pair_core;
 pub use calls::run;
 pub use calls::run_core;
 pub use ends::go_on;
-pub use places::pair_test;
-pub use places::start_of;
 pub use whole::walk_all;
 
 // Where the stack of the walk begins, how many scenarios are examined so far, and their mass.

@@ -16,7 +16,7 @@ use Rattle.walk.specs.Ends.{End, scenarios}
 use Rattle.walk.specs.Walk.{examined}
 use Rattle.walk.specs.Stack.{Begun}
 use Rattle.walk.proofs.Resume.{begun-stack, begun-whole, root-entry}
-use Rattle.bounds.specs.Calls.{pairTest}
+use Rattle.pairs.specs.Pairs.{pairTest}
 use Rattle.bounds.specs.Tallied.{Held, coming}
 use Rattle.readings.specs.Witness.{noneTest, witnessRefusal, witnessNumber, witnessAnswer, failingIn, Shows, Answers, Seeking}
 use Rattle.readings.specs.declared.Witnessed.{Witnessed}

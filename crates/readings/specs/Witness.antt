@@ -17,7 +17,7 @@ use Rattle.walk.specs.Walk.{examined}
 use Rattle.walk.specs.Stack.{Stack}
 use Rattle.walk.specs.declared.Failing.{Failing}
 use Rattle.bounds.specs.Bounds.{cuts}
-use Rattle.bounds.specs.Calls.{pairTest}
+use Rattle.pairs.specs.Pairs.{pairTest}
 use Rattle.bounds.specs.Tallied.{Held}
 use Rattle.readings.specs.declared.Witnessed.{Witnessed}
 use Rattle.readings.specs.declared.Witnessed.the-variants as witnessed

@@ -109,7 +109,7 @@ fn witness_core(
     if lists != 0 {
         return Witnessed::Refused(lists);
     }
-    let wrong = bounds::pair_test(h.nodes, v, w);
+    let wrong = pairs::pair_test(h.nodes, v, w);
     if wrong != 0 {
         return Witnessed::Refused(wrong);
     }

@@ -8,7 +8,7 @@ use Rattle.refusals.specs.Tests.{roomTest}
 use Rattle.plan.specs.File.{refusal, nodesIn}
 use Rattle.plan.specs.declared.Reading.{Reading}
 use Rattle.plan.specs.declared.Reading.the-variants as reading
-use Rattle.bounds.specs.Pairs.{pairCount}
+use Rattle.pairs.specs.Pairs.{pairCount}
 use Rattle.bounds.specs.declared.Ran.{Ran}
 use Rattle.bounds.specs.declared.Ran.the-variants as ran
 

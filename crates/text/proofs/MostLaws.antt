@@ -24,8 +24,8 @@ use Rattle.walk.specs.Walk.{count, complete, massExamined, planEnds}
 use Rattle.walk.specs.Laws.{massExamined-le, count-le}
 use Rattle.walk.specs.Valid.{plan-probable}
 use Rattle.sums.specs.Bounds.{upper-le, lower-upper}
-use Rattle.bounds.specs.Pairs.{start}
-use Rattle.bounds.specs.PairLaws.{start-suc, start-zero, pairs-most}
+use Rattle.pairs.specs.Pairs.{start}
+use Rattle.pairs.proofs.PairLaws.{start-suc, start-zero, pairs-most}
 use Rattle.bounds.specs.Bounds.{cuts, lowerOf, upperOf}
 use Rattle.input.proofs.LoadedLaws.{bytes-each}
 use Rattle.text.specs.Decimal.{decimal-most}

@@ -8,8 +8,8 @@ use native.Mathlib.Omega.{arith}
 use lib.ListN.{length, getD, length-append}
 use lib.Seq.{sets}
 use Rattle.lent.proofs.ListLaws.{sets-then}
-use Rattle.bounds.specs.Pairs.{place, start}
-use Rattle.bounds.specs.PairLaws.{place-is, place-lt, pairs-most}
+use Rattle.pairs.specs.Pairs.{place, start}
+use Rattle.pairs.proofs.PairLaws.{place-is, place-lt, pairs-most}
 use Rattle.text.specs.Listing.{line, rowText, rowsText, pairsText}
 use Rattle.text.specs.Sums.{sumLine}
 use Rattle.text.proofs.FieldLaws.{Laid}

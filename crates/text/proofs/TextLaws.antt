@@ -18,7 +18,7 @@ use Rattle.plan.specs.declared.Reading.the-variants as reading
 use Rattle.layout.proofs.ListTheorems.{length-links-of, length-events-of}
 use Rattle.files.proofs.ReaderLawsAnswer.{take-sets}
 use Rattle.walk.specs.Walk.{count, complete, massExamined}
-use Rattle.bounds.specs.Pairs.{place}
+use Rattle.pairs.specs.Pairs.{place}
 use Rattle.bounds.specs.Bounds.{lowerOf}
 use Rattle.bounds.specs.Calls.{totalsOf, Summed, Giving}
 use Rattle.bounds.specs.declared.Totals.{Totals}

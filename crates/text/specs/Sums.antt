@@ -6,7 +6,7 @@ use Prim.Native.Nat.{ℕ, _+_, _-_, _^_, _<_, _≤_}
 use lib.ListN.{length, getD}
 use Rattle.mass.specs.Split.{whole}
 use Rattle.plan.specs.declared.Header.{Header}
-use Rattle.bounds.specs.Pairs.{place}
+use Rattle.pairs.specs.Pairs.{place}
 use Rattle.bounds.specs.declared.Totals.{Totals}
 use Rattle.text.specs.Listing.{line, pairsText}
 

@@ -25,7 +25,7 @@ pub fn put_row(
     ensures { λ r. ⌜ (now (out .exit) ≡ sets (now (out .entry)) at (rowText (sumLine n rest (now (sums .entry))) v (v + 1) (n - (v + 1))))
         × (r ≡ at + length (rowText (sumLine n rest (now (sums .entry))) v (v + 1) (n - (v + 1)))) ⌝ }
 {
-    let mut place = bounds::start_of(n, v);
+    let mut place = pairs::start_of(n, v);
     let mut i = at;
     let mut w = v + 1;
     while w < n {

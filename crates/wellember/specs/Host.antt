@@ -8,7 +8,7 @@ use Rattle.mass.specs.Refusal.{first}
 use Rattle.plan.specs.Layout.{little, value}
 use Rattle.refusals.specs.Tests.{roomTest}
 use Rattle.plan.specs.File.{refusal, nodesIn}
-use Rattle.bounds.specs.Calls.{pairTest}
+use Rattle.pairs.specs.Pairs.{pairTest}
 
 -- the bounds of one pair of a file: 1 to 11 of the file, then 12 where the buffer has fewer than 16 bytes, then 13
 unfoldable pub hostRefusal : List ℕ → ℕ → ℕ → ℕ → ℕ

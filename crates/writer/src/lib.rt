@@ -1,11 +1,11 @@
 // Writing a plan file from a header and lent lists: document 01, section "Plan file". All tests are made before the first byte is laid down, so
 // that a refusal changes nothing.
 // Assumes nothing.
-use plan::Header;
-use plan::Writing;
 use lent::lists_refusal;
 use lent::load;
 use lent::put_bytes;
+use plan::Header;
+use plan::Writing;
 use refusals::room_test;
 ghost use mathlib.Core.Path.{_≡_};
 ghost use mathlib.Core.List.{[], _∷_, _++_};

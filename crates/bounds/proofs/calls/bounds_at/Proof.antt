@@ -9,7 +9,7 @@ use Rattle.bounds.proofs.calls.bounds_at.Statement.{statement}
 use Rattle.bounds.proofs.calls.bounds_at.Tie as tie
 use Rattle.bounds.proofs.calls.bounds_at.Reads as reads
 use Rattle.bounds.proofs.calls.bounds_at.Lts as lts
-use Rattle.bounds.proofs.places.start_of.Reads as start-of-reads
+use Rattle.pairs.proofs.start_of.Reads as start-of-reads
 
 -- src/calls.rt:146:14
 start-of-requires : tie.Need-start-of-requires

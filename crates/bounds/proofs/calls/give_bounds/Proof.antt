@@ -6,13 +6,13 @@ use native.Mathlib.Omega.{arith}
 use lib.ListN.{take}
 use lib.Seq.{sets}
 use Rattle.mass.specs.Split.{whole}
-use Rattle.bounds.specs.PairLaws.{pairs-most}
+use Rattle.pairs.proofs.PairLaws.{pairs-most}
 use Rattle.bounds.proofs.calls.give_bounds.Statement.{statement}
 use Rattle.bounds.proofs.calls.give_bounds.Tie as tie
 use Rattle.bounds.proofs.calls.give_bounds.Reads as reads
 use Rattle.bounds.proofs.calls.give_bounds.Lts as lts
 use Rattle.bounds.proofs.calls.copy_raised.Reads as copy-raised-reads
-use Rattle.bounds.proofs.places.start_of.Reads as start-of-reads
+use Rattle.pairs.proofs.start_of.Reads as start-of-reads
 use Rattle.lent.proofs.copy_words.Reads as copy-words-reads
 
 -- src/calls.rt:100:9

@@ -2,7 +2,7 @@
 use mathlib.Core.Path.{sym, ap, _∙_}
 use native.Mathlib.Omega.{arith}
 use Rattle.layout.proofs.ListTheorems.{lists-denote}
-use Rattle.bounds.specs.PairLaws.{pairs-most}
+use Rattle.pairs.proofs.PairLaws.{pairs-most}
 use Rattle.bounds.specs.declared.Totals.{Totals}
 use Rattle.bounds.proofs.Accepted.{lists-held, limit-most}
 use Rattle.bounds.proofs.Raised.{cleared}
@@ -12,7 +12,7 @@ use Rattle.bounds.proofs.calls.pair_core.Tie as tie
 use Rattle.bounds.proofs.calls.pair_core.Reads as reads
 use Rattle.bounds.proofs.calls.pair_core.Lts as lts
 use Rattle.bounds.proofs.calls.bounds_at.Reads as bounds-at-reads
-use Rattle.bounds.proofs.places.pair_test.Reads as pair-test-reads
+use Rattle.pairs.proofs.pair_test.Reads as pair-test-reads
 use Rattle.bounds.proofs.whole.walk_all.Reads as walk-all-reads
 use Rattle.lent.proofs.lists_refusal.Reads as lists-refusal-reads
 

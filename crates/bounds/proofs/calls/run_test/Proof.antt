@@ -10,7 +10,7 @@ use Rattle.bounds.proofs.calls.run_test.Statement.{statement}
 use Rattle.bounds.proofs.calls.run_test.Tie as tie
 use Rattle.bounds.proofs.calls.run_test.Reads as reads
 use Rattle.bounds.proofs.calls.run_test.Lts as lts
-use Rattle.bounds.proofs.places.start_of.Reads as start-of-reads
+use Rattle.pairs.proofs.start_of.Reads as start-of-reads
 use Rattle.lent.proofs.lists_refusal.Reads as lists-refusal-reads
 use Rattle.refusals.proofs.room_test.Reads as room-test-reads
 

@@ -9,7 +9,7 @@ use Rattle.readings.proofs.search.witness_core.Statement.{statement}
 use Rattle.readings.proofs.search.witness_core.Tie as tie
 use Rattle.readings.proofs.search.witness_core.Reads as reads
 use Rattle.readings.proofs.search.witness_core.Lts as lts
-use Rattle.bounds.proofs.pair_test.Reads as pair-test-reads
+use Rattle.pairs.proofs.pair_test.Reads as pair-test-reads
 use Rattle.lent.proofs.lists_refusal.Reads as lists-refusal-reads
 use Rattle.readings.proofs.search.search_all.Reads as search-all-reads
 

@@ -2,7 +2,7 @@
 use mathlib.Core.Path.{ap}
 use native.Mathlib.Omega.{arith}
 use Rattle.layout.proofs.ListTheorems.{lists-denote}
-use Rattle.bounds.specs.PairLaws.{pairs-most}
+use Rattle.pairs.proofs.PairLaws.{pairs-most}
 use Rattle.bounds.specs.declared.Totals.{Totals}
 use Rattle.bounds.proofs.Accepted.{lists-held, limit-most}
 use Rattle.bounds.proofs.Raised.{cleared}

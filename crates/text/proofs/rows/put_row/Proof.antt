@@ -3,7 +3,7 @@ use mathlib.Core.Path.{_≡_}
 use mathlib.Core.List.{List, _++_}
 use Prim.Native.Nat.{ℕ, _+_, _-_, _<_, _≤_}
 use native.Mathlib.Omega.{arith}
-use Rattle.bounds.specs.Pairs as pairs
+use Rattle.pairs.specs.Pairs as pairs
 use Rattle.text.specs.Listing.{rowText}
 use Rattle.text.specs.Sums.{sumLine}
 use Rattle.text.proofs.RowLaws.{Left, left-start, left-room, left-next, left-end, left-turn, row-end, lineAt, place-first, place-next, place-fits}

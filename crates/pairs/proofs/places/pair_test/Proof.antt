@@ -1,7 +1,7 @@
--- `bounds::places::pair_test` meets its contract: at each `return` the tests that led there decide the number. Assumes nothing.
+-- `pairs::places::pair_test` meets its contract: at each `return` the tests that led there decide the number. Assumes nothing.
 use borrow.Author.Tests.{le-leb, lt-leb}
-use Rattle.bounds.proofs.places.pair_test.Statement.{statement}
-use Rattle.bounds.proofs.places.pair_test.Tie as tie
+use Rattle.pairs.proofs.places.pair_test.Statement.{statement}
+use Rattle.pairs.proofs.places.pair_test.Tie as tie
 
 returns : tie.Need-returns
 returns c = simp (le-leb _ _ (c .if1 .taken))

@@ -1,8 +1,7 @@
 // The places of the pairs in their order, and the test of a pair.
 ghost use mathlib.Core.Path.{_≡_};
 ghost use Prim.Native.Nat.{_≤_};
-ghost use Rattle.bounds.specs.Pairs.{start};
-ghost use Rattle.bounds.specs.Calls.{pairTest};
+ghost use Rattle.pairs.specs.Pairs.{start, pairTest};
 
 // The place of the first pair of node v, of n nodes.
 pub fn start_of(n: usize, v: usize) -> usize

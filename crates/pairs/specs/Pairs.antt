@@ -1,7 +1,10 @@
--- The order of pairs: document 01, section "Bounds of a pair": "Pairs have v < w and are ordered by v, then w."
+-- The order of pairs: document 01, section "Bounds of a pair": "Pairs have v < w and are ordered by v, then w." And the test of a pair.
 -- Assumes nothing.
+use mathlib.Core.Bool.{_||_}
 use mathlib.Core.List.{List, [], _∷_, _++_}
 use Prim.Native.Nat.{ℕ, zero, suc, _+_, _-_}
+use lib.Dec.{leb}
+use Rattle.mass.specs.Refusal.{refuse}
 
 -- the values of f at the pairs (v, w), (v, w + 1), .., `count` of them
 unfoldable pub row : (ℕ → ℕ → ℕ) → ℕ → ℕ → ℕ → List ℕ
@@ -29,3 +32,7 @@ place n v w = start n v + (w - suc v)
 -- how many pairs n nodes have
 abbrev pub pairCount : ℕ → ℕ
 pairCount n = start n n
+
+-- 13: a pair without v < w < N
+abbrev pub pairTest : ℕ → ℕ → ℕ → ℕ
+pairTest nodes v w = refuse (leb w v || leb nodes w) 13

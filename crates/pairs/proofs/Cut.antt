@@ -16,8 +16,8 @@ use Rattle.sets.specs.Bools.{and-left, and-right, and-both, which, clash, not-o
 use Rattle.topology.specs.Chains.{chain-append, chain-back, chain-keeps}
 use Rattle.topology.specs.Paths.{here}
 use Rattle.topology.specs.RowPaths.{RowPath, Reached, Joining}
-use Rattle.bounds.specs.Pairs.{place, pairCount}
-use Rattle.bounds.specs.Adding.{AddingRows, AddedRows, Joined, AddingCut, AddedCut}
+use Rattle.pairs.specs.Pairs.{place, pairCount}
+use Rattle.pairs.specs.Adding.{AddingRows, AddedRows, Joined, AddingCut, AddedCut}
 
 -- what the pair (v, w) is to gain
 pub record Settled (nodes mass : ℕ) (rows : List ℕ) (v w old new : ℕ) : Type 0 where

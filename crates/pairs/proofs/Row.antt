@@ -15,7 +15,7 @@ use lib.Seq.{getD-set-same, getD-set-other}
 use Rattle.sets.specs.Sets.{bit, digit}
 use Rattle.sets.specs.Laws.{bit-none}
 use Rattle.sets.specs.Bools.{and-left}
-use Rattle.bounds.specs.Adding.{AddingRow, AddedRow}
+use Rattle.pairs.specs.Adding.{AddingRow, AddedRow}
 
 -- what the entry i gains from the elements of a set
 abbrev pub gain : ℕ → ℕ → ℕ → ℕ → ℕ

@@ -1,9 +1,9 @@
--- `bounds::add::add_cut` meets its contract: the invariant is `CutTurn`, the measure what is left of the nodes. Assumes nothing.
+-- `pairs::add::add_cut` meets its contract: the invariant is `CutTurn`, the measure what is left of the nodes. Assumes nothing.
 use borrow.Author.Needs.{needs}
 use Rattle.topology.proofs.Shares.{shrinks}
-use Rattle.bounds.proofs.Cut.{CutTurn, cut-begins, has-first, all-joined, part-asked, cut-turned, down-asked, cut-done}
-use Rattle.bounds.proofs.add.add_cut.Statement.{statement}
-use Rattle.bounds.proofs.add.add_cut.Tie as tie
+use Rattle.pairs.proofs.Cut.{CutTurn, cut-begins, has-first, all-joined, part-asked, cut-turned, down-asked, cut-done}
+use Rattle.pairs.proofs.add.add_cut.Statement.{statement}
+use Rattle.pairs.proofs.add.add_cut.Tie as tie
 
 abbrev Inv-loop : tie.InvT-loop
 Inv-loop lower₀ n rows nodes mass all left₀ lower left = CutTurn lower₀ n nodes mass rows lower left

@@ -1,4 +1,4 @@
--- `bounds::add::add_rows` meets its contract: the invariant is `RowsTurn`, the measure what is left of the set. Assumes nothing.
+-- `pairs::add::add_rows` meets its contract: the invariant is `RowsTurn`, the measure what is left of the set. Assumes nothing.
 use mathlib.Core.Path.{ap, sym, _∙_}
 use mathlib.Core.Bool.{not, _&&_}
 use Prim.Native.Nat.{ℕ}
@@ -6,9 +6,9 @@ use native.Mathlib.Omega.{arith}
 use lib.Dec.{eqb}
 use borrow.Author.Needs.{needs}
 use Rattle.sets.specs.Sets.{bit}
-use Rattle.bounds.proofs.Rows.{RowsTurn, rows-begin, rows-done, rows-stopped, row-asked, rows-turned}
-use Rattle.bounds.proofs.add.add_rows.Statement.{statement}
-use Rattle.bounds.proofs.add.add_rows.Tie as tie
+use Rattle.pairs.proofs.Rows.{RowsTurn, rows-begin, rows-done, rows-stopped, row-asked, rows-turned}
+use Rattle.pairs.proofs.add.add_rows.Statement.{statement}
+use Rattle.pairs.proofs.add.add_rows.Tie as tie
 
 abbrev Inv-loop : tie.InvT-loop
 Inv-loop lower₀ n set others mass left₀ lower left = RowsTurn lower₀ n set others mass lower left

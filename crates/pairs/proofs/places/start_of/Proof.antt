@@ -1,11 +1,11 @@
--- `bounds::places::start_of` meets its contract: half of a product. Assumes nothing.
+-- `pairs::places::start_of` meets its contract: half of a product. Assumes nothing.
 use borrow.Author.Needs.{needs}
 use Prim.Native.Nat.{_*_, _-_, _≤_}
 use native.Mathlib.Nat.{mul-le-mul}
 use native.Mathlib.Omega.{arith}
-use Rattle.bounds.specs.PairLaws.{start-closed}
-use Rattle.bounds.proofs.places.start_of.Statement.{statement}
-use Rattle.bounds.proofs.places.start_of.Tie as tie
+use Rattle.pairs.proofs.PairLaws.{start-closed}
+use Rattle.pairs.proofs.places.start_of.Statement.{statement}
+use Rattle.pairs.proofs.places.start_of.Tie as tie
 
 mul-result : tie.Need-mul-result
 mul-result c = search needs

@@ -9,7 +9,7 @@ use lib.ListN.{length, getD}
 use Rattle.mass.specs.Split.{whole}
 use Rattle.sets.specs.Sets.{bit, digit}
 use Rattle.topology.specs.RowPaths.{RowPath, Joining}
-use Rattle.bounds.specs.Pairs.{place, pairCount}
+use Rattle.pairs.specs.Pairs.{place, pairCount}
 
 -- a row: the element w of a set stands for the entry start + (w − skip)
 pub record AddingRow (start skip set mass : ℕ) (list : List ℕ) : Type 0 where

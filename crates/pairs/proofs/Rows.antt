@@ -16,10 +16,10 @@ use Rattle.mass.specs.Split.{whole}
 use Rattle.sets.specs.Sets.{bit, digit}
 use Rattle.sets.specs.Laws.{bit-none}
 use Rattle.sets.specs.Bools.{and-left, and-right, and-both, of-not, not-of, not-so, clash, which}
-use Rattle.bounds.specs.Pairs.{start, place, pairCount}
-use Rattle.bounds.specs.PairLaws.{start-suc, start-mono, start-most, place-is, place-before, place-lt, pairs-most}
-use Rattle.bounds.specs.Adding.{AddingRow, AddedRow, AddingRows, AddedRows}
-use Rattle.bounds.proofs.Row.{gain, at-most}
+use Rattle.pairs.specs.Pairs.{start, place, pairCount}
+use Rattle.pairs.proofs.PairLaws.{start-suc, start-mono, start-most, place-is, place-before, place-lt, pairs-most}
+use Rattle.pairs.specs.Adding.{AddingRow, AddedRow, AddingRows, AddedRows}
+use Rattle.pairs.proofs.Row.{gain, at-most}
 
 -- in the loop: what is left to add gives what the whole was to give
 pub record RowsTurn (list₀ : List ℕ) (n all others mass : ℕ) (list : List ℕ) (left : ℕ) : Type 0 where

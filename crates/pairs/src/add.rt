@@ -1,7 +1,7 @@
 // Adding a scenario's mass to the entries of the pairs that its topology disconnects. Only those pairs are visited.
 use crate::places::start_of;
 ghost use mathlib.Core.Path.{_≡_};
-ghost use Rattle.bounds.specs.Adding.{AddingRow, AddedRow, AddingRows, AddedRows, AddingCut, AddedCut};
+ghost use Rattle.pairs.specs.Adding.{AddingRow, AddedRow, AddingRows, AddedRows, AddingCut, AddedCut};
 
 // Adds to the entry start + (w - skip) for each element w of a set.
 fn add_row(lower: &mut [u64; 2016], start: usize, skip: usize, set: u64, mass: u64)

@@ -8,7 +8,7 @@ use native.Mathlib.Decide.{decLt}
 use native.Mathlib.Omega.{arith}
 use lib.ListN.{length, getD, take, drop, length-append, List·getD-append}
 use lib.Seq.{getD-append-add, drop-cons, take-add, drop-drop}
-use Rattle.bounds.specs.Pairs.{row, rows, table, start, place, pairCount}
+use Rattle.pairs.specs.Pairs.{row, rows, table, start, place, pairCount}
 
 -- examples: the pairs of three nodes, and their places
 example-pairs : table (λ v w. v * 10 + w) 3 ≡ 1 ∷ 2 ∷ 12 ∷ []

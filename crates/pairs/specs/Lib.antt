@@ -1,0 +1,3 @@
+-- What the contracts of the crate `pairs` cite.
+pub mod Pairs
+pub mod Adding
