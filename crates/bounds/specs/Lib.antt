@@ -5,4 +5,3 @@ pub mod Bounds
 pub mod Adding
 pub mod Tallied
 pub mod Calls
-pub mod Marked
