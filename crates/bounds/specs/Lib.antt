@@ -2,4 +2,3 @@
 pub mod Bounds
 pub mod Tallied
 pub mod Calls
-pub mod Marked

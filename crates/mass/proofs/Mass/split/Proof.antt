@@ -33,7 +33,7 @@ share-requires c κs = (
 )
 
 sub-share : tie.Need-sub-share
-sub-share c = probability-fits _ (sym (c .before .before .probability-test .ensures) ∙ c .before .if2 .left)
+sub-share c = omega (arith, probability-fits (c .before .before .before .before .before .args .q) (sym (c .before .before .probability-test .ensures) ∙ c .before .if2 .left))
 
 share-requires-2 : tie.Need-share-requires-2
 share-requires-2 c κs = (share-requires (c .before) κs .0, omega arith)

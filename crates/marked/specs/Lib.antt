@@ -1,0 +1,2 @@
+-- The marked plans and their theorem.
+pub mod Marked
