@@ -1,8 +1,16 @@
 // The calls that go by way of records, on plan files, for the tests in Rust.
-use crate::give;
-use crate::put;
-use bounds::Ran;
-use plan::Writing;
+use crate::answers::give_size;
+use crate::answers::give_totals;
+ghost use mathlib.Core.Path.{_≡_};
+ghost use lib.ListN.{length};
+ghost use Rattle.plan.specs.File.{planOf};
+ghost use Rattle.plan.specs.Calls.{filled, writeAnswer};
+ghost use Rattle.bounds.specs.Bounds.{lowerList, upperList};
+ghost use Rattle.bounds.specs.Calls.{totalsOf, ranAnswer};
+ghost use Rattle.reader.specs.Copying.{copyRefusal};
+ghost use Rattle.runs.specs.Running.{fileNumber};
+ghost use Rattle.probe.specs.Laid.{laid};
+ghost use Rattle.probe.specs.Answers.{sizeValues, totalsValues};
 
 #[no_mangle]
 pub extern "C" fn probe_run_plan(
@@ -10,29 +18,21 @@ pub extern "C" fn probe_run_plan(
     lower: &mut [u64],
     upper: &mut [u64],
     result: &mut [u64],
-) -> u32 {
-    match runs::run_plan(plan, lower, upper) {
-        Ran::Refused(number) => {
-            give(result, 0, 0, 0);
-            number
-        }
-        Ran::Done(totals) => {
-            give(result, totals.count, totals.complete, totals.mass);
-            0
-        }
-    }
+) -> u32
+    ensures number { λ r. ⌜ r ≡ fileNumber (now (plan .entry)) (now (lower .entry)) (now (upper .entry)) ⌝ }
+    ensures lowers { λ r. ⌜ now (lower .exit) ≡ filled r (lowerList (planOf (now (plan .entry)))) (now (lower .entry)) ⌝ }
+    ensures uppers { λ r. ⌜ now (upper .exit) ≡ filled r (upperList (planOf (now (plan .entry)))) (now (upper .entry)) ⌝ }
+    ensures result { λ r. ⌜ now (result .exit) ≡ laid
+        (totalsValues (ranAnswer r (totalsOf (planOf (now (plan .entry)))))) (now (result .entry)) ⌝ }
+{
+    give_totals(runs::run_plan(plan, lower, upper), result)
 }
 
 #[no_mangle]
-pub extern "C" fn probe_copy_plan(plan: &[u8], out: &mut [u8], size: &mut [u64]) -> u32 {
-    match reader::copy_plan(plan, out) {
-        Writing::Refused(number) => {
-            put(size, 0, 0);
-            number
-        }
-        Writing::Written(count) => {
-            put(size, 0, count as u64);
-            0
-        }
-    }
+pub extern "C" fn probe_copy_plan(plan: &[u8], out: &mut [u8], size: &mut [u64]) -> u32
+    ensures number { λ r. ⌜ r ≡ copyRefusal (now (plan .entry)) (length (now (out .entry))) ⌝ }
+    ensures out { λ r. ⌜ now (out .exit) ≡ filled r (now (plan .entry)) (now (out .entry)) ⌝ }
+    ensures size { λ r. ⌜ now (size .exit) ≡ laid (sizeValues (writeAnswer r (length (now (plan .entry))))) (now (size .entry)) ⌝ }
+{
+    give_size(reader::copy_plan(plan, out), size)
 }

@@ -1,24 +1,33 @@
-// Exports for the tests in Rust and the benchmark, not part of the product. Each returns the number of the refusal, or 0; where it refuses,
-// every number that it hands out is 0. A list of numbers that is handed out is used only where it has room.
+// Exports for the tests in Rust, the benchmark and the text tool `planner`, not part of the product. Each returns the number of the refusal, or 0;
+// where it refuses, every number that it hands out is 0. A list of numbers that is handed out is used only where it has room.
 // Assumes nothing.
+mod answers;
 mod by_records;
 mod further;
 mod topology_list;
 
-use bounds::Paired;
-use bounds::Ran;
+use answers::give_bounds;
+use answers::give_header;
+use answers::give_size;
+use answers::give_totals;
 use plan::Header;
-use plan::Reading;
-use plan::Writing;
-
-fn put(list: &mut [u64], at: usize, x: u64) {
-    if at < list.len() {
-        list[at] = x;
-    }
-}
+ghost use mathlib.Core.Path.{_≡_};
+ghost use Prim.Native.Nat.{_/_};
+ghost use lib.ListN.{length};
+ghost use Rattle.plan.specs.File.{refusal, planOf};
+ghost use Rattle.plan.specs.Layout.{layout};
+ghost use Rattle.plan.specs.Lists.{linkBytes, eventWords};
+ghost use Rattle.plan.specs.Records.{planOfLists};
+ghost use Rattle.plan.specs.Calls.{filled, headerOf, readRefusal, readAnswer, writeRefusal, writeAnswer};
+ghost use Rattle.bounds.specs.Bounds.{lowerList, upperList};
+ghost use Rattle.bounds.specs.Calls.{totalsOf, ranAnswer, runNumber, boundsOf, pairAnswer, pairNumber};
+ghost use Rattle.probe.specs.Laid.{laid};
+ghost use Rattle.probe.specs.Answers.{headerWith, headerValues, sizeValues, totalsValues, boundsValues};
 
 #[no_mangle]
-pub extern "C" fn probe_check(plan: &[u8]) -> u32 {
+pub extern "C" fn probe_check(plan: &[u8]) -> u32
+    ensures { λ r. ⌜ r ≡ refusal (now (plan .entry)) ⌝ }
+{
     plan::check(plan)
 }
 
@@ -28,17 +37,25 @@ pub extern "C" fn probe_read(
     numbers: &mut [u64],
     links: &mut [u8],
     events: &mut [u64],
-) -> u32 {
-    let answer = files::read(plan, links, events);
-    let h = files::header_in(answer);
-    put(numbers, 0, h.nodes);
-    put(numbers, 1, h.links);
-    put(numbers, 2, h.events);
-    put(numbers, 3, h.threshold);
-    put(numbers, 4, h.limit);
-    match answer {
-        Reading::Refused(number) => number,
-        Reading::Accepted(_) => 0,
+) -> u32
+    ensures number { λ r. ⌜ r ≡ readRefusal
+        (length (now (links .entry))) (length (now (events .entry)) / 4) (now (plan .entry)) ⌝ }
+    ensures numbers { λ r. ⌜ now (numbers .exit) ≡ laid (headerValues (readAnswer r (headerOf (now (plan .entry))))) (now (numbers .entry)) ⌝ }
+    ensures links { λ r. ⌜ now (links .exit) ≡ filled r (linkBytes (planOf (now (plan .entry)) .links)) (now (links .entry)) ⌝ }
+    ensures events { λ r. ⌜ now (events .exit) ≡ filled r (eventWords (planOf (now (plan .entry)) .events)) (now (events .entry)) ⌝ }
+{
+    give_header(files::read(plan, links, events), numbers)
+}
+
+fn header(nodes: u64, links: u64, events: u64, threshold: u64, limit: u64) -> Header
+    ensures { λ r. ⌜ r ≡ headerWith nodes links events threshold limit ⌝ }
+{
+    Header {
+        nodes,
+        links,
+        events,
+        threshold,
+        limit,
     }
 }
 
@@ -53,28 +70,18 @@ pub extern "C" fn probe_write(
     events: &[u64],
     out: &mut [u8],
     size: &mut [u64],
-) -> u32 {
+) -> u32
+    ensures number { λ r. ⌜ r ≡ writeRefusal (headerWith nodes «links_count» «events_count» threshold limit)
+        (length (now (links .entry))) (length (now (events .entry)) / 4) (now (links .entry)) (now (events .entry)) (length (now (out .entry))) ⌝ }
+    ensures out { λ r. ⌜ now (out .exit) ≡ filled r (layout
+        (planOfLists (headerWith nodes «links_count» «events_count» threshold limit) (now (links .entry)) (now (events .entry))))
+        (now (out .entry)) ⌝ }
+    ensures size { λ r. ⌜ now (size .exit) ≡ laid (sizeValues (writeAnswer r (length (layout
+        (planOfLists (headerWith nodes «links_count» «events_count» threshold limit) (now (links .entry)) (now (events .entry)))))))
+        (now (size .entry)) ⌝ }
+{
     let h = header(nodes, links_count, events_count, threshold, limit);
-    match writer::write(h, links, events, out) {
-        Writing::Refused(number) => {
-            put(size, 0, 0);
-            number
-        }
-        Writing::Written(count) => {
-            put(size, 0, count as u64);
-            0
-        }
-    }
-}
-
-fn header(nodes: u64, links: u64, events: u64, threshold: u64, limit: u64) -> Header {
-    Header {
-        nodes,
-        links,
-        events,
-        threshold,
-        limit,
-    }
+    give_size(writer::write(h, links, events, out), size)
 }
 
 #[no_mangle]
@@ -89,24 +96,21 @@ pub extern "C" fn probe_run(
     lower: &mut [u64],
     upper: &mut [u64],
     result: &mut [u64],
-) -> u32 {
+) -> u32
+    ensures number { λ r. ⌜ r ≡ runNumber (headerWith nodes «links_count» «events_count» threshold limit)
+        (now (links .entry)) (now (events .entry)) (now (lower .entry)) (now (upper .entry)) ⌝ }
+    ensures lowers { λ r. ⌜ now (lower .exit) ≡ filled r (lowerList
+        (planOfLists (headerWith nodes «links_count» «events_count» threshold limit) (now (links .entry)) (now (events .entry))))
+        (now (lower .entry)) ⌝ }
+    ensures uppers { λ r. ⌜ now (upper .exit) ≡ filled r (upperList
+        (planOfLists (headerWith nodes «links_count» «events_count» threshold limit) (now (links .entry)) (now (events .entry))))
+        (now (upper .entry)) ⌝ }
+    ensures result { λ r. ⌜ now (result .exit) ≡ laid (totalsValues (ranAnswer r (totalsOf
+        (planOfLists (headerWith nodes «links_count» «events_count» threshold limit) (now (links .entry)) (now (events .entry))))))
+        (now (result .entry)) ⌝ }
+{
     let h = header(nodes, links_count, events_count, threshold, limit);
-    match bounds::run(h, links, events, lower, upper) {
-        Ran::Refused(number) => {
-            give(result, 0, 0, 0);
-            number
-        }
-        Ran::Done(totals) => {
-            give(result, totals.count, totals.complete, totals.mass);
-            0
-        }
-    }
-}
-
-fn give(result: &mut [u64], a: u64, b: u64, c: u64) {
-    put(result, 0, a);
-    put(result, 1, b);
-    put(result, 2, c);
+    give_totals(bounds::run(h, links, events, lower, upper), result)
 }
 
 #[no_mangle]
@@ -121,17 +125,13 @@ pub extern "C" fn probe_pair(
     v: u64,
     w: u64,
     result: &mut [u64],
-) -> u32 {
+) -> u32
+    ensures number { λ r. ⌜ r ≡ pairNumber (headerWith nodes «links_count» «events_count» threshold limit)
+        (now (links .entry)) (now (events .entry)) v w ⌝ }
+    ensures result { λ r. ⌜ now (result .exit) ≡ laid (boundsValues (pairAnswer r (boundsOf
+        (planOfLists (headerWith nodes «links_count» «events_count» threshold limit) (now (links .entry)) (now (events .entry))) v w)))
+        (now (result .entry)) ⌝ }
+{
     let h = header(nodes, links_count, events_count, threshold, limit);
-    match bounds::pair(h, links, events, v, w) {
-        Paired::Refused(number) => {
-            give(result, 0, 0, 0);
-            number
-        }
-        Paired::Done(bounds) => {
-            put(result, 0, bounds.lower);
-            put(result, 1, bounds.upper);
-            0
-        }
-    }
+    give_bounds(bounds::pair(h, links, events, v, w), result)
 }

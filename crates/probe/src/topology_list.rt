@@ -1,7 +1,12 @@
 // The topology list, for the tests in Rust.
+use crate::answers::give_entries;
 use crate::header;
-use crate::put;
-use topologies::Listed;
+ghost use mathlib.Core.Path.{_≡_};
+ghost use Prim.Native.Nat.{_/_};
+ghost use lib.ListN.{length};
+ghost use Rattle.topologies.specs.Calls.{listingIn, topologiesNumber, listedAnswer, listAfter};
+ghost use Rattle.probe.specs.Laid.{laid};
+ghost use Rattle.probe.specs.Answers.{headerWith, entriesValues};
 
 #[no_mangle]
 pub extern "C" fn probe_topologies(
@@ -14,16 +19,15 @@ pub extern "C" fn probe_topologies(
     events: &[u64],
     list: &mut [u64],
     result: &mut [u64],
-) -> u32 {
+) -> u32
+    ensures number { λ r. ⌜ r ≡ topologiesNumber (headerWith nodes «links_count» «events_count» threshold limit)
+        (now (links .entry)) (now (events .entry)) (now (list .entry)) ⌝ }
+    ensures list { λ r. ⌜ now (list .exit) ≡ listAfter (headerWith nodes «links_count» «events_count» threshold limit)
+        (length (now (links .entry))) (length (now (events .entry)) / 4) (now (links .entry)) (now (events .entry)) (now (list .entry)) ⌝ }
+    ensures result { λ r. ⌜ now (result .exit) ≡ laid (entriesValues (listedAnswer r (length (listingIn
+        (headerWith nodes «links_count» «events_count» threshold limit)
+        (now (links .entry)) (now (events .entry)) (now (list .entry)) .entries)))) (now (result .entry)) ⌝ }
+{
     let h = header(nodes, links_count, events_count, threshold, limit);
-    match topologies::topologies(h, links, events, list) {
-        Listed::Refused(number) => {
-            put(result, 0, 0);
-            number
-        }
-        Listed::Entries(count) => {
-            put(result, 0, count as u64);
-            0
-        }
-    }
+    give_entries(topologies::topologies(h, links, events, list), result)
 }

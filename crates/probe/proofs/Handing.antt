@@ -1,0 +1,50 @@
+-- An answer that is made of the number of a refusal, or 0, and of values has that number, for each kind of answer.
+-- Assumes nothing.
+use mathlib.Core.Path.{_≡_, refl}
+use Prim.Native.Nat.{ℕ, zero, suc}
+use Rattle.plan.specs.Calls.{readAnswer, writeAnswer}
+use Rattle.plan.specs.declared.Header.{Header}
+use Rattle.walk.specs.declared.Failing.{Failing}
+use Rattle.bounds.specs.Calls.{ranAnswer, pairAnswer}
+use Rattle.bounds.specs.declared.Totals.{Totals}
+use Rattle.bounds.specs.declared.PairBounds.{PairBounds}
+use Rattle.readings.specs.Figure.{figureAnswer}
+use Rattle.readings.specs.Witness.{witnessAnswer}
+use Rattle.readings.specs.Downtime.{downtimeAnswer}
+use Rattle.readings.specs.declared.Shares.{Shares}
+use Rattle.readings.specs.declared.Seconds.{Seconds}
+use Rattle.topologies.specs.Calls.{listedAnswer}
+use Rattle.probe.specs.Answers.{readNumber, writtenNumber, ranNumber, pairedNumber, listedNumber, figuredNumber, timedNumber, witnessedNumber}
+
+pub read-back : (n : ℕ) (h : Header) → readNumber (readAnswer n h) ≡ n
+read-back zero h = refl
+read-back (suc n) h = refl
+
+pub write-back : (n count : ℕ) → writtenNumber (writeAnswer n count) ≡ n
+write-back zero count = refl
+write-back (suc n) count = refl
+
+pub run-back : (n : ℕ) (t : Totals) → ranNumber (ranAnswer n t) ≡ n
+run-back zero t = refl
+run-back (suc n) t = refl
+
+pub pair-back : (n : ℕ) (b : PairBounds) → pairedNumber (pairAnswer n b) ≡ n
+pair-back zero b = refl
+pair-back (suc n) b = refl
+
+pub list-back : (n count : ℕ) → listedNumber (listedAnswer n count) ≡ n
+list-back zero count = refl
+list-back (suc n) count = refl
+
+pub downtime-back : (n : ℕ) (s : Seconds) → timedNumber (downtimeAnswer n s) ≡ n
+downtime-back zero s = refl
+downtime-back (suc n) s = refl
+
+pub witness-back : (n : ℕ) (set : Failing) → witnessedNumber (witnessAnswer n set) ≡ n
+witness-back zero set = refl
+witness-back (suc n) set = refl
+
+pub figure-back : (n examined : ℕ) (s : Shares) → figuredNumber (figureAnswer n examined s) ≡ n
+figure-back zero zero s = refl
+figure-back zero (suc examined) s = refl
+figure-back (suc n) examined s = refl

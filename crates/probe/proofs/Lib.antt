@@ -1,0 +1,2 @@
+-- Laws that the proofs of the crate `probe` share.
+pub mod Handing

@@ -1,0 +1,30 @@
+-- `probe::by_records::probe_copy_plan` meets its contract: the answer of the call is handed out. Assumes nothing.
+use mathlib.Core.Path.{refl}
+use Rattle.probe.proofs.Handing.{write-back}
+use borrow.Author.Needs.{needs}
+use Rattle.probe.proofs.by_records.probe_copy_plan.Statement.{statement}
+use Rattle.probe.proofs.by_records.probe_copy_plan.Tie as tie
+
+copy-plan-requires : tie.Need-copy-plan-requires
+copy-plan-requires c κs = search needs
+
+give-size-requires : tie.Need-give-size-requires
+give-size-requires c κs = search needs
+
+same-length : tie.Need-same-length
+same-length c = search needs
+
+same-length-2 : tie.Need-same-length-2
+same-length-2 c = search needs
+
+returns : tie.Need-returns
+returns c =
+    let f = c .before .before .give-size .ensures in
+    let k = c .before .before .before .before .before .before in
+    let e = k .copy-plan .ensures .0 in
+    let n = rw (e, write-back) at (f .0) in
+    rw n (refl, (k .copy-plan .ensures .1, rw e at (f .1)))
+
+pub probe-copy-plan-spec : {M : Type 1} → statement M
+probe-copy-plan-spec =
+    tie.close (tie.spec copy-plan-requires give-size-requires same-length same-length-2 returns)

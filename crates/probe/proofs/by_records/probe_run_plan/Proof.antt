@@ -1,0 +1,40 @@
+-- `probe::by_records::probe_run_plan` meets its contract: the answer of the call is handed out. Assumes nothing.
+use mathlib.Core.Path.{refl}
+use Rattle.probe.proofs.Handing.{run-back}
+use borrow.Author.Needs.{needs}
+use Rattle.probe.proofs.by_records.probe_run_plan.Statement.{statement}
+use Rattle.probe.proofs.by_records.probe_run_plan.Tie as tie
+
+run-plan-requires : tie.Need-run-plan-requires
+run-plan-requires c κs = search needs
+
+give-totals-requires : tie.Need-give-totals-requires
+give-totals-requires c κs = search needs
+
+same-length : tie.Need-same-length
+same-length c = search needs
+
+same-length-2 : tie.Need-same-length-2
+same-length-2 c = search needs
+
+same-length-3 : tie.Need-same-length-3
+same-length-3 c = search needs
+
+returns : tie.Need-returns
+returns c =
+    let f = c .before .before .give-totals .ensures in
+    let k = c .before .before .before .before .before .before .before .before in
+    let e = k .run-plan .ensures .0 in
+    let n = rw (e, run-back) at (f .0) in
+    rw n (refl, (k .run-plan .ensures .1 .0, (k .run-plan .ensures .1 .1 .0, rw e at (f .1))))
+
+pub probe-run-plan-spec : {M : Type 1} → statement M
+probe-run-plan-spec =
+    tie.close
+    (tie.spec
+    run-plan-requires
+    give-totals-requires
+    same-length
+    same-length-2
+    same-length-3
+    returns)

@@ -1,0 +1,26 @@
+-- `probe::further::probe_downtime` meets its contract: the answer handed out. Assumes nothing.
+use mathlib.Core.Path.{refl}
+use Rattle.probe.proofs.Handing.{downtime-back}
+use borrow.Author.Needs.{needs}
+use Rattle.probe.proofs.further.probe_downtime.Statement.{statement}
+use Rattle.probe.proofs.further.probe_downtime.Tie as tie
+
+downtime-requires : tie.Need-downtime-requires
+downtime-requires c κs = search needs
+
+give-seconds-requires : tie.Need-give-seconds-requires
+give-seconds-requires c κs = search needs
+
+same-length : tie.Need-same-length
+same-length c = search needs
+
+returns : tie.Need-returns
+returns c =
+    let f = c .before .before .give-seconds .ensures in
+    let e = c .before .before .before .before .downtime .ensures in
+    let n = rw (e, downtime-back) at (f .0) in
+    rw n (refl, rw e at (f .1))
+
+pub probe-downtime-spec : {M : Type 1} → statement M
+probe-downtime-spec =
+    tie.close (tie.spec downtime-requires give-seconds-requires same-length returns)

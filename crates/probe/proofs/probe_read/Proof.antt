@@ -1,0 +1,34 @@
+-- `probe::probe_read` meets its contract: the answer of the call is handed out. Assumes nothing.
+use mathlib.Core.Path.{refl}
+use Rattle.probe.proofs.Handing.{read-back}
+use borrow.Author.Needs.{needs}
+use Rattle.probe.proofs.probe_read.Statement.{statement}
+use Rattle.probe.proofs.probe_read.Tie as tie
+
+read-requires : tie.Need-read-requires
+read-requires c κs = search needs
+
+give-header-requires : tie.Need-give-header-requires
+give-header-requires c κs = search needs
+
+same-length : tie.Need-same-length
+same-length c = search needs
+
+same-length-2 : tie.Need-same-length-2
+same-length-2 c = search needs
+
+same-length-3 : tie.Need-same-length-3
+same-length-3 c = search needs
+
+returns : tie.Need-returns
+returns c =
+    let f = c .before .before .give-header .ensures in
+    let k = c .before .before .before .before .before .before .before .before in
+    let e = k .read .ensures .0 in
+    let n = rw (e, read-back) at (f .0) in
+    rw n (refl, (rw e at (f .1), (k .read .ensures .1 .0, (k .read .ensures .1 .1))))
+
+pub probe-read-spec : {M : Type 1} → statement M
+probe-read-spec =
+    tie.close
+    (tie.spec read-requires give-header-requires same-length same-length-2 same-length-3 returns)

@@ -1,0 +1,45 @@
+-- `probe::probe_run` meets its contract: the answer of the call is handed out. Assumes nothing.
+use mathlib.Core.Path.{refl}
+use Rattle.probe.proofs.Handing.{run-back}
+use borrow.Author.Needs.{needs}
+use Rattle.probe.proofs.probe_run.Statement.{statement}
+use Rattle.probe.proofs.probe_run.Tie as tie
+
+header-requires : tie.Need-header-requires
+header-requires c κs = search needs
+
+run-requires : tie.Need-run-requires
+run-requires c κs = search needs
+
+give-totals-requires : tie.Need-give-totals-requires
+give-totals-requires c κs = search needs
+
+same-length : tie.Need-same-length
+same-length c = search needs
+
+same-length-2 : tie.Need-same-length-2
+same-length-2 c = search needs
+
+same-length-3 : tie.Need-same-length-3
+same-length-3 c = search needs
+
+returns : tie.Need-returns
+returns c =
+    let f = c .before .before .give-totals .ensures in
+    let k = c .before .before .before .before .before .before .before .before in
+    let same = k .before .before .before .header .ensures in
+    let e = rw same at (k .run .ensures .0) in
+    let n = rw (e, run-back) at (f .0) in
+    rw n (refl, (rw same at (k .run .ensures .1 .0), (rw same at (k .run .ensures .1 .1 .0), rw e at (f .1))))
+
+pub probe-run-spec : {M : Type 1} → statement M
+probe-run-spec =
+    tie.close
+    (tie.spec
+    header-requires
+    run-requires
+    give-totals-requires
+    same-length
+    same-length-2
+    same-length-3
+    returns)

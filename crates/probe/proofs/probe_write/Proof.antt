@@ -1,0 +1,35 @@
+-- `probe::probe_write` meets its contract: the answer of the call is handed out. Assumes nothing.
+use mathlib.Core.Path.{refl}
+use Rattle.probe.proofs.Handing.{write-back}
+use borrow.Author.Needs.{needs}
+use Rattle.probe.proofs.probe_write.Statement.{statement}
+use Rattle.probe.proofs.probe_write.Tie as tie
+
+header-requires : tie.Need-header-requires
+header-requires c κs = search needs
+
+write-requires : tie.Need-write-requires
+write-requires c κs = search needs
+
+give-size-requires : tie.Need-give-size-requires
+give-size-requires c κs = search needs
+
+same-length : tie.Need-same-length
+same-length c = search needs
+
+same-length-2 : tie.Need-same-length-2
+same-length-2 c = search needs
+
+returns : tie.Need-returns
+returns c =
+    let f = c .before .before .give-size .ensures in
+    let k = c .before .before .before .before .before .before in
+    let same = k .before .before .header .ensures in
+    let e = rw same at (k .write .ensures .0) in
+    let n = rw (e, write-back) at (f .0) in
+    rw n (refl, (rw same at (k .write .ensures .1), rw e at (f .1)))
+
+pub probe-write-spec : {M : Type 1} → statement M
+probe-write-spec =
+    tie.close
+    (tie.spec header-requires write-requires give-size-requires same-length same-length-2 returns)
