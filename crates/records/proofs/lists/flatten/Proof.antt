@@ -287,4 +287,4 @@ flatten-spec 𝓤 H 𝓜 𝓖 𝓡 =
     (tables 𝓤 H 𝓜 𝓡 code.env .C) (tables 𝓤 H 𝓜 𝓡 code.env .Λ) #flatten code.function (code.unfolded 𝓤 H 𝓜 𝓡)
     (flatten-meets 𝓤 H (𝓖 .A) (givenOf 𝓤 H 𝓜 𝓖) (𝓜 .mem) (𝓡 .run) (tablesOf 𝓤 H 𝓜 (tables 𝓤 H 𝓜 𝓡 code.env))
     (cited 𝓤 H (PutEvent 𝓤 H (𝓖 .A) (𝓜 .mem) (𝓡 .run)) 𝓜 𝓡 code.env #put-event put-event-def.routine code.calls-records·lists·put-event (put-event-thm.met 𝓤 H 𝓜 𝓖 𝓡))
-    (cited 𝓤 H (Smaller 𝓤 H (𝓖 .A) (𝓜 .mem) (𝓡 .run)) 𝓜 𝓡 code.env #smaller smaller-def.routine code.calls-plan·smaller (smaller-thm.met 𝓤 H 𝓜 𝓖 𝓡)))
+    (cited 𝓤 H (Smaller 𝓤 H (𝓖 .A) (𝓜 .mem) (𝓡 .run)) 𝓜 𝓡 code.env #smaller smaller-def.routine code.calls-lent·smaller (smaller-thm.met 𝓤 H 𝓜 𝓖 𝓡)))
