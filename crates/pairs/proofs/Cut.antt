@@ -177,8 +177,9 @@ module _ (list₀ : List ℕ) (n nodes mass : ℕ) (rows list : List ℕ) (left 
     not-up : (v : ℕ) → bit down v ≡ true → bit nodes v ≡ false
     not-up v e = of-not _ (and-right (bit all v) _ (sym (downs v) ∙ e))
 
-    pub down-asked : AddingRows n down all mass list
-    down-asked =
+    -- room for this mass, and for any smaller one
+    pub down-asked : (m : ℕ) → m ≤ mass → AddingRows n down all m list
+    down-asked m most =
         record {
           few = g .asked .few;
           sized = g .sized;

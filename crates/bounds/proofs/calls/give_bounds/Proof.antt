@@ -28,7 +28,7 @@ copy-words-requires c κs =
 
 -- src/calls.rt:102:37
 sub-copy-raised : tie.Need-sub-copy-raised
-sub-copy-raised c = c .before .before .before .before .before .before .before .before .before .before .before .pre .light
+sub-copy-raised c = omega (arith, c .before .before .before .before .before .before .before .before .before .before .before .pre .light)
 
 -- src/calls.rt:102:5
 copy-raised-requires : tie.Need-copy-raised-requires

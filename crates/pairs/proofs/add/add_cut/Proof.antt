@@ -1,4 +1,5 @@
 -- `pairs::add::add_cut` meets its contract: the invariant is `CutTurn`, the measure what is left of the nodes. Assumes nothing.
+use native.Mathlib.Omega.{arith}
 use borrow.Author.Needs.{needs}
 use Rattle.topology.proofs.Shares.{shrinks}
 use Rattle.pairs.proofs.Cut.{CutTurn, cut-begins, has-first, all-joined, part-asked, cut-turned, down-asked, cut-done}
@@ -53,7 +54,7 @@ less-requires-3 c κs = search needs
 
 add-rows-requires-2 : tie.Need-add-rows-requires-2 Inv-loop μ-loop
 add-rows-requires-2 c κs =
-    down-asked _ _ _ _ _ _ _ (c .before .before .before .loop .inv) _ (c .before .before .before .before .first .ensures) _ (c .less3 .ensures)
+    down-asked _ _ _ _ _ _ _ (c .before .before .before .loop .inv) _ (c .before .before .before .before .first .ensures) _ (c .less3 .ensures) _ (omega arith)
 
 returns-2 : tie.Need-returns-2 Inv-loop μ-loop
 returns-2 c =

@@ -1,9 +1,8 @@
 -- `pairs::places::start_of` meets its contract: half of a product. Assumes nothing.
 use borrow.Author.Needs.{needs}
-use Prim.Native.Nat.{_*_, _-_, _≤_}
-use native.Mathlib.Nat.{mul-le-mul}
+use Prim.Native.Nat.{_*_, _-_}
 use native.Mathlib.Omega.{arith}
-use Rattle.pairs.proofs.PairLaws.{start-closed}
+use Rattle.pairs.proofs.PairLaws.{product-fits, once-at-least, start-closed}
 use Rattle.pairs.proofs.places.start_of.Statement.{statement}
 use Rattle.pairs.proofs.places.start_of.Tie as tie
 
@@ -14,14 +13,10 @@ sub-result : tie.Need-sub-result
 sub-result c = search needs
 
 mul-result-2 : tie.Need-mul-result-2
-mul-result-2 c =
-    let n = c .args .n in
-    let v = c .args .v in
-    let most : v * (2 * n - v) ≤ 64 * 128 = mul-le-mul {n₂ = 64} {m₂ = 128} (omega (arith, c .pre)) (omega (arith, c .pre)) in
-    record { fits = omega (arith, most) }
+mul-result-2 c = record { fits = product-fits _ _ (omega (arith, c .pre)) (omega (arith, c .pre)) }
 
 sub-result-2 : tie.Need-sub-result-2
-sub-result-2 c = omega (arith, start-closed (c .args .n) (c .args .v) (2 * c .args .n - c .args .v) (c .pre .1) (omega (arith, c .pre)))
+sub-result-2 c = once-at-least _ _ (λ h. omega (arith, c .pre))
 
 returns : tie.Need-returns
 returns c = omega (arith, start-closed (c .args .n) (c .args .v) (2 * c .args .n - c .args .v) (c .pre .1) (omega (arith, c .pre)))
