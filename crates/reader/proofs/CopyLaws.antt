@@ -5,9 +5,9 @@ use mathlib.Core.List.{List, [], _∷_, _++_}
 use Prim.Native.Nat.{ℕ, zero, suc, _+_, _*_, _≤_}
 use native.Mathlib.Omega.{arith}
 use borrow.Author.Tests.{le-ltb}
-use lib.ListN.{length, take, drop, replicate}
+use lib.ListN.{length, drop, replicate}
 use lib.Seq.{sets, sets-eq, length-sets}
-use Rattle.mass.specs.Refusal.{first, first-stop, refuse}
+use Rattle.mass.specs.Refusal.{first, refuse}
 use Rattle.mass.specs.Split.{certain}
 use Rattle.plan.specs.Lists.{linkBytes, eventsOf}
 use Rattle.plan.specs.Layout.{layout, Bytes}
@@ -22,7 +22,7 @@ use Rattle.plan.proofs.FileLawsAccepted.{accepted-counts}
 use Rattle.layout.proofs.LayoutFile.{file-none, valid-none}
 use Rattle.layout.proofs.ListTheorems.{length-links-of, read-denotes}
 use Rattle.layout.proofs.Theorems.{read-writes-again}
-use Rattle.files.proofs.ReaderLawsAnswer.{read-accepted, length-links}
+use Rattle.files.proofs.ReaderLawsAnswer.{length-links}
 use Rattle.writer.proofs.WriterAnswer.{Outcome}
 use Rattle.records.specs.Events.{wordsOf}
 use Rattle.reader.specs.Filled.{eventRecords, filledRecords}

@@ -7,7 +7,7 @@
 --     zeros-own        what `[0u64; 512]` owns is had for nothing
 --     says2, says3, says4      `Denote/Triple/Walked.antt`'s `says`, of a contract of two clauses, of three and of four
 -- Assumes `Given`.
-use mathlib.Core.Path.{_≡_, refl, sym, subst}
+use mathlib.Core.Path.{refl, sym, subst}
 use Prim.Native.Nat.{ℕ}
 use mathlib.Core.List.{List, [], _∷_}
 use lib.Dec.{lit<}
@@ -27,7 +27,7 @@ use types.Share.{arr-parts}
 use types.Tokens.{lent-back}
 use denote.RattleType.{RattleType}
 use denote.Laws.{Is, Tells, Lawful, shows}
-use denote.Memory.{cellAt, lone, mem, shares, partAt, partOf}
+use denote.Memory.{cellAt, lone, mem, shares, partOf}
 use denote.Plain.{uint-vals, uint-tells, uint-makes, uint-copy, uint-lawful}
 use denote.Builtin.{u64}
 use denote.Array.{Array, arrayVal, array-vals, array-tells, array-lawful, array-repeat}

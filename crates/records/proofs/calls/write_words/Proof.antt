@@ -3,7 +3,6 @@
 use mathlib.Core.Path.{refl, _∙_, ap}
 use mathlib.Core.List.{List}
 use Prim.Native.Nat.{ℕ}
-use native.Mathlib.Omega.{arith}
 use borrow.Author.Needs.{needs}
 use Rattle.plan.specs.Records.{planOfLists}
 use Rattle.writer.proofs.WriterAnswer.{same-outcome}

@@ -33,7 +33,7 @@ use sound.WpLaws.{FmC, fmOf, WpFn-mono}
 use borrow.Author.Tests.{ltb-true, ltb-false}
 use denote.RattleType.{owns}
 use denote.Laws.{Is, shows}
-use denote.Plain.{uint-vals, uint-tells, uint-makes, uint-lawful, nothing-lawful}
+use denote.Plain.{uint-makes, uint-lawful, nothing-lawful}
 use denote.Builtin.{u64, usize, unit, ArrayOf}
 use denote.Ref.{RefT, MutRef, ptr-vals, mut-tells}
 use denote.Slice.{sliceTy, sliceVal, ShrSlice, Room, slice-vals, shr-slice-tells, shr-slice-copy}
