@@ -1,6 +1,4 @@
 // The calls that go by way of records, on plan files, for the tests in Rust.
-use crate::answers::give_size;
-use crate::answers::give_totals;
 ghost use mathlib.Core.Path.{_≡_};
 ghost use lib.ListN.{length};
 ghost use Rattle.plan.specs.File.{planOf};
@@ -9,8 +7,8 @@ ghost use Rattle.bounds.specs.Bounds.{lowerList, upperList};
 ghost use Rattle.bounds.specs.Calls.{totalsOf, ranAnswer};
 ghost use Rattle.reader.specs.Copying.{copyRefusal};
 ghost use Rattle.runs.specs.Running.{fileNumber};
-ghost use Rattle.probe.specs.Laid.{laid};
-ghost use Rattle.probe.specs.Answers.{sizeValues, totalsValues};
+ghost use Rattle.answers.specs.Laid.{laid};
+ghost use Rattle.answers.specs.Answers.{sizeValues, totalsValues};
 
 #[no_mangle]
 pub extern "C" fn probe_run_plan(
@@ -25,7 +23,7 @@ pub extern "C" fn probe_run_plan(
     ensures result { λ r. ⌜ now (result .exit) ≡ laid
         (totalsValues (ranAnswer r (totalsOf (planOf (now (plan .entry)))))) (now (result .entry)) ⌝ }
 {
-    give_totals(runs::run_plan(plan, lower, upper), result)
+    answers::give_totals(runs::run_plan(plan, lower, upper), result)
 }
 
 #[no_mangle]
@@ -34,5 +32,5 @@ pub extern "C" fn probe_copy_plan(plan: &[u8], out: &mut [u8], size: &mut [u64])
     ensures out { λ r. ⌜ now (out .exit) ≡ filled r (now (plan .entry)) (now (out .entry)) ⌝ }
     ensures size { λ r. ⌜ now (size .exit) ≡ laid (sizeValues (writeAnswer r (length (now (plan .entry))))) (now (size .entry)) ⌝ }
 {
-    give_size(reader::copy_plan(plan, out), size)
+    answers::give_size(reader::copy_plan(plan, out), size)
 }

@@ -1,53 +1,13 @@
 // Exports of the further readings. A figure is handed out as 1 and the bits of its two floats.
-use crate::answers::give_failing;
-use crate::answers::give_seconds;
-use crate::answers::give_three;
 use crate::header;
-use readings::Figured;
-use readings::Shares;
-ghost use mathlib.Core.Bool.{not};
-ghost use mathlib.Core.List.{[], _∷_};
 ghost use mathlib.Core.Path.{_≡_};
-ghost use lib.Dec.{T};
-ghost use lib.Ieee.{binary64, isNan, toBits};
 ghost use Rattle.plan.specs.Records.{planOfLists};
 ghost use Rattle.bounds.specs.Calls.{pairNumber};
-ghost use Rattle.readings.specs.Figure.{figureOf, floatsIn, Numbers};
+ghost use Rattle.readings.specs.Figure.{figureOf};
 ghost use Rattle.readings.specs.Witness.{witnessNumber};
 ghost use Rattle.readings.specs.Downtime.{downtimeAnswer, downtimeRefusal, secondsOf};
-ghost use Rattle.probe.specs.Laid.{laid};
-ghost use Rattle.probe.specs.Answers.{headerWith, figuredNumber, figureValues, secondsValues, Handed};
-
-fn give_bits(bits: &mut [u64], shares: Shares)
-    requires { ⌜ T (not (isNan (shares .disconnected))) × T (not (isNan (shares .examined))) ⌝ }
-    ensures { λ r. ⌜ now (bits .exit) ≡ laid
-        (1 ∷ toBits binary64 (shares .disconnected) ∷ toBits binary64 (shares .examined) ∷ []) (now (bits .entry)) ⌝ }
-{
-    let disconnected = f64::to_bits(shares.disconnected);
-    let examined = f64::to_bits(shares.examined);
-    give_three(bits, 1, disconnected, examined);
-}
-
-fn give_figure(answer: Figured, bits: &mut [u64]) -> u32
-    requires { ⌜ Numbers (floatsIn answer) ⌝ }
-    ensures number { λ r. ⌜ r ≡ figuredNumber answer ⌝ }
-    ensures bits { λ r. ⌜ now (bits .exit) ≡ laid (figureValues answer) (now (bits .entry)) ⌝ }
-{
-    match answer {
-        Figured::Refused(number) => {
-            give_three(bits, 0, 0, 0);
-            number
-        }
-        Figured::NoFigure => {
-            give_three(bits, 0, 0, 0);
-            0
-        }
-        Figured::Given(shares) => {
-            give_bits(bits, shares);
-            0
-        }
-    }
-}
+ghost use Rattle.answers.specs.Laid.{laid};
+ghost use Rattle.answers.specs.Answers.{headerWith, figureValues, secondsValues, Handed};
 
 #[no_mangle]
 pub extern "C" fn probe_figure(
@@ -69,7 +29,7 @@ pub extern "C" fn probe_figure(
         (now (bits .entry)) ⌝ }
 {
     let h = header(nodes, links_count, events_count, threshold, limit);
-    give_figure(readings::figure(h, links, events, v, w), bits)
+    answers::give_figure(readings::figure(h, links, events, v, w), bits)
 }
 
 #[no_mangle]
@@ -92,7 +52,7 @@ pub extern "C" fn probe_witness(
         r (now (result .entry)) (now (result .exit)) ⌝ }
 {
     let h = header(nodes, links_count, events_count, threshold, limit);
-    give_failing(readings::witness(h, links, events, v, w), result)
+    answers::give_failing(readings::witness(h, links, events, v, w), result)
 }
 
 #[no_mangle]
@@ -101,5 +61,5 @@ pub extern "C" fn probe_downtime(lower: u64, upper: u64, result: &mut [u64]) -> 
     ensures result { λ r. ⌜ now (result .exit) ≡ laid
         (secondsValues (downtimeAnswer r (secondsOf lower upper))) (now (result .entry)) ⌝ }
 {
-    give_seconds(readings::downtime(lower, upper), result)
+    answers::give_seconds(readings::downtime(lower, upper), result)
 }

@@ -1,15 +1,10 @@
 // Exports for the tests in Rust, the benchmark and the text tool `planner`, not part of the product. Each returns the number of the refusal, or 0;
 // where it refuses, every number that it hands out is 0. A list of numbers that is handed out is used only where it has room.
 // Assumes nothing.
-mod answers;
 mod by_records;
 mod further;
 mod topology_list;
 
-use answers::give_bounds;
-use answers::give_header;
-use answers::give_size;
-use answers::give_totals;
 use plan::Header;
 ghost use mathlib.Core.Path.{_≡_};
 ghost use Prim.Native.Nat.{_/_};
@@ -21,8 +16,8 @@ ghost use Rattle.plan.specs.Records.{planOfLists};
 ghost use Rattle.plan.specs.Calls.{filled, headerOf, readRefusal, readAnswer, writeRefusal, writeAnswer};
 ghost use Rattle.bounds.specs.Bounds.{lowerList, upperList};
 ghost use Rattle.bounds.specs.Calls.{totalsOf, ranAnswer, runNumber, boundsOf, pairAnswer, pairNumber};
-ghost use Rattle.probe.specs.Laid.{laid};
-ghost use Rattle.probe.specs.Answers.{headerWith, headerValues, sizeValues, totalsValues, boundsValues};
+ghost use Rattle.answers.specs.Laid.{laid};
+ghost use Rattle.answers.specs.Answers.{headerWith, headerValues, sizeValues, totalsValues, boundsValues};
 
 #[no_mangle]
 pub extern "C" fn probe_check(plan: &[u8]) -> u32
@@ -44,7 +39,7 @@ pub extern "C" fn probe_read(
     ensures links { λ r. ⌜ now (links .exit) ≡ filled r (linkBytes (planOf (now (plan .entry)) .links)) (now (links .entry)) ⌝ }
     ensures events { λ r. ⌜ now (events .exit) ≡ filled r (eventWords (planOf (now (plan .entry)) .events)) (now (events .entry)) ⌝ }
 {
-    give_header(files::read(plan, links, events), numbers)
+    answers::give_header(files::read(plan, links, events), numbers)
 }
 
 fn header(nodes: u64, links: u64, events: u64, threshold: u64, limit: u64) -> Header
@@ -81,7 +76,7 @@ pub extern "C" fn probe_write(
         (now (size .entry)) ⌝ }
 {
     let h = header(nodes, links_count, events_count, threshold, limit);
-    give_size(writer::write(h, links, events, out), size)
+    answers::give_size(writer::write(h, links, events, out), size)
 }
 
 #[no_mangle]
@@ -110,7 +105,7 @@ pub extern "C" fn probe_run(
         (now (result .entry)) ⌝ }
 {
     let h = header(nodes, links_count, events_count, threshold, limit);
-    give_totals(bounds::run(h, links, events, lower, upper), result)
+    answers::give_totals(bounds::run(h, links, events, lower, upper), result)
 }
 
 #[no_mangle]
@@ -133,5 +128,5 @@ pub extern "C" fn probe_pair(
         (now (result .entry)) ⌝ }
 {
     let h = header(nodes, links_count, events_count, threshold, limit);
-    give_bounds(bounds::pair(h, links, events, v, w), result)
+    answers::give_bounds(bounds::pair(h, links, events, v, w), result)
 }

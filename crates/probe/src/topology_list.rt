@@ -1,12 +1,11 @@
 // The topology list, for the tests in Rust.
-use crate::answers::give_entries;
 use crate::header;
 ghost use mathlib.Core.Path.{_≡_};
 ghost use Prim.Native.Nat.{_/_};
 ghost use lib.ListN.{length};
 ghost use Rattle.topologies.specs.Calls.{listingIn, topologiesNumber, listedAnswer, listAfter};
-ghost use Rattle.probe.specs.Laid.{laid};
-ghost use Rattle.probe.specs.Answers.{headerWith, entriesValues};
+ghost use Rattle.answers.specs.Laid.{laid};
+ghost use Rattle.answers.specs.Answers.{headerWith, entriesValues};
 
 #[no_mangle]
 pub extern "C" fn probe_topologies(
@@ -29,5 +28,5 @@ pub extern "C" fn probe_topologies(
         (now (links .entry)) (now (events .entry)) (now (list .entry)) .entries)))) (now (result .entry)) ⌝ }
 {
     let h = header(nodes, links_count, events_count, threshold, limit);
-    give_entries(topologies::topologies(h, links, events, list), result)
+    answers::give_entries(topologies::topologies(h, links, events, list), result)
 }
