@@ -3,11 +3,10 @@ use crate::Tally;
 use pairs::add_cut;
 use plan::Header;
 use topology::Failed;
-use topology::Firsts;
 ghost use mathlib.Core.Path.{_≡_};
 ghost use Prim.Native.Nat.{_+_, _^_, _<_};
 ghost use Rattle.sets.specs.Sets.{joined, digit};
-ghost use Rattle.topology.specs.Whole.{Whole};
+ghost use Rattle.topology.specs.Table.{LinksAt};
 ghost use Rattle.walk.specs.Ends.{relevant};
 ghost use Rattle.walk.specs.Scenario.{scenarioOf};
 ghost use Rattle.walk.specs.Stack.{endOf};
@@ -18,8 +17,7 @@ fn examine(
     h: Header,
     links: &[u8; 256],
     words: &[u64; 512],
-    all: &[u64; 64],
-    firsts: Firsts,
+    table: &[u64; 128],
     lower: &mut [u64; 2016],
     sum: u64,
     low: u64,
@@ -27,7 +25,7 @@ fn examine(
     mass: u64,
 )
     requires { ⌜ Held h (now links) (now words) ⌝ }
-    requires { ⌜ Whole (now links) (h .links) firsts (now all) ⌝ }
+    requires { ⌜ LinksAt (now links) (h .links) (now table) ⌝ }
     requires { ⌜ joined low high < 2 ^ (h .events) ⌝ }
     requires { ⌜ Sums sum mass (now lower) ⌝ }
     ensures { λ r. ⌜ Examined h (now (links .entry)) (now (words .entry)) (relevant (scenarioOf (h .events) (joined low high)) mass) mass (now (lower .entry)) (now (lower .exit)) ⌝ }
@@ -40,7 +38,7 @@ fn examine(
     let n = h.nodes as usize;
     let failed = topology::failed_by(words, h.events as usize, low, high, intact);
     let nodes = topology::working_nodes(n, failed.nodes);
-    let rows = topology::neighbours(n, links, h.links as usize, firsts, all, failed);
+    let rows = topology::neighbours(n, links, h.links as usize, table, failed);
     add_cut(&mut *lower, n, rows, nodes, mass);
 }
 
@@ -49,8 +47,7 @@ fn examine_end(
     h: Header,
     links: &[u8; 256],
     words: &[u64; 512],
-    all: &[u64; 64],
-    firsts: Firsts,
+    table: &[u64; 128],
     lower: &mut [u64; 2016],
     sum: u64,
     relevant: bool,
@@ -59,24 +56,13 @@ fn examine_end(
     mass: u64,
 )
     requires { ⌜ Held h (now links) (now words) ⌝ }
-    requires { ⌜ Whole (now links) (h .links) firsts (now all) ⌝ }
+    requires { ⌜ LinksAt (now links) (h .links) (now table) ⌝ }
     requires { ⌜ joined low high < 2 ^ (h .events) ⌝ }
     requires { ⌜ Sums sum mass (now lower) ⌝ }
     ensures { λ r. ⌜ Examined h (now (links .entry)) (now (words .entry)) (endOf (h .events) relevant mass low high) mass (now (lower .entry)) (now (lower .exit)) ⌝ }
 {
     if relevant {
-        examine(
-            h,
-            links,
-            words,
-            all,
-            firsts,
-            &mut *lower,
-            sum,
-            low,
-            high,
-            mass,
-        );
+        examine(h, links, words, table, &mut *lower, sum, low, high, mass);
     }
 }
 
@@ -96,14 +82,13 @@ pub fn go_on(
     h: Header,
     links: &[u8; 256],
     words: &[u64; 512],
-    all: &[u64; 64],
-    firsts: Firsts,
+    table: &[u64; 128],
     stack: &mut [u64; 512],
     lower: &mut [u64; 2016],
     so_far: Tally,
     k: u64,
 ) -> Tally
-    requires { ⌜ Whole (now links) (h .links) firsts (now all) ⌝ }
+    requires { ⌜ LinksAt (now links) (h .links) (now table) ⌝ }
     requires { ⌜ Ready h (now links) (now words) («so_far» .at) (now stack) (now lower) («so_far» .number) («so_far» .mass) k ⌝ }
     ensures { λ r. ⌜ Tallied h (now (links .entry)) (now (words .entry)) («so_far» .at) (now (stack .entry)) (now (lower .entry)) («so_far» .number) («so_far» .mass) k (now (stack .exit)) (now (lower .exit)) r ⌝ }
 {
@@ -120,8 +105,7 @@ pub fn go_on(
             h,
             links,
             words,
-            all,
-            firsts,
+            table,
             &mut *lower,
             mass,
             r.relevant,

@@ -30,8 +30,7 @@ pub fn walk_all(h: Header, links: &[u8; 256], words: &[u64; 512], lower: &mut [u
     ensures { λ r. ⌜ r ≡ totalsOf (planOfLists h (now (links .entry)) (now (words .entry))) ⌝ }
     ensures { λ r. ⌜ Summed (planOfLists h (now (links .entry)) (now (words .entry))) (h .nodes) (now (lower .exit)) ⌝ }
 {
-    let mut all = [0u64; 64];
-    let firsts = topology::whole(h.nodes as usize, links, h.links as usize, &mut all);
+    let table = topology::links_at(h.nodes as usize, links, h.links as usize);
     let mut stack = [0u64; 512];
     let at = walk::begin(&mut stack, 0, mass::Mass::WHOLE.units, 0, 0);
     let so_far = Tally {
@@ -39,17 +38,7 @@ pub fn walk_all(h: Header, links: &[u8; 256], words: &[u64; 512], lower: &mut [u
         number: 0,
         mass: 0,
     };
-    let r = go_on(
-        h,
-        links,
-        words,
-        &all,
-        firsts,
-        &mut stack,
-        lower,
-        so_far,
-        h.limit,
-    );
+    let r = go_on(h, links, words, &table, &mut stack, lower, so_far, h.limit);
     Totals {
         count: r.number,
         complete: none_left(r.at),

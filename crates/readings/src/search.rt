@@ -12,6 +12,7 @@ ghost use Rattle.plan.specs.Records.{planOfLists};
 ghost use Rattle.walk.specs.Scenario.{scenarioOf};
 ghost use Rattle.walk.specs.Ends.{scenarios};
 ghost use Rattle.walk.specs.Walk.{examined};
+ghost use Rattle.topology.specs.Table.{LinksAt};
 ghost use Rattle.bounds.specs.Bounds.{cuts};
 ghost use Rattle.bounds.specs.Tallied.{Held, coming};
 ghost use Rattle.readings.specs.Witness.{noneTest, witnessRefusal, witnessNumber, witnessAnswer, failingIn, Shows, Answers, Seeking};
@@ -21,6 +22,7 @@ fn end_cuts(
     h: Header,
     links: &[u8; 256],
     words: &[u64; 512],
+    table: &[u64; 128],
     relevant: bool,
     low: u64,
     high: u64,
@@ -28,6 +30,7 @@ fn end_cuts(
     w: usize,
 ) -> bool
     requires { ⌜ Held h (now links) (now words) ⌝ }
+    requires { ⌜ LinksAt (now links) (h .links) (now table) ⌝ }
     requires { ⌜ (joined low high < 2 ^ (h .events)) × (v < 64) × (w < 64) ⌝ }
     ensures { λ r. ⌜ r ≡ (relevant && cuts (planOfLists h (now (links .entry)) (now (words .entry))) v w (scenarioOf (h .events) (joined low high))) ⌝ }
 {
@@ -38,7 +41,15 @@ fn end_cuts(
             high: 0,
         };
         let failed = topology::failed_by(words, h.events as usize, low, high, intact);
-        return topology::is_disconnected(h.nodes as usize, failed, links, h.links as usize, v, w);
+        return topology::is_disconnected(
+            h.nodes as usize,
+            failed,
+            links,
+            h.links as usize,
+            table,
+            v,
+            w,
+        );
     }
     false
 }
@@ -48,12 +59,14 @@ fn search_on(
     h: Header,
     links: &[u8; 256],
     words: &[u64; 512],
+    table: &[u64; 128],
     stack: &mut [u64; 512],
     start: usize,
     v: usize,
     w: usize,
     k: u64,
 ) -> Witnessed
+    requires { ⌜ LinksAt (now links) (h .links) (now table) ⌝ }
     requires { ⌜ Seeking h (now links) (now words) start (now stack) v w ⌝ }
     ensures { λ r. ⌜ Answers (planOfLists h (now (links .entry)) (now (words .entry))) v w
         (scenarios (take k (coming h (now (words .entry)) start (now (stack .entry)))))
@@ -66,7 +79,7 @@ fn search_on(
             return Witnessed::Refused(14);
         }
         let r = walk::next_end(h.events, h.threshold, words, &mut *stack, at);
-        if end_cuts(h, links, words, r.relevant, r.low, r.high, v, w) {
+        if end_cuts(h, links, words, table, r.relevant, r.low, r.high, v, w) {
             return Witnessed::Found(Failing {
                 low: r.low,
                 high: r.high,
@@ -86,9 +99,10 @@ fn search_all(h: Header, links: &[u8; 256], words: &[u64; 512], v: usize, w: usi
         (examined (planOfLists h (now (links .entry)) (now (words .entry))))
         (noneTest (planOfLists h (now (links .entry)) (now (words .entry))) v w (examined (planOfLists h (now (links .entry)) (now (words .entry))))) r ⌝ }
 {
+    let table = topology::links_at(h.nodes as usize, links, h.links as usize);
     let mut stack = [0u64; 512];
     let at = walk::begin(&mut stack, 0, mass::Mass::WHOLE.units, 0, 0);
-    search_on(h, links, words, &mut stack, at, v, w, h.limit)
+    search_on(h, links, words, &table, &mut stack, at, v, w, h.limit)
 }
 
 // The witness on arrays: the lists stand in the arrays, and had room for `link_room` bytes and `event_room` whole events.

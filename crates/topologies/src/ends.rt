@@ -10,6 +10,7 @@ ghost use Prim.Native.Nat.{_/_, _^_, _<_};
 ghost use lib.ListN.{length, take};
 ghost use Rattle.sets.specs.Sets.{joined};
 ghost use Rattle.plan.specs.Records.{planOfLists};
+ghost use Rattle.topology.specs.Table.{LinksAt};
 ghost use Rattle.walk.specs.Scenario.{scenarioOf};
 ghost use Rattle.walk.specs.Stack.{endOf};
 ghost use Rattle.bounds.specs.Tallied.{Held, coming};
@@ -17,8 +18,16 @@ ghost use Rattle.topologies.specs.Listing.{listing, placed, placedAll, t
 ghost use Rattle.topologies.specs.Words.{entriesOf, Placing, Gave, Ready};
 
 // The effective topology of a scenario, by its failing events.
-fn topology_of(h: Header, links: &[u8; 256], words: &[u64; 512], low: u64, high: u64) -> Topology
+fn topology_of(
+    h: Header,
+    links: &[u8; 256],
+    words: &[u64; 512],
+    table: &[u64; 128],
+    low: u64,
+    high: u64,
+) -> Topology
     requires { ⌜ Held h (now links) (now words) ⌝ }
+    requires { ⌜ LinksAt (now links) (h .links) (now table) ⌝ }
     requires { ⌜ joined low high < 2 ^ (h .events) ⌝ }
     ensures { λ r. ⌜ r ≡ topologyAfter (planOfLists h (now (links .entry)) (now (words .entry))) (scenarioOf (h .events) (joined low high)) ⌝ }
 {
@@ -30,7 +39,7 @@ fn topology_of(h: Header, links: &[u8; 256], words: &[u64; 512], low: u64, high:
     let n = h.nodes as usize;
     let failed = topology::failed_by(words, h.events as usize, low, high, intact);
     let nodes = topology::working_nodes(n, failed.nodes);
-    let up = topology::working_links(n, failed, links, h.links as usize);
+    let up = topology::working_links(failed, h.links as usize, table);
     Topology {
         nodes,
         low: up.low,
@@ -43,6 +52,7 @@ fn place_end(
     h: Header,
     links: &[u8; 256],
     words: &[u64; 512],
+    table: &[u64; 128],
     list: &mut [u64],
     count: usize,
     relevant: bool,
@@ -51,6 +61,7 @@ fn place_end(
     mass: u64,
 ) -> Placed
     requires { ⌜ Held h (now links) (now words) ⌝ }
+    requires { ⌜ LinksAt (now links) (h .links) (now table) ⌝ }
     requires { ⌜ joined low high < 2 ^ (h .events) ⌝ }
     requires { ⌜ Placing count mass (now list) ⌝ }
     ensures { λ r. ⌜ Gave
@@ -59,7 +70,7 @@ fn place_end(
         count (now (list .entry)) (now (list .exit)) r ⌝ }
 {
     if relevant {
-        let t = topology_of(h, links, words, low, high);
+        let t = topology_of(h, links, words, table, low, high);
         return place(list, count, t, mass);
     }
     Placed { count, number: 0 }
@@ -70,10 +81,12 @@ fn list_ends(
     h: Header,
     links: &[u8; 256],
     words: &[u64; 512],
+    table: &[u64; 128],
     stack: &mut [u64; 512],
     start: usize,
     list: &mut [u64],
 ) -> Placed
+    requires { ⌜ LinksAt (now links) (h .links) (now table) ⌝ }
     requires { ⌜ Ready h (now links) (now words) start (now stack) ⌝ }
     ensures { λ r. ⌜ Gave
         (placedAll (length (now (list .entry)) / 4) (topologyAfter (planOfLists h (now (links .entry)) (now (words .entry))))
@@ -92,6 +105,7 @@ fn list_ends(
             h,
             links,
             words,
+            table,
             &mut *list,
             count,
             r.relevant,
@@ -115,7 +129,8 @@ pub fn list_all(h: Header, links: &[u8; 256], words: &[u64; 512], list: &mut [u6
     ensures { λ r. ⌜ Gave (listingOf (length (now (list .entry)) / 4) (planOfLists h (now (links .entry)) (now (words .entry))))
         0 (now (list .entry)) (now (list .exit)) r ⌝ }
 {
+    let table = topology::links_at(h.nodes as usize, links, h.links as usize);
     let mut stack = [0u64; 512];
     let start = walk::begin(&mut stack, 0, mass::Mass::WHOLE.units, 0, 0);
-    list_ends(h, links, words, &mut stack, start, list)
+    list_ends(h, links, words, &table, &mut stack, start, list)
 }

@@ -13,7 +13,7 @@ use Rattle.sets.specs.Sets.{bit, joined}
 use Rattle.sets.specs.Laws.{bit-none, bit-below, bit-joined-low, bit-joined-high}
 use Rattle.sets.specs.Bools.{and-left, and-right, and-both, or-either, or-left, or-right, clash, not-so, same-bool, anyBelow, any-found, any-here}
 use Rattle.topology.specs.Topology.{ends}
-use Rattle.topology.specs.Whole.{linkIn, joinedBy}
+use Rattle.topology.specs.Table.{linkIn, joinedBy}
 use Rattle.topology.proofs.Gather.{rest-in, rest-or}
 
 -- ---- one element of a word

@@ -10,7 +10,6 @@ use Rattle.plan.specs.Plan.{Link, Event}
 use Rattle.topology.specs.Outage.{unionOf, outageOf}
 use Rattle.topology.specs.Topology.{networkOf, nodeWorks, linkWorks, joins, adjacent}
 use Rattle.topology.specs.Paths.{via, disconnected}
-use Rattle.topology.specs.Whole.{repeats}
 
 -- the triangle of document 01: links 0-1, 0-2, 1-2
 triangle : List Link
@@ -49,12 +48,3 @@ events = record { probability = 9; nodes = 1; links = 6 } ∷ record { probabili
 known-outage : outageOf (record { nodes = 32; links = 0 }) events 5 ≡ record { nodes = 37; links = 6 }
 unfolding events unionOf bit
 known-outage = refl
-
--- which of four links repeat an earlier one
-repeatsOf : List ℕ → List Bool
-repeatsOf bytes = repeats bytes 0 ∷ repeats bytes 1 ∷ repeats bytes 2 ∷ repeats bytes 3 ∷ []
-
--- links 0-1, 0-2, 1-0 and 1-2 in bytes: link 2 repeats link 0
-known-repeats : repeatsOf (0 ∷ 1 ∷ 0 ∷ 2 ∷ 1 ∷ 0 ∷ 1 ∷ 2 ∷ []) ≡ false ∷ false ∷ true ∷ false ∷ []
-unfolding repeatsOf anyBelow
-known-repeats = refl

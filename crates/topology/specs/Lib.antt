@@ -2,7 +2,7 @@
 pub mod Outage
 pub mod Topology
 pub mod Code
-pub mod Whole
+pub mod Table
 pub mod Paths
 pub mod Chains
 pub mod Works

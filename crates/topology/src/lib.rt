@@ -1,10 +1,10 @@
 // Effective topology and reach: document 01, section "Effective topology".
 // Assumes nothing.
-mod changes;
 mod failing;
 mod pairs;
 mod rounds;
 mod rows;
+mod table;
 mod working;
 
 pub use failing::failed_by;
@@ -13,7 +13,7 @@ pub use pairs::reach_from;
 pub use rounds::reach as reach_by_rows;
 pub use rounds::rows_of;
 pub use rows::neighbours;
-pub use rows::whole;
+pub use table::links_at;
 pub use working::working_links;
 pub use working::working_nodes;
 
@@ -28,14 +28,6 @@ pub struct Failed {
 pub struct Links {
     pub low: u64,
     pub high: u64,
-}
-
-// The links of a network in two words each: those that repeat no earlier link (low, high), and those that do (more_low, more_high).
-pub struct Firsts {
-    pub low: u64,
-    pub high: u64,
-    pub more_low: u64,
-    pub more_high: u64,
 }
 
 // What a node reaches.

@@ -3,7 +3,6 @@ use crate::Failed;
 use crate::Reach;
 use crate::rounds::reach;
 use crate::rows::neighbours;
-use crate::rows::whole;
 use crate::working::working_nodes;
 ghost use mathlib.Core.Path.{_≡_};
 ghost use mathlib.Core.Bool.{true};
@@ -12,16 +11,23 @@ ghost use Prim.Native.Nat.{ℕ, _<_};
 ghost use Rattle.sets.specs.Sets.{bit};
 ghost use Rattle.topology.specs.Paths.{Reaches, disconnected};
 ghost use Rattle.topology.specs.Code.{networkIn, LinksHeld};
+ghost use Rattle.topology.specs.Table.{LinksAt};
 
 // What node v reaches: w exactly where v works and a path of working links joins v and w.
-pub fn reach_from(n: usize, failed: Failed, links: &[u8; 256], count: usize, v: usize) -> Reach
+pub fn reach_from(
+    n: usize,
+    failed: Failed,
+    links: &[u8; 256],
+    count: usize,
+    table: &[u64; 128],
+    v: usize,
+) -> Reach
     requires { ⌜ LinksHeld n (now links) count ⌝ }
+    requires { ⌜ LinksAt (now links) count (now table) ⌝ }
     requires { ⌜ v < 64 ⌝ }
     ensures { λ r. ⌜ ((w : ℕ) → (bit (r .set) w ≡ true) ↔ Reaches (networkIn n failed (now (links .entry)) count) v w) ⌝ }
 {
-    let mut all = [0u64; 64];
-    let firsts = whole(n, links, count, &mut all);
-    let rows = neighbours(n, links, count, firsts, &all, failed);
+    let rows = neighbours(n, links, count, table, failed);
     let nodes = working_nodes(n, failed.nodes);
     reach(rows, nodes, v)
 }
@@ -32,13 +38,15 @@ pub fn is_disconnected(
     failed: Failed,
     links: &[u8; 256],
     count: usize,
+    table: &[u64; 128],
     v: usize,
     w: usize,
 ) -> bool
     requires { ⌜ LinksHeld n (now links) count ⌝ }
+    requires { ⌜ LinksAt (now links) count (now table) ⌝ }
     requires { ⌜ (v < 64) × (w < 64) ⌝ }
     ensures { λ r. ⌜ r ≡ disconnected (networkIn n failed (now (links .entry)) count) v w ⌝ }
 {
-    let found = reach_from(n, failed, links, count, v);
+    let found = reach_from(n, failed, links, count, table, v);
     sets::at(found.set, w) == 0
 }

@@ -2,13 +2,15 @@
 use crate::Failed;
 use crate::Links;
 ghost use mathlib.Core.Path.{_≡_};
-ghost use mathlib.Core.Bool.{not, _&&_, _||_};
+ghost use mathlib.Core.Bool.{not, _&&_};
+ghost use mathlib.Core.List.{List};
 ghost use Prim.Native.Nat.{ℕ, _+_, _*_, _≤_, _<_};
-ghost use lib.Dec.{eqb, ltb};
+ghost use lib.Dec.{ltb};
 ghost use lib.ListN.{getD};
-ghost use Rattle.sets.specs.Sets.{bit, joined, digit};
+ghost use Rattle.sets.specs.Sets.{bit, joined};
 ghost use Rattle.topology.specs.Topology.{linkWorks};
 ghost use Rattle.topology.specs.Code.{networkIn, LinksHeld};
+ghost use Rattle.topology.specs.Table.{atNodes, LinksAt};
 
 fn wide(x: u8) -> usize
     ensures { λ r. ⌜ r ≡ x ⌝ }
@@ -34,54 +36,63 @@ pub fn working_nodes(n: usize, failed: u64) -> u64
     sets::less(sets::first(n), failed)
 }
 
-// Whether link i, between a and b, works, as a digit: it has not failed and both its ends work.
-pub fn link_on(nodes: u64, low: u64, high: u64, i: usize, a: usize, b: usize) -> u64
-    requires { ⌜ (i < 128) × (a < 64) × (b < 64) ⌝ }
-    ensures is { λ r. ⌜ r ≡ digit (not (bit (joined low high) i) && (bit nodes a && bit nodes b)) ⌝ }
-    ensures small { λ r. ⌜ r < 2 ⌝ }
+// Word k of a table of links.
+fn word(table: &[u64; 128], k: usize) -> u64
+    requires { ⌜ k < 128 ⌝ }
+    ensures { λ r. ⌜ r ≡ getD (now (table .entry)) k 0 ⌝ }
 {
-    let failed = sets::at_of_two(low, high, i);
-    let one = sets::at(nodes, a);
-    let other = sets::at(nodes, b);
-    (failed ^ 1) & (one & other)
+    table[k]
 }
 
-// A set of links with link i beside them where the digit `on` is 1.
-pub fn with_link(up: Links, on: u64, i: usize) -> Links
-    requires { ⌜ (on < 2) × (i < 128) ⌝ }
-    ensures { λ r. ⌜ ((j : ℕ) → bit (joined (r .low) (r .high)) j ≡ (bit (joined (up .low) (up .high)) j || (eqb on 1 && eqb j i))) ⌝ }
+// The first `count` links.
+fn first_links(count: usize) -> Links
+    requires { ⌜ count ≤ 128 ⌝ }
+    ensures { λ r. ⌜ ((i : ℕ) → bit (joined (r .low) (r .high)) i ≡ ltb i count) ⌝ }
 {
-    let low = up.low;
-    let high = up.high;
-    if i < 64 {
-        let with_low = sets::union(low, sets::only(on, i));
-        return Links {
-            low: with_low,
-            high: high,
-        };
+    if count < 64 {
+        let low = sets::first(count);
+        return Links { low: low, high: 0 };
     }
-    let with_high = sets::union(high, sets::only(on, i - 64));
+    let low = sets::first(64);
+    let high = sets::first(count - 64);
     Links {
         low: low,
-        high: with_high,
+        high: high,
     }
 }
 
-// The working links, of `count`.
-pub fn working_links(n: usize, failed: Failed, links: &[u8; 256], count: usize) -> Links
-    requires { ⌜ LinksHeld n (now links) count ⌝ }
-    ensures { λ r. ⌜ ((i : ℕ) → bit (joined (r .low) (r .high)) i ≡ linkWorks (networkIn n failed (now (links .entry)) count) i) ⌝ }
+// A set of links without those at the nodes of a set.
+fn apart_from(up: Links, nodes: u64, table: &[u64; 128]) -> Links
+    ensures { λ r. ⌜ ((i : ℕ) → i < 128 →
+        bit (joined (r .low) (r .high)) i ≡ (bit (joined (up .low) (up .high)) i && not (atNodes (now (table .entry)) nodes i))) ⌝ }
 {
-    let nodes = working_nodes(n, failed.nodes);
-    let low = failed.low;
-    let high = failed.high;
-    let mut up = Links { low: 0, high: 0 };
-    let mut i = 0;
-    while i < count {
-        let a = end(n, links, count, i, 0);
-        let b = end(n, links, count, i, 1);
-        up = with_link(up, link_on(nodes, low, high, i, a, b), i);
-        i += 1;
+    let mut low = up.low;
+    let mut high = up.high;
+    let mut left = nodes;
+    while left != 0 {
+        let v = sets::lowest(left);
+        low = sets::less(low, word(table, 2 * v));
+        high = sets::less(high, word(table, 2 * v + 1));
+        left = sets::rest(left);
     }
-    up
+    Links {
+        low: low,
+        high: high,
+    }
+}
+
+// The working links, of `count`, of any network whose table of links this is: those that have not failed, and that are at no failed node.
+pub fn working_links(failed: Failed, count: usize, table: &[u64; 128]) -> Links
+    requires { ⌜ count ≤ 128 ⌝ }
+    ensures { λ r. ⌜ ((n : ℕ) (bytes : List ℕ) → LinksHeld n bytes count → LinksAt bytes count (now (table .entry)) → (i : ℕ) →
+        bit (joined (r .low) (r .high)) i ≡ linkWorks (networkIn n failed bytes count) i) ⌝ }
+{
+    let all = first_links(count);
+    let low = sets::less(all.low, failed.low);
+    let high = sets::less(all.high, failed.high);
+    let up = Links {
+        low: low,
+        high: high,
+    };
+    apart_from(up, failed.nodes, table)
 }

@@ -83,7 +83,8 @@ fn working(
     requires { ⌜ LinksHeld n (now links) count ⌝ }
 {
     let up_nodes = topology::working_nodes(n, failed.nodes);
-    let up = topology::working_links(n, failed, links, count);
+    let table = topology::links_at(n, links, count);
+    let up = topology::working_links(failed, count, &table);
     same_part(label, b"working nodes", up_nodes, nodes);
     same_part(label, b"working links 0 to 63", up.low, low);
     same_part(label, b"working links 64 to 127", up.high, high);
@@ -117,9 +118,10 @@ fn compared(
 )
     requires { ⌜ LinksHeld n (now links) count ⌝ }
 {
+    let table = topology::links_at(n, links, count);
     let mut v = 0;
     while v < 64 {
-        let reach = topology::reach_from(n, failed, links, count, v);
+        let reach = topology::reach_from(n, failed, links, count, &table, v);
         same_at(label, v, reach.set, at_node(want, first, v));
         v += 1;
     }
@@ -158,6 +160,7 @@ fn tested(
     requires { ⌜ LinksHeld n (now links) count ⌝ }
     requires { ⌜ (v < 64) × (w < 64) ⌝ }
 {
-    let cut = topology::is_disconnected(n, failed, links, count, v, w);
+    let table = topology::links_at(n, links, count);
+    let cut = topology::is_disconnected(n, failed, links, count, &table, v, w);
     same_part(label, b"disconnected", cut as u64, want);
 }

@@ -3,19 +3,13 @@ use borrow.Author.Needs.{needs}
 use Rattle.bounds.proofs.Examine.{passed}
 use Rattle.bounds.proofs.ends.examine_end.Statement.{statement}
 use Rattle.bounds.proofs.ends.examine_end.Tie as tie
-use Rattle.bounds.proofs.ends.examine_end.Reads as reads
-use Rattle.bounds.proofs.ends.examine_end.Lts as lts
-use Rattle.bounds.proofs.ends.examine.Reads as examine-reads
 
--- src/ends.rt:59:9
 examine-requires : tie.Need-examine-requires
 examine-requires c κs = c .before .before .pre
 
--- src/ends.rt:42:1
 returns : tie.Need-returns
 returns c = rw (c .before .before .if1 .taken) (c .examine .ensures)
 
--- src/ends.rt:42:1
 returns-2 : tie.Need-returns-2
 returns-2 c = rw (c .if1 .left) (passed _ _ _ _ _ (c .before .pre .1 .1 .1 .sized))
 

@@ -4,34 +4,25 @@ use native.Mathlib.Omega.{arith}
 use Rattle.bounds.proofs.Turn.{Turn, asked-all, walked-all, mass-fits, end-sums, turned}
 use Rattle.bounds.proofs.ends.go_on.Statement.{statement}
 use Rattle.bounds.proofs.ends.go_on.Tie as tie
-use Rattle.bounds.proofs.ends.go_on.Reads as reads
-use Rattle.bounds.proofs.ends.go_on.Lts as lts
-use Rattle.bounds.proofs.ends.examine_end.Reads as examine-end-reads
-use Rattle.bounds.proofs.ends.one_more.Reads as one-more-reads
-use Rattle.walk.proofs.next_end.Reads as next-end-reads
 
 abbrev Inv-loop : tie.InvT-loop
-Inv-loop h links words all firsts stack₀ lower₀ k at₀ number₀ mass₀ left₀ stack lower at number mass left =
+Inv-loop h links words table stack₀ lower₀ k at₀ number₀ mass₀ left₀ stack lower at number mass left =
     Turn h links words at₀ stack₀ lower₀ number₀ mass₀ k stack lower at number mass left
 
 abbrev μ-loop : tie.MeasureT-loop
-μ-loop h links words all firsts stack₀ lower₀ k at₀ number₀ mass₀ left₀ stack lower at number mass left = left
+μ-loop h links words table stack₀ lower₀ k at₀ number₀ mass₀ left₀ stack lower at number mass left = left
 
--- src/ends.rt:91:5
 loop-holds : tie.Need-loop-holds Inv-loop μ-loop
 loop-holds c = record { numbers = refl; masses = refl; entries = λ v w l e. refl; rest = refl; ready = c .pre .1 }
 
--- src/ends.rt:93:13
 returns : tie.Need-returns Inv-loop μ-loop
 returns c = asked-all _ _ _ _ _ _ _ _ _ _ _ _ _ _ _ (c .before .before .loop .inv) (c .if1 .taken)
 
--- src/ends.rt:95:13
 next-end-requires : tie.Need-next-end-requires Inv-loop μ-loop
 next-end-requires c κs =
     let g = c .before .before .before .loop .inv .ready in
     (g .held .events-fit, c .before .before .loop-test .taken, g .held .probable, g .stacked)
 
--- src/ends.rt:96:9
 examine-end-requires : tie.Need-examine-end-requires Inv-loop μ-loop
 examine-end-requires c κs =
     let g = c .before .before .before .before .before .loop .inv in (
@@ -42,31 +33,25 @@ examine-end-requires c κs =
       ),
     )
 
--- src/ends.rt:107:9
 one-more-requires : tie.Need-one-more-requires Inv-loop μ-loop
 one-more-requires c κs = omega (arith, c .before .before .before .before .before .before .loop .inv .ready .counted)
 
--- src/ends.rt:108:9
 add-mass : tie.Need-add-mass Inv-loop μ-loop
 add-mass c =
     omega
     (arith, mass-fits _ _ _ _ _ _ _ _ _ _ _ _ _ _ _ (c .before .before .before .before .before .before .before .before .loop .inv) (c .before .before .before .before .before .before .if1 .left) _ _ (c .before .before .before .before .next-end .ensures))
 
--- src/ends.rt:110:9
 sub-left : tie.Need-sub-left Inv-loop μ-loop
 sub-left c = omega (arith, c .before .before .before .before .before .before .if1 .left)
 
--- src/ends.rt:91:5
 loop-less : tie.Need-loop-less Inv-loop μ-loop
 loop-less c = omega (arith, c .before .before .before .before .before .before .if1 .left)
 
--- src/ends.rt:91:5
 loop-again : tie.Need-loop-again Inv-loop μ-loop
 loop-again c =
     rw (c .before .one-more .ensures)
     (turned _ _ _ _ _ _ _ _ _ _ _ _ _ _ _ (c .before .before .before .before .before .before .before .before .loop .inv) (c .before .before .before .before .before .before .if1 .left) _ _ (c .before .before .before .before .next-end .ensures) _ (c .before .before .examine-end .ensures))
 
--- src/ends.rt:75:1
 returns-2 : tie.Need-returns-2 Inv-loop μ-loop
 returns-2 c = walked-all _ _ _ _ _ _ _ _ _ _ _ _ _ _ _ (c .before .loop .inv) (c .loop-test .left)
 

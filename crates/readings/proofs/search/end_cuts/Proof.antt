@@ -4,25 +4,23 @@ use mathlib.Core.Path.{_∙_}
 use Rattle.readings.proofs.Seek.{cut-is}
 use Rattle.readings.proofs.search.end_cuts.Statement.{statement}
 use Rattle.readings.proofs.search.end_cuts.Tie as tie
-use Rattle.readings.proofs.search.end_cuts.Reads as reads
-use Rattle.readings.proofs.search.end_cuts.Lts as lts
-use Rattle.topology.proofs.failed_by.Reads as failed-by-reads
-use Rattle.topology.proofs.is_disconnected.Reads as is-disconnected-reads
 
 failed-by-requires : tie.Need-failed-by-requires
 failed-by-requires c κs = search needs
 
 is-disconnected-requires : tie.Need-is-disconnected-requires
-is-disconnected-requires c κs = search needs
+is-disconnected-requires c κs =
+    let e = c .before .before in
+    (e .pre .0 .links-held, (e .pre .1 .0, (e .pre .1 .1 .1, e .pre .1 .1 .2)))
 
 returns : tie.Need-returns
 returns c =
     let e = c .before .before .before in
     rw (c .before .before .if1 .taken)
-    (c .is-disconnected .ensures ∙ cut-is _ _ _ _ _ (e .pre .1 .0) _ (c .before .failed-by .ensures) _ _)
+    (c .is-disconnected .ensures ∙ cut-is _ _ _ _ _ (e .pre .1 .1 .0) _ (c .before .failed-by .ensures) _ _)
 
 returns-2 : tie.Need-returns-2
-returns-2 c = search needs
+returns-2 c = rw (c .if1 .left)
 
 pub end-cuts-spec : {M : Type 1} → statement M
 end-cuts-spec = tie.close (tie.spec failed-by-requires is-disconnected-requires returns returns-2)

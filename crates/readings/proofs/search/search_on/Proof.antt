@@ -4,19 +4,15 @@ use mathlib.Core.Path.{refl}
 use Rattle.readings.proofs.Seek.{Seek, asked-all, walked-all, found-here, turned}
 use Rattle.readings.proofs.search.search_on.Statement.{statement}
 use Rattle.readings.proofs.search.search_on.Tie as tie
-use Rattle.readings.proofs.search.search_on.Reads as reads
-use Rattle.readings.proofs.search.search_on.Lts as lts
-use Rattle.readings.proofs.search.end_cuts.Reads as end-cuts-reads
-use Rattle.walk.proofs.next_end.Reads as next-end-reads
 
 abbrev Inv-loop : tie.InvT-loop
-Inv-loop h links words stack₀ start v w k at₀ left₀ stack at left = Seek h links words at₀ stack₀ v w k stack at left
+Inv-loop h links words table stack₀ start v w k at₀ left₀ stack at left = Seek h links words at₀ stack₀ v w k stack at left
 
 abbrev μ-loop : tie.MeasureT-loop
-μ-loop h links words stack₀ start v w k at₀ left₀ stack at left = left
+μ-loop h links words table stack₀ start v w k at₀ left₀ stack at left = left
 
 loop-holds : tie.Need-loop-holds Inv-loop μ-loop
-loop-holds c = record { seeking = c .pre; alike = refl; members = λ s m. m }
+loop-holds c = record { seeking = c .pre .1; alike = refl; members = λ s m. m }
 
 returns : tie.Need-returns Inv-loop μ-loop
 returns c = asked-all _ _ _ _ _ _ _ _ _ _ _ (c .before .before .loop .inv) (c .if1 .taken)
@@ -29,7 +25,7 @@ next-end-requires c κs =
 end-cuts-requires : tie.Need-end-cuts-requires Inv-loop μ-loop
 end-cuts-requires c κs =
     let g = c .before .before .before .before .loop .inv .seeking in
-    (g .held, (c .next-end .ensures .decided, g .inside .0, g .inside .1))
+    (g .held, (c .before .before .before .before .before .pre .0, (c .next-end .ensures .decided, g .inside .0, g .inside .1)))
 
 returns-2 : tie.Need-returns-2 Inv-loop μ-loop
 returns-2 c =

@@ -7,14 +7,14 @@ use Rattle.topologies.proofs.ends.list_ends.Statement.{statement}
 use Rattle.topologies.proofs.ends.list_ends.Tie as tie
 
 abbrev Inv-loop : tie.InvT-loop
-Inv-loop h links words stack₀ start list₀ at₀ left₀ count₀ stack list at left count =
+Inv-loop h links words table stack₀ start list₀ at₀ left₀ count₀ stack list at left count =
     Turn h links words at₀ stack₀ list₀ (h .limit) stack list at left count
 
 abbrev μ-loop : tie.MeasureT-loop
-μ-loop h links words stack₀ start list₀ at₀ left₀ count₀ stack list at left count = left
+μ-loop h links words table stack₀ start list₀ at₀ left₀ count₀ stack list at left count = left
 
 loop-holds : tie.Need-loop-holds Inv-loop μ-loop
-loop-holds c = turn-begun _ _ _ _ _ _ _ (c .before .pre)
+loop-holds c = turn-begun _ _ _ _ _ _ _ (c .before .pre .1)
 
 same-length : tie.Need-same-length Inv-loop μ-loop
 same-length c = c .before .before .loop .inv .sized
@@ -31,7 +31,7 @@ place-end-requires : tie.Need-place-end-requires Inv-loop μ-loop
 place-end-requires c κs =
     let g = c .before .before .before .before .before .loop .inv in
     let s = c .before .next-end .ensures in
-    (g .held, (s .decided, may-place _ _ _ _ _ _ _ _ _ _ _ _ g (c .before .before .before .if1 .left) _ _ s))
+    (g .held, (c .before .before .before .before .before .before .before .pre .0, (s .decided, may-place _ _ _ _ _ _ _ _ _ _ _ _ g (c .before .before .before .if1 .left) _ _ s)))
 
 same-length-2 : tie.Need-same-length-2 Inv-loop μ-loop
 same-length-2 c =

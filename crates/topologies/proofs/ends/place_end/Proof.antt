@@ -20,7 +20,7 @@ returns c = rw (c .before .before .before .before .before .if1 .taken, ← c .be
 returns-2 : tie.Need-returns-2
 returns-2 c =
     rw (c .if1 .left)
-    (record { number = refl; entries = refl; grows = omega arith; room = c .before .before .pre .1 .1 .room; others = refl; sized = refl })
+    (record { number = refl; entries = refl; grows = omega arith; room = c .before .before .pre .1 .1 .1 .room; others = refl; sized = refl })
 
 pub place-end-spec : {M : Type 1} → statement M
 place-end-spec =

@@ -12,13 +12,13 @@ working-nodes-requires : tie.Need-working-nodes-requires
 working-nodes-requires c κs = search needs
 
 working-links-requires : tie.Need-working-links-requires
-working-links-requires c κs = search needs
+working-links-requires c κs = c .before .before .pre .0 .links-held .links-fit
 
 returns : tie.Need-returns
 returns c =
     let e = c .before .before .before in
-    topology-after _ _ _ _ _ (e .pre .1) _ (c .before .before .failed-by .ensures) _ _ _ (omega arith) (omega arith) (omega arith)
-    (c .before .working-nodes .ensures) (c .working-links .ensures)
+    topology-after _ _ _ _ _ (e .pre .1 .1) _ (c .before .before .failed-by .ensures) _ _ _ (omega arith) (omega arith) (omega arith)
+    (c .before .working-nodes .ensures) (c .working-links .ensures _ _ (e .pre .0 .links-held) (e .pre .1 .0))
 
 pub topology-of-spec : {M : Type 1} → statement M
 topology-of-spec =

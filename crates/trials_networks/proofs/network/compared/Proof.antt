@@ -5,10 +5,13 @@ use Rattle.trials_networks.proofs.network.compared.Statement.{statement
 use Rattle.trials_networks.proofs.network.compared.Tie as tie
 
 abbrev Inv-loop : tie.InvT-loop
-Inv-loop label n links count failed first want v₀ v = v ≤ 64
+Inv-loop label n links count failed first want table v₀ v = v ≤ 64
 
 abbrev μ-loop : tie.MeasureT-loop
-μ-loop label n links count failed first want v₀ v = 64 - v
+μ-loop label n links count failed first want table v₀ v = 64 - v
+
+links-at-requires : tie.Need-links-at-requires Inv-loop μ-loop
+links-at-requires c κs = search needs
 
 loop-holds : tie.Need-loop-holds Inv-loop μ-loop
 loop-holds c = search needs
@@ -40,6 +43,7 @@ compared-spec =
     (tie.spec
     Inv-loop
     μ-loop
+    links-at-requires
     loop-holds
     reach-from-requires
     at-node-requires

@@ -1,13 +1,12 @@
--- `topology::changes::join` meets its contract: each of the two rows gets one element. Assumes nothing.
+-- `topology::rows::join` meets its contract: each of the two rows gets one element. Assumes nothing.
 use borrow.Author.Needs.{needs}
 use mathlib.Core.Path.{ap, _∙_}
-use mathlib.Core.Bool.{Bool, _&&_, _||_}
-use lib.Dec.{eqb}
+use mathlib.Core.Bool.{Bool, _||_}
 use lib.ListN.{getD, set, length-set}
 use Rattle.sets.specs.Sets.{bit}
-use Rattle.topology.proofs.RowSets.{both-changed, grow-none, grow-twice}
-use Rattle.topology.proofs.changes.join.Statement.{statement}
-use Rattle.topology.proofs.changes.join.Tie as tie
+use Rattle.topology.proofs.RowSets.{both-put}
+use Rattle.topology.proofs.rows.join.Statement.{statement}
+use Rattle.topology.proofs.rows.join.Tie as tie
 
 mul-union : tie.Need-mul-union
 mul-union c = search needs
@@ -50,10 +49,9 @@ returns c =
     let start = c .before .before .before .before .before .before in
     let a = start .args in
     let one = c .before .before .before in
-    let first = set (a .rows .now) (a .a) (one .union .result) in
-    let on = eqb (a .on) 1 in (
+    let first = set (a .rows .now) (a .a) (one .union .result) in (
       simp length-set (start .pre .0),
-      both-changed (λ x y. x || (on && y)) (grow-none on) (grow-twice on) (a .rows .now) (a .a) (a .b) (one .union .result) (c .union2 .result)
+      both-put (a .rows .now) (a .a) (a .b) (one .union .result) (c .union2 .result)
           (start .pre .0)
           (start .pre .1 .0)
           (start .pre .1 .1)
