@@ -1,4 +1,5 @@
 -- Laws that the proofs of the crate `walk` share.
 pub mod Words
+pub mod Dropped
 pub mod Step
 pub mod Resume

@@ -3,6 +3,7 @@ pub mod Scenario
 pub mod Ends
 pub mod Member
 pub mod Pending
+pub mod WorksPath
 pub mod Walk
 pub mod Laws
 pub mod Stack
