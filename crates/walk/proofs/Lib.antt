@@ -1,5 +1,6 @@
 -- Laws that the proofs of the crate `walk` share.
 pub mod Words
 pub mod Dropped
-pub mod Step
+pub mod Branches
+pub mod Descents
 pub mod Resume
