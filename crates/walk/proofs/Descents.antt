@@ -217,13 +217,13 @@ module _ (count threshold : ℕ) (words : List ℕ) where
                 run = λ (z : 128 < depth + 1). omega arith;
                 branch =
                     λ (z : depth + 1 ≤ 128).
-                        record {
-                          deep = omega arith;
-                          light = omega (arith, failed, fails-le mass q fits, g .hand .light);
-                          word = d .word;
-                          decided = omega (arith, d .set, g .hand .decided, pow-succ' 2 depth, ap (λ (n : ℕ). 2 ^ n) (add-one depth));
-                          room = omega (arith, g .hand .room);
-                        };
+                    record {
+                      deep = omega arith;
+                      light = omega (arith, failed, fails-le mass q fits, g .hand .light);
+                      word = d .word;
+                      decided = omega (arith, d .set, g .hand .decided, pow-succ' 2 depth, ap (λ (n : ℕ). 2 ^ n) (add-one depth));
+                      room = omega (arith, g .hand .room);
+                    };
               }
 
           same-q : getD events (length path) none .probability ≡ q
@@ -297,12 +297,12 @@ delayed-some number at stack stack′ some room laid sized =
       ahead = λ count threshold words. rw (laid, again, entry-run threshold (eventsOf count words) 129 number 0 0 (omega arith));
       held =
           λ count (s : Stack count at stack).
-              record {
-                whole-entries = omega (arith, s .whole-entries);
-                within = omega (arith, s .within);
-                sized = sized;
-                entries = rw (laid, again) (record { run = λ (z : 128 < 129). some; branch = λ (z : 129 ≤ 128). absurd (omega arith) }, s .entries);
-              };
+          record {
+            whole-entries = omega (arith, s .whole-entries);
+            within = omega (arith, s .within);
+            sized = sized;
+            entries = rw (laid, again) (record { run = λ (z : 128 < 129). some; branch = λ (z : 129 ≤ 128). absurd (omega arith) }, s .entries);
+          };
     }
   where
     again : at - 4 + 4 ≡ at

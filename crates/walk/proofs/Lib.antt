@@ -3,4 +3,5 @@ pub mod Words
 pub mod Dropped
 pub mod Branches
 pub mod Descents
+pub mod Handing
 pub mod Resume
