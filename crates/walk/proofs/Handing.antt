@@ -6,17 +6,14 @@ use mathlib.Core.List.{List, [], _∷_, _++_}
 use Prim.Native.Nat.{ℕ, suc, _+_, _-_, _^_, _≤_, _<_}
 use native.Mathlib.Nat.{zero-add}
 use native.Mathlib.Omega.{arith}
-use lib.ListN.{length, replicate, drop-of-length-le}
+use lib.ListN.{replicate}
 use lib.Pow.{pow-pos}
 use Rattle.walk.specs.Ends.{End, dropped}
 use Rattle.walk.specs.Runs.{toCome, Stack}
 use Rattle.walk.specs.Steps.{Handed, Delayed, Descended}
 use Rattle.walk.specs.declared.Descent.{Descent}
 use Rattle.walk.proofs.Dropped.{runs-add}
-
--- an empty stack: nothing is to come
-pub none-to-come : (count threshold : ℕ) (words stack : List ℕ) → length stack ≡ 512 → toCome count threshold words 512 stack ≡ []
-none-to-come count threshold words stack h = rw (drop-of-length-le stack {i = 512} (omega arith))
+use Rattle.walk.proofs.Loops.{none-to-come}
 
 -- on the way: so many dropped ends were passed, and the others are to come
 pub record Passing (count threshold : ℕ) (words : List ℕ) (all : List End) (allowed at left : ℕ) (stack : List ℕ) : Type 0 where

@@ -3,5 +3,6 @@ pub mod Words
 pub mod Dropped
 pub mod Branches
 pub mod Descents
+pub mod Loops
 pub mod Handing
 pub mod Resume
