@@ -3,7 +3,10 @@ pub mod Scenario
 pub mod Ends
 pub mod Member
 pub mod Pending
+pub mod WorksPath
 pub mod Walk
 pub mod Laws
 pub mod Stack
+pub mod Runs
+pub mod Steps
 pub mod Valid

@@ -24,6 +24,21 @@ branch b q fails = record { path = b .path ++ (fails ∷ []); mass = part fails 
 abbrev pub branchEnds : ℕ → List Event → Branch → List End
 branchEnds t events b = endsAfter (b .path) t (b .mass) (drop (length (b .path)) events)
 
+-- law: where its mass is at least the threshold and events are left, a branch is its two parts at the next event, "works" before "fails"
+pub branch-node : (t : ℕ) (events : List Event) (b : Branch) (none : Event) → t ≤ b .mass → length (b .path) < length events
+    → let q : ℕ = getD events (length (b .path)) none .probability in
+    branchEnds t events b ≡ branchEnds t events (branch b q false) ++ branchEnds t events (branch b q true)
+branch-node t events b none h l =
+    rw (
+      drop-cons events (length (b .path)) none l,
+      after-node (b .path) t (b .mass) (getD events (length (b .path)) none) (drop (suc (length (b .path))) events) h,
+      longer false,
+      longer true,
+    )
+  where
+    longer : (fails : Bool) → length (b .path ++ (fails ∷ [])) ≡ suc (length (b .path))
+    longer fails = omega (arith, length-append (b .path) (fails ∷ []))
+
 -- the ends still to come: those of each pending branch in turn
 abbrev pub pending : ℕ → List Event → List Branch → List End
 pending t events [] = []

@@ -4,11 +4,11 @@ use mathlib.Core.Path.{_≡_, refl, ap, ap₂, _∙_}
 use mathlib.Core.Bool.{Bool, true, false}
 use mathlib.Core.List.{List, [], _∷_, _++_}
 use Prim.Native.Nat.{ℕ, zero, suc, _+_, _*_, _/_, _%_, _^_, _≤_, _<_}
-use native.Mathlib.Nat.{zero-div, div-one, pow-succ'}
+use native.Mathlib.Nat.{zero-add, suc-add, zero-div, div-one, pow-succ'}
 use native.Mathlib.Numerals.{one-add}
 use native.Mathlib.Omega.{arith}
 use lib.Dec.{eqb}
-use lib.ListN.{length, getD, length-append}
+use lib.ListN.{length, getD, drop, replicate, length-append}
 use lib.Pow.{shr-shr}
 use borrow.Author.Tests.{eq-eqb, ne-eqb, eqb-true, eqb-false}
 use Rattle.mass.specs.Split.{certain, failing, working}
@@ -45,6 +45,23 @@ finalMass m (e ∷ events) (b ∷ s) = finalMass (part b m (e .probability)) eve
 abbrev pub Probabilities : List Event → Type 0
 Probabilities [] = Unit {0}
 Probabilities (e ∷ events) = (e .probability ≤ certain) × Probabilities events
+
+-- each event's probability is at most that of the event before it, and the first one's is at most q
+abbrev pub Falling : ℕ → List Event → Type 0
+Falling q [] = Unit {0}
+Falling q (e ∷ events) = (e .probability ≤ q) × Falling (e .probability) events
+
+-- law: probabilities that fall from at most 1 are at most 1
+pub falling-probable : (q : ℕ) (events : List Event) → q ≤ certain → Falling q events → Probabilities events
+falling-probable q [] h f = tt
+falling-probable q (e ∷ events) h f = let fits : e .probability ≤ certain = omega (arith, f .0) in (fits, falling-probable (e .probability) events fits (f .1))
+
+-- law: from any event on, they fall from its own probability
+pub falling-drop : (q : ℕ) (events : List Event) (i : ℕ) (none : Event) → Falling q events → i < length events
+    → Falling (getD events i none .probability) (drop i events)
+falling-drop q [] i none f h = absurd (omega arith)
+falling-drop q (e ∷ events) zero none f h = (omega arith, f .1)
+falling-drop q (e ∷ events) (suc i) none f h = falling-drop (e .probability) events i none (f .1) (omega arith)
 
 -- the two parts of a number: its lowest bit and the rest
 parity : (b : Bool) (k : ℕ) → eqb ((digit b + 2 * k) % 2) 1 ≡ b
@@ -104,6 +121,15 @@ scenario-next d k b h = ap₂ scenarioOf same-length same-number ∙ scenario-nu
 
     same-number : k + 2 ^ d * digit b ≡ number next
     same-number = rw (number-append (scenarioOf d k) (b ∷ []), number-scenario d k h, scenario-length d k) (omega arith)
+
+-- law: events more that all work leave the number as it is
+none-fail : (n : ℕ) → scenarioOf n 0 ≡ replicate n false
+none-fail zero = refl
+none-fail (suc n) = ap {B = Scenario} (λ s. false ∷ s) (none-fail n)
+
+pub scenario-works : (d n k : ℕ) → k < 2 ^ d → scenarioOf (d + n) k ≡ scenarioOf d k ++ replicate n false
+scenario-works zero n k h = let none : k ≡ 0 = omega arith in rw (zero-add n, none) (none-fail n)
+scenario-works (suc d) n k h = rw (suc-add d n) (ap {B = Scenario} (λ s. eqb (k % 2) 1 ∷ s) (scenario-works d n (k / 2) (omega (arith, pow-succ' 2 d))))
 
 -- law: mass never grows, whatever the events
 pub finalMass-le : (m : ℕ) (events : List Event) (s : Scenario) → Probabilities events → finalMass m events s ≤ m

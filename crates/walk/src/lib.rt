@@ -9,6 +9,10 @@ ghost use Rattle.plan.specs.Lists.{eventsOf};
 ghost use Rattle.walk.specs.Scenario.{Probabilities};
 ghost use Rattle.walk.specs.Stack.{Begun, Decided, Deciding, Stack, Stepped};
 
+mod ahead;
+
+pub use ahead::next_relevant;
+
 // A set of events in two words, events 64 to 127 in the high one.
 pub struct Failing {
     pub low: u64,
@@ -23,6 +27,34 @@ pub struct Next {
     pub mass: u64,
     pub low: u64,
     pub high: u64,
+}
+
+// What a step hands out: where the stack now begins, how many ends may still be reached, whether a relevant scenario was found, its mass and
+// its failing events (0 where none was).
+pub struct Step {
+    pub at: usize,
+    pub left: u64,
+    pub found: bool,
+    pub mass: u64,
+    pub low: u64,
+    pub high: u64,
+}
+
+// Where a "works" path stops: how many events are decided, and the mass.
+pub struct Stop {
+    pub depth: u64,
+    pub mass: u64,
+}
+
+// What a descent comes to: where the stack now begins, and one end: whether it is relevant, its mass and its failing events (0 where it is
+// dropped); so many dropped ends follow it.
+pub struct Descent {
+    pub at: usize,
+    pub relevant: bool,
+    pub mass: u64,
+    pub low: u64,
+    pub high: u64,
+    pub dropped: u64,
 }
 
 // The set of failing events with one event more, that comes after all of them.

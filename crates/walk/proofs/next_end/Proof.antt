@@ -3,7 +3,7 @@
 use Prim.Native.Nat.{_-_}
 use native.Mathlib.Omega.{arith}
 use Rattle.walk.specs.Stack.{toCome}
-use Rattle.walk.proofs.Step.{Going, taken, room, asked, down, answers-dropped, answers-relevant}
+use Rattle.walk.proofs.Branches.{Going, taken, room, asked, down, answers-dropped, answers-relevant}
 use Rattle.walk.proofs.next_end.Statement.{statement}
 use Rattle.walk.proofs.next_end.Tie as tie
 

@@ -49,7 +49,7 @@ probability-le (suc count) words (suc i) p h =
     further = omega arith
 
 -- the two branches at the next event, in words
-next-works : (depth mass low high q : ℕ) → joined low high < 2 ^ depth
+pub next-works : (depth mass low high q : ℕ) → joined low high < 2 ^ depth
     → branch (entry depth mass low high) q false ≡ entry (depth + 1) (working mass q) low high
 next-works depth mass low high q h = ap (λ (s : Scenario). record { path = s; mass = working mass q }) same
   where
@@ -59,7 +59,7 @@ next-works depth mass low high q h = ap (λ (s : Scenario). record { path = s; m
         same-set : joined low high + 2 ^ depth * 0 ≡ joined low high
         same-set = omega arith
 
-next-fails : (depth mass low high q low′ high′ : ℕ) → joined low high < 2 ^ depth → joined low′ high′ ≡ joined low high + 2 ^ depth
+pub next-fails : (depth mass low high q low′ high′ : ℕ) → joined low high < 2 ^ depth → joined low′ high′ ≡ joined low high + 2 ^ depth
     → branch (entry depth mass low high) q true ≡ entry (depth + 1) (failing mass q) low′ high′
 next-fails depth mass low high q low′ high′ h e = ap (λ (s : Scenario). record { path = s; mass = failing mass q }) same
   where

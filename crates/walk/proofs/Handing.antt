@@ -1,0 +1,116 @@
+-- From step to step over dropped ends, to the next relevant one or to the last end that may be reached.
+-- Assumes nothing.
+use mathlib.Core.Path.{_≡_, refl, ap, sym, _∙_}
+use mathlib.Core.Bool.{true, false, true≢false}
+use mathlib.Core.List.{List, [], _∷_, _++_}
+use Prim.Native.Nat.{ℕ, suc, _+_, _-_, _^_, _≤_, _<_}
+use native.Mathlib.Nat.{zero-add}
+use native.Mathlib.Omega.{arith}
+use lib.ListN.{replicate}
+use lib.Pow.{pow-pos}
+use Rattle.walk.specs.Ends.{End, dropped}
+use Rattle.walk.specs.Runs.{toCome, Stack}
+use Rattle.walk.specs.Steps.{Handed, Delayed, Descended}
+use Rattle.walk.specs.declared.Descent.{Descent}
+use Rattle.walk.proofs.Dropped.{runs-add}
+use Rattle.walk.proofs.Loops.{none-to-come}
+
+-- on the way: so many dropped ends were passed, and the others are to come
+pub record Passing (count threshold : ℕ) (words : List ℕ) (all : List End) (allowed at left : ℕ) (stack : List ℕ) : Type 0 where
+  pub passed : ℕ
+  pub ends : all ≡ replicate passed dropped ++ toCome count threshold words at stack
+  pub counted : allowed ≡ passed + left
+  pub held : Stack count at stack
+
+pub starts : (count threshold : ℕ) (words : List ℕ) (allowed at : ℕ) (stack : List ℕ) → Stack count at stack
+    → Passing count threshold words (toCome count threshold words at stack) allowed at allowed stack
+starts count threshold words allowed at stack s = record { passed = 0; ends = refl; counted = sym (zero-add allowed); held = s }
+
+module _ (count threshold : ℕ) (words : List ℕ) (at₀ : ℕ) (stack₀ : List ℕ) (allowed at left : ℕ) (stack : List ℕ)
+    (g : Passing count threshold words (toCome count threshold words at₀ stack₀) allowed at left stack) where
+  -- no end may be reached any more
+  pub used-up : left ≡ 0 → Handed count threshold words at₀ stack₀ allowed stack (record { at = at; left = 0; found = false; mass = 0; low = 0; high = 0 })
+  used-up e =
+      record {
+        passed = g .passed;
+        ends = g .ends;
+        counted = omega (arith, g .counted);
+        ended = λ same (z : 0 < 0). absurd (omega arith);
+        held = g .held;
+        light = omega arith;
+        decided = omega (arith, pow-pos count);
+        nothing = λ same. (refl, refl, refl);
+      }
+
+  -- no end is to come
+  pub all-reached : 512 ≤ at → Handed count threshold words at₀ stack₀ allowed stack (record { at = at; left = left; found = false; mass = 0; low = 0; high = 0 })
+  all-reached h =
+      record {
+        passed = g .passed;
+        ends = g .ends;
+        counted = omega (arith, g .counted);
+        ended = λ same (z : 0 < left). rw last (none-to-come count threshold words stack (g .held .sized));
+        held = g .held;
+        light = omega arith;
+        decided = omega (arith, pow-pos count);
+        nothing = λ same. (refl, refl, refl);
+      }
+    where
+      last : at ≡ 512
+      last = omega (arith, g .held .within)
+
+  -- a descent
+  module _ (some : left ≡ 0 → ⊥) (stack₁ : List ℕ) (d : Descent) (s : Descended count threshold words (toCome count threshold words at stack) stack₁ d) where
+    -- to dropped ends, all of which may be reached
+    pub further : d .relevant ≡ false → d .dropped ≤ left - 1
+        → Passing count threshold words (toCome count threshold words at₀ stack₀) allowed (d .at) (left - 1 - d .dropped) stack₁
+    further e h =
+        record {
+          passed = g .passed + suc (d .dropped);
+          ends = g .ends ∙ ap (λ l. replicate (g .passed) dropped ++ l) (rw e at (s .ends)) ∙ runs-add (g .passed) (suc (d .dropped)) (toCome count threshold words (d .at) stack₁);
+          counted = omega (arith, g .counted);
+          held = s .held;
+        }
+
+    -- to dropped ends, not all of which may be reached: the others are laid down
+    pub short : d .relevant ≡ false → left - 1 < d .dropped → (stack₂ : List ℕ) (top : ℕ) → Delayed (d .dropped - (left - 1)) (d .at) stack₁ stack₂ top
+        → Handed count threshold words at₀ stack₀ allowed stack₂ (record { at = top; left = 0; found = false; mass = 0; low = 0; high = 0 })
+    short e h stack₂ top laid =
+        record {
+          passed = g .passed + left;
+          ends = g .ends ∙ ap (λ l. replicate (g .passed) dropped ++ l) parts ∙ runs-add (g .passed) left (toCome count threshold words top stack₂);
+          counted = omega (arith, g .counted);
+          ended = λ same (z : 0 < 0). absurd (omega arith);
+          held = laid .held count (s .held);
+          light = omega arith;
+          decided = omega (arith, pow-pos count);
+          nothing = λ same. (refl, refl, refl);
+        }
+      where
+        rest : List End
+        rest = toCome count threshold words (d .at) stack₁
+
+        split : suc (d .dropped) ≡ left + (d .dropped - (left - 1))
+        split = omega arith
+
+        parts : toCome count threshold words at stack ≡ replicate left dropped ++ toCome count threshold words top stack₂
+        parts =
+            rw e at (s .ends)
+            ∙ ap (λ (n : ℕ). replicate n dropped ++ rest) split
+            ∙ sym (runs-add left (d .dropped - (left - 1)) rest)
+            ∙ ap (λ l. replicate left dropped ++ l) (sym (laid .ahead count threshold words))
+
+    -- to a relevant end: the dropped ones that follow it are laid down
+    pub hands : d .relevant ≡ true → (stack₂ : List ℕ) (top : ℕ) → Delayed (d .dropped) (d .at) stack₁ stack₂ top
+        → Handed count threshold words at₀ stack₀ allowed stack₂ (record { at = top; left = left - 1; found = true; mass = d .mass; low = d .low; high = d .high })
+    hands e stack₂ top laid =
+        record {
+          passed = g .passed;
+          ends = g .ends ∙ ap (λ l. replicate (g .passed) dropped ++ l) (rw (laid .ahead count threshold words) (rw e at (s .ends)));
+          counted = omega (arith, g .counted);
+          ended = λ (clash : true ≡ false). absurd (true≢false clash);
+          held = laid .held count (s .held);
+          light = s .light;
+          decided = s .decided;
+          nothing = λ (clash : true ≡ false). absurd (true≢false clash);
+        }

@@ -1,0 +1,101 @@
+-- `walk::ahead::next_relevant` meets its contract. The loop's invariant is `Passing`: so many dropped ends were passed, and the others are to
+-- come. The measure is how many ends may still be reached. Assumes nothing.
+use borrow.Author.Needs.{needs}
+use native.Mathlib.Omega.{arith}
+use Rattle.walk.specs.Runs.{toCome}
+use Rattle.walk.proofs.Handing.{Passing, starts, used-up, all-reached, further, short, hands}
+use Rattle.walk.proofs.ahead.next_relevant.Statement.{statement}
+use Rattle.walk.proofs.ahead.next_relevant.Tie as tie
+
+abbrev Inv-loop : tie.InvT-loop
+Inv-loop count threshold events stack₀ at allowed top₀ left₀ stack top left =
+    Passing count threshold events (toCome count threshold events at stack₀) allowed top left stack
+
+abbrev μ-loop : tie.MeasureT-loop
+μ-loop count threshold events stack₀ at allowed top₀ left₀ stack top left = left
+
+loop-holds : tie.Need-loop-holds Inv-loop μ-loop
+loop-holds c = starts _ _ _ _ _ _ (c .pre .2)
+
+none-at-requires : tie.Need-none-at-requires Inv-loop μ-loop
+none-at-requires c κs = search needs
+
+returns : tie.Need-returns Inv-loop μ-loop
+returns c = rw (c .none-at .ensures) (used-up _ _ _ _ _ _ _ _ _ (c .before .before .before .loop .inv) (c .before .if1 .taken))
+
+descend-requires : tie.Need-descend-requires Inv-loop μ-loop
+descend-requires c κs =
+    let s = c .before .before .before .before in
+    (s .pre .0, s .pre .1, c .before .before .loop-test .taken, c .before .before .before .loop .inv .held)
+
+sub-left : tie.Need-sub-left Inv-loop μ-loop
+sub-left c = omega arith
+
+delay-requires : tie.Need-delay-requires Inv-loop μ-loop
+delay-requires c κs =
+    let d = c .before .before .descend .ensures in
+    (d .held .within, d .held .sized, d .room)
+
+returns-2 : tie.Need-returns-2 Inv-loop μ-loop
+returns-2 c =
+    let two = c .before .before in
+    let one = two .before .before .before in
+    hands _ _ _ _ _ _ _ _ _ (one .before .before .loop .inv) (one .if1 .left) _ _ (two .before .descend .ensures) (two .if2 .taken) _ _ (c .delay .ensures)
+
+sub-delay : tie.Need-sub-delay Inv-loop μ-loop
+sub-delay c = omega arith
+
+delay-requires-2 : tie.Need-delay-requires-2 Inv-loop μ-loop
+delay-requires-2 c κs =
+    let d = c .before .before .before .before .before .descend .ensures in
+    (d .held .within, d .held .sized, λ some. d .room (omega arith))
+
+none-at-requires-2 : tie.Need-none-at-requires-2 Inv-loop μ-loop
+none-at-requires-2 c κs = search needs
+
+returns-3 : tie.Need-returns-3 Inv-loop μ-loop
+returns-3 c =
+    let three = c .before .before .before .before in
+    let two = three .before .before in
+    let one = two .before .before .before in
+    rw (c .none-at2 .ensures)
+    (short _ _ _ _ _ _ _ _ _ (one .before .before .loop .inv) (one .if1 .left) _ _ (two .before .descend .ensures) (two .if2 .left) (three .if3 .taken) _ _ (c .before .delay2 .ensures))
+
+loop-less : tie.Need-loop-less Inv-loop μ-loop
+loop-less c = omega (arith, c .before .before .before .before .before .before .if1 .left)
+
+loop-again : tie.Need-loop-again Inv-loop μ-loop
+loop-again c =
+    let three = c .before in
+    let two = three .before .before in
+    let one = two .before .before .before in
+    let s = one .before .before .before in
+    further _ _ _ (s .args .at) (s .args .stack .now) _ _ _ _ (one .before .before .loop .inv) (one .if1 .left) _ _ (two .before .descend .ensures) (two .if2 .left) (three .if3 .left)
+
+none-at-requires-3 : tie.Need-none-at-requires-3 Inv-loop μ-loop
+none-at-requires-3 c κs = search needs
+
+returns-4 : tie.Need-returns-4 Inv-loop μ-loop
+returns-4 c = rw (c .none-at3 .ensures) (all-reached _ _ _ _ _ _ _ _ _ (c .before .before .loop .inv) (c .before .loop-test .left))
+
+pub next-relevant-spec : {M : Type 1} → statement M
+next-relevant-spec =
+    tie.close
+    (tie.spec
+    Inv-loop
+    μ-loop
+    loop-holds
+    none-at-requires
+    returns
+    descend-requires
+    sub-left
+    delay-requires
+    returns-2
+    sub-delay
+    delay-requires-2
+    none-at-requires-2
+    returns-3
+    loop-less
+    loop-again
+    none-at-requires-3
+    returns-4)

@@ -1,0 +1,62 @@
+-- The stack of the walk in memory: what its words denote.
+-- Assumes nothing.
+use mathlib.Core.Path.{_≡_}
+use mathlib.Core.Bool.{true, false}
+use mathlib.Core.List.{List, [], _∷_, _++_}
+use Prim.Native.Nat.{ℕ, _*_, _%_, _≤_, _<_}
+use lib.Dec.{ltb}
+use lib.ListN.{length, drop, replicate}
+use borrow.Author.Tests.{lt-ltb, le-ltb}
+use Rattle.plan.specs.Plan.{Event}
+use Rattle.plan.specs.Lists.{eventsOf}
+use Rattle.walk.specs.Ends.{End, dropped}
+use Rattle.walk.specs.Pending.{branchEnds}
+use Rattle.walk.specs.Stack.{entry, Entry}
+
+-- the ends that four words of the stack stand for: those of a pending branch; or, where the first word is above 128 (no branch has so many
+-- events decided), so many dropped ends as the second word says
+unfoldable pub entryEnds : ℕ → List Event → ℕ → ℕ → ℕ → ℕ → List End
+entryEnds t events depth mass low high =
+    elim (ltb 128 depth) [ true ↦ replicate mass dropped | false ↦ branchEnds t events (entry depth mass low high) ]
+
+-- the ends that a list of words stands for, four words to an entry, the next one first
+abbrev pub stackEnds : ℕ → List Event → List ℕ → List End
+stackEnds t events [] = []
+stackEnds t events (a ∷ []) = []
+stackEnds t events (a ∷ b ∷ []) = []
+stackEnds t events (a ∷ b ∷ c ∷ []) = []
+stackEnds t events (depth ∷ mass ∷ low ∷ high ∷ rest) = entryEnds t events depth mass low high ++ stackEnds t events rest
+
+-- the ends still to come: the stack is the words from `at` on; `count` events in `words`, four words to an event
+abbrev pub toCome : ℕ → ℕ → List ℕ → ℕ → List ℕ → List End
+toCome count threshold words at stack = stackEnds threshold (eventsOf count words) (drop at stack)
+
+-- what holds of four words of the stack and the words under them, whichever of the two they are
+pub record Laid (count depth mass low high below : ℕ) : Type 0 where
+  pub run : 128 < depth → 0 < mass
+  pub branch : depth ≤ 128 → Entry count depth mass low high below
+
+-- what holds of each entry of the stack
+abbrev pub Entries : ℕ → List ℕ → Type 0
+Entries count [] = Unit {0}
+Entries count (a ∷ []) = ⊥
+Entries count (a ∷ b ∷ []) = ⊥
+Entries count (a ∷ b ∷ c ∷ []) = ⊥
+Entries count (depth ∷ mass ∷ low ∷ high ∷ rest) = Laid count depth mass low high (length rest) × Entries count rest
+
+-- a stack that the walk may go on with
+pub record Stack (count at : ℕ) (stack : List ℕ) : Type 0 where
+  pub whole-entries : at % 4 ≡ 0
+  pub within : at ≤ 512
+  pub sized : length stack ≡ 512
+  pub entries : Entries count (drop at stack)
+
+module _ (t : ℕ) (events : List Event) (depth mass low high : ℕ) where
+  -- law: the two kinds of an entry
+  pub entry-run : 128 < depth → entryEnds t events depth mass low high ≡ replicate mass dropped
+  unfolding entryEnds
+  entry-run h = rw (lt-ltb 128 depth h, entryEnds)
+
+  pub entry-branch : depth ≤ 128 → entryEnds t events depth mass low high ≡ branchEnds t events (entry depth mass low high)
+  unfolding entryEnds
+  entry-branch h = rw (le-ltb 128 depth h, entryEnds)

@@ -1,0 +1,94 @@
+-- What a step of the walk promises, and its parts.
+-- Assumes nothing.
+use mathlib.Core.Path.{_≡_}
+use mathlib.Core.Bool.{Bool, true, false}
+use mathlib.Core.List.{List, [], _∷_, _++_}
+use Prim.Native.Nat.{ℕ, _+_, _*_, _^_, _≤_, _<_}
+use lib.Dec.{ltb}
+use lib.ListN.{length, drop, replicate}
+use borrow.Author.Tests.{lt-ltb, le-ltb}
+use Rattle.mass.specs.Split.{whole}
+use Rattle.sets.specs.Sets.{joined, digit}
+use Rattle.plan.specs.Plan.{Event}
+use Rattle.plan.specs.Lists.{eventsOf}
+use Rattle.walk.specs.Scenario.{scenarioOf}
+use Rattle.walk.specs.Ends.{End, dropped, relevant}
+use Rattle.walk.specs.WorksPath.{pathSteps, pathMass}
+use Rattle.walk.specs.Runs.{toCome, Stack}
+use Rattle.walk.specs.declared.Descent.{Descent}
+use Rattle.walk.specs.declared.Step.{Step}
+use Rattle.walk.specs.declared.Stop.{Stop}
+
+-- the scenario that a step hands out, with its mass; no end where it found none
+abbrev pub handedOut : ℕ → Bool → ℕ → ℕ → ℕ → List End
+handedOut count true mass low high = relevant (scenarioOf count (joined low high)) mass ∷ []
+handedOut count false mass low high = []
+
+-- A step, from a stack that begins at `at`, where so many ends as `allowed` may still be reached: the ends to come begin with `passed`
+-- dropped ones, then the one handed out; the ends that are then still to come, and how many may still be reached, are the rest. Where none is
+-- handed out, no more may be reached, or none is to come.
+pub record Handed (count threshold : ℕ) (words : List ℕ) (at : ℕ) (stack : List ℕ) (allowed : ℕ) (stack′ : List ℕ) (r : Step) : Type 0 where
+  pub passed : ℕ
+  pub ends : toCome count threshold words at stack
+      ≡ replicate passed dropped ++ (handedOut count (r .found) (r .mass) (r .low) (r .high) ++ toCome count threshold words (r .at) stack′)
+  pub counted : allowed ≡ passed + (digit (r .found) + r .left)
+  pub ended : r .found ≡ false → 0 < r .left → toCome count threshold words (r .at) stack′ ≡ []
+  pub held : Stack count (r .at) stack′
+  pub light : r .mass ≤ whole
+  pub decided : joined (r .low) (r .high) < 2 ^ count
+  pub nothing : r .found ≡ false → (r .mass ≡ 0) × (r .low ≡ 0) × (r .high ≡ 0)
+
+-- the "works" path of a branch goes to where it stops
+pub record Stopped (count threshold : ℕ) (words : List ℕ) (depth mass : ℕ) (r : Stop) : Type 0 where
+  pub steps : r .depth ≡ depth + pathSteps threshold mass (drop depth (eventsOf count words))
+  pub stops : r .mass ≡ pathMass threshold mass (drop depth (eventsOf count words))
+  pub within : r .depth ≤ count
+  pub light : r .mass ≤ whole
+
+-- the branch where an event fails, laid down: its set of failing events is in two words
+pub record Pushed (depth mass low high at : ℕ) (stack stack′ : List ℕ) : Type 0 where
+  pub setLow : ℕ
+  pub setHigh : ℕ
+  pub word : setLow < 2 ^ 64
+  pub set : joined setLow setHigh ≡ joined low high + 2 ^ depth
+  pub laid : drop at stack′ ≡ (depth + 1) ∷ mass ∷ setLow ∷ setHigh ∷ drop (at + 4) stack
+  pub sized : length stack′ ≡ 512
+
+-- so many dropped ends laid down before the ends to come, whatever the plan
+pub record Delayed (number at : ℕ) (stack stack′ : List ℕ) (r : ℕ) : Type 0 where
+  pub ahead : (count threshold : ℕ) (words : List ℕ)
+      → toCome count threshold words r stack′ ≡ replicate number dropped ++ toCome count threshold words at stack
+  pub held : (count : ℕ) → Stack count at stack → Stack count r stack′
+
+-- the end that a descent comes to
+abbrev pub endOf : ℕ → Bool → ℕ → ℕ → ℕ → End
+endOf count true mass low high = relevant (scenarioOf count (joined low high)) mass
+endOf count false mass low high = dropped
+
+-- a descent takes an entry off the stack: one end, then so many dropped ones as it says, then what is left on the stack
+pub record Descended (count threshold : ℕ) (words : List ℕ) (all : List End) (stack : List ℕ) (r : Descent) : Type 0 where
+  pub ends : all
+      ≡ endOf count (r .relevant) (r .mass) (r .low) (r .high) ∷ (replicate (r .dropped) dropped ++ toCome count threshold words (r .at) stack)
+  pub held : Stack count (r .at) stack
+  pub room : 0 < r .dropped → 4 ≤ r .at
+  pub light : r .mass ≤ whole
+  pub decided : joined (r .low) (r .high) < 2 ^ count
+
+-- the answer of a descent that stops at a mass: `number` dropped ends follow
+unfoldable pub descentOf : ℕ → ℕ → ℕ → ℕ → ℕ → ℕ → Descent
+descentOf threshold at mass low high number =
+    elim (ltb mass threshold) [
+      | true ↦ record { at = at; relevant = false; mass = 0; low = 0; high = 0; dropped = number }
+      | false ↦ record { at = at; relevant = true; mass = mass; low = low; high = high; dropped = number }
+    ]
+
+module _ (threshold at mass low high number : ℕ) where
+  pub descent-cut : mass < threshold
+      → descentOf threshold at mass low high number ≡ record { at = at; relevant = false; mass = 0; low = 0; high = 0; dropped = number }
+  unfolding descentOf
+  descent-cut h = rw (lt-ltb mass threshold h, descentOf)
+
+  pub descent-enough : threshold ≤ mass
+      → descentOf threshold at mass low high number ≡ record { at = at; relevant = true; mass = mass; low = low; high = high; dropped = number }
+  unfolding descentOf
+  descent-enough h = rw (le-ltb mass threshold h, descentOf)

@@ -1,0 +1,242 @@
+// One step of the walk: the next relevant scenario.
+use crate::Descent;
+use crate::Failing;
+use crate::Step;
+use crate::Stop;
+use crate::put;
+use crate::with_event;
+ghost use mathlib.Core.Path.{_≡_};
+ghost use Prim.Native.Nat.{_+_, _*_, _^_, _≤_, _<_};
+ghost use lib.ListN.{length, getD, drop};
+ghost use Rattle.mass.specs.Split.{certain, whole, failing, working};
+ghost use Rattle.sets.specs.Sets.{joined};
+ghost use Rattle.plan.specs.Lists.{eventsOf};
+ghost use Rattle.walk.specs.Scenario.{Falling};
+ghost use mathlib.Core.List.{_++_};
+ghost use mathlib.Core.Bool.{false};
+ghost use Rattle.walk.specs.Pending.{branchEnds};
+ghost use Rattle.walk.specs.Stack.{entry, Entry};
+ghost use Rattle.walk.specs.Runs.{toCome, Stack};
+ghost use Rattle.walk.specs.Steps.{Handed, Stopped, Pushed, Delayed, Descended, descentOf};
+
+// The first word of an entry that is a number of dropped ends, and no branch.
+const RUN: u64 = 129;
+
+// The mass that the event at a depth leaves where it fails.
+fn fails(events: &[u64; 512], depth: u64, mass: u64) -> u64
+    requires { ⌜ (depth < 128) × (mass ≤ whole) × (getD (now events) (depth * 4) 0 ≤ certain) ⌝ }
+    ensures { λ r. ⌜ r ≡ failing mass (getD (now (events .entry)) (depth * 4) 0) ⌝ }
+{
+    let q = events[depth as usize * 4];
+    let all = mass::Mass { units: mass };
+    let part = all.share(q);
+    part.units
+}
+
+// The mass that the event at a depth leaves where it works.
+fn works(events: &[u64; 512], depth: u64, mass: u64) -> u64
+    requires { ⌜ (depth < 128) × (mass ≤ whole) × (getD (now events) (depth * 4) 0 ≤ certain) ⌝ }
+    ensures { λ r. ⌜ r ≡ working mass (getD (now (events .entry)) (depth * 4) 0) ⌝ }
+{
+    let q = events[depth as usize * 4];
+    let all = mass::Mass { units: mass };
+    let part = all.share(mass::CERTAIN - q);
+    part.units
+}
+
+// Goes down the "works" path of a branch, to its end or to where its mass falls below the threshold.
+fn straight(count: u64, threshold: u64, events: &[u64; 512], depth: u64, mass: u64) -> Stop
+    requires { ⌜ (count ≤ 128) × (depth ≤ count) × (mass ≤ whole) × Falling certain (eventsOf count (now events)) ⌝ }
+    ensures { λ r. ⌜ Stopped count threshold (now (events .entry)) depth mass r ⌝ }
+{
+    let mut d = depth;
+    let mut m = mass;
+    loop {
+        if m < threshold {
+            return Stop { depth: d, mass: m };
+        }
+        if d >= count {
+            return Stop { depth: d, mass: m };
+        }
+        m = works(events, d, m);
+        d += 1;
+    }
+}
+
+// Lays down the branch in which the event at a depth fails.
+fn push(stack: &mut [u64; 512], at: usize, depth: u64, mass: u64, low: u64, high: u64)
+    requires { ⌜ (depth < 128) × (low < 2 ^ 64) × (joined low high < 2 ^ depth) × (at + 4 ≤ 512) × (length (now stack) ≡ 512) ⌝ }
+    ensures { λ r. ⌜ Pushed depth mass low high at (now (stack .entry)) (now (stack .exit)) ⌝ }
+{
+    let failing = with_event(low, high, depth);
+    put(stack, at, depth + 1, mass, failing);
+}
+
+// The answer of a descent that stops at a mass.
+fn come_to(threshold: u64, at: usize, mass: u64, low: u64, high: u64, number: u64) -> Descent
+    ensures { λ r. ⌜ r ≡ descentOf threshold at mass low high number ⌝ }
+{
+    if mass < threshold {
+        return Descent {
+            at,
+            relevant: false,
+            mass: 0,
+            low: 0,
+            high: 0,
+            dropped: number,
+        };
+    }
+    Descent {
+        at,
+        relevant: true,
+        mass,
+        low,
+        high,
+        dropped: number,
+    }
+}
+
+// Goes down from a branch to its first end, leaving each "fails" side pending; from where a "fails" side falls below the threshold it leaves
+// none, since no later one on the "works" path has more mass: each is one dropped end.
+fn go_down(
+    count: u64,
+    threshold: u64,
+    events: &[u64; 512],
+    stack: &mut [u64; 512],
+    at: usize,
+    depth: u64,
+    mass: u64,
+    low: u64,
+    high: u64,
+) -> Descent
+    requires { ⌜ (count ≤ 128) × Falling certain (eventsOf count (now events)) ⌝ }
+    requires { ⌜ Entry count depth mass low high (length (drop at (now stack))) × Stack count at (now stack) ⌝ }
+    ensures { λ r. ⌜ Descended count threshold (now (events .entry))
+        (branchEnds threshold (eventsOf count (now (events .entry))) (entry depth mass low high) ++ toCome count threshold (now (events .entry)) at (now (stack .entry)))
+        (now (stack .exit)) r ⌝ }
+{
+    let mut top = at;
+    let mut d = depth;
+    let mut m = mass;
+    loop {
+        if m < threshold {
+            return come_to(threshold, top, m, low, high, 0);
+        }
+        if d >= count {
+            return come_to(threshold, top, m, low, high, 0);
+        }
+        let f = fails(events, d, m);
+        if f < threshold {
+            let stop = straight(count, threshold, events, d, m);
+            return come_to(threshold, top, stop.mass, low, high, stop.depth - d);
+        }
+        top -= 4;
+        push(&mut *stack, top, d, f, low, high);
+        m = works(events, d, m);
+        d += 1;
+    }
+}
+
+// Takes the next entry off the stack and goes to its first end.
+fn descend(
+    count: u64,
+    threshold: u64,
+    events: &[u64; 512],
+    stack: &mut [u64; 512],
+    at: usize,
+) -> Descent
+    requires { ⌜ (count ≤ 128) × Falling certain (eventsOf count (now events)) × (at < 512) × Stack count at (now stack) ⌝ }
+    ensures { λ r. ⌜ Descended count threshold (now (events .entry))
+        (toCome count threshold (now (events .entry)) at (now (stack .entry))) (now (stack .exit)) r ⌝ }
+{
+    let depth = stack[at];
+    let mass = stack[at + 1];
+    if depth > 128 {
+        return Descent {
+            at: at + 4,
+            relevant: false,
+            mass: 0,
+            low: 0,
+            high: 0,
+            dropped: mass - 1,
+        };
+    }
+    let low = stack[at + 2];
+    let high = stack[at + 3];
+    go_down(
+        count,
+        threshold,
+        events,
+        stack,
+        at + 4,
+        depth,
+        mass,
+        low,
+        high,
+    )
+}
+
+// Lays so many dropped ends down before those to come. Returns where the stack begins.
+fn delay(stack: &mut [u64; 512], at: usize, number: u64) -> usize
+    requires { ⌜ (at ≤ 512) × (length (now stack) ≡ 512) × (0 < number → 4 ≤ at) ⌝ }
+    ensures { λ r. ⌜ Delayed number at (now (stack .entry)) (now (stack .exit)) r ⌝ }
+{
+    if number == 0 {
+        return at;
+    }
+    put(stack, at - 4, RUN, number, Failing { low: 0, high: 0 });
+    at - 4
+}
+
+// The answer of a step that finds no relevant scenario.
+fn none_at(at: usize, left: u64) -> Step
+    ensures { λ r. ⌜ r ≡ record { at = at; left = left; found = false; mass = 0; low = 0; high = 0 } ⌝ }
+{
+    Step {
+        at,
+        left,
+        found: false,
+        mass: 0,
+        low: 0,
+        high: 0,
+    }
+}
+
+// The next relevant scenario among the ends that may still be reached: passes over dropped ends, counting each.
+pub fn next_relevant(
+    count: u64,
+    threshold: u64,
+    events: &[u64; 512],
+    stack: &mut [u64; 512],
+    at: usize,
+    allowed: u64,
+) -> Step
+    requires { ⌜ (count ≤ 128) × Falling certain (eventsOf count (now events)) × Stack count at (now stack) ⌝ }
+    ensures { λ r. ⌜ Handed count threshold (now (events .entry)) at (now (stack .entry)) allowed (now (stack .exit)) r ⌝ }
+{
+    let mut top = at;
+    let mut left = allowed;
+    while top < 512 {
+        if left == 0 {
+            return none_at(top, 0);
+        }
+        let r = descend(count, threshold, events, &mut *stack, top);
+        left -= 1;
+        if r.relevant {
+            return Step {
+                at: delay(stack, r.at, r.dropped),
+                left,
+                found: true,
+                mass: r.mass,
+                low: r.low,
+                high: r.high,
+            };
+        }
+        if r.dropped > left {
+            return none_at(delay(stack, r.at, r.dropped - left), 0);
+        }
+        left -= r.dropped;
+        top = r.at;
+    }
+    none_at(top, left)
+}
