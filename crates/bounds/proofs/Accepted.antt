@@ -18,9 +18,8 @@ use Rattle.refusals.proofs.TestLaws.{or-none}
 use Rattle.layout.proofs.LayoutFile.{link-list-none, valid-none, ValidPlan}
 use Rattle.layout.proofs.ListTheorems.{lists-denote}
 use Rattle.writer.proofs.WriterAnswer.{lists-counted}
-use Rattle.topology.specs.Topology.{EndsBelow}
-use Rattle.walk.specs.Valid.{lists-probable}
-use Rattle.bounds.specs.Tallied.{Held}
+use Rattle.plan.specs.Held.{EndsBelow, Held}
+use Rattle.walk.specs.Valid.{lists-falling}
 
 ends-none : (nodes low high : ℕ) → endsTest nodes low high ≡ 0 → (low < nodes) × (high < nodes)
 ends-none nodes low high e =
@@ -56,7 +55,7 @@ module _ (h : Header) (linkRoom eventRoom : ℕ) (links words : List ℕ) (accep
               ends-below = ends-below (h .nodes) (linksOf (h .links) links) links-accepted;
             };
         events-fit = c .events-fit;
-        probable = lists-probable h linkRoom eventRoom links words accepted;
+        falling = lists-falling h linkRoom eventRoom links words accepted;
       }
 
   pub limit-most : h .limit < 4294967296

@@ -32,7 +32,8 @@ use Rattle.pairs.specs.Pairs.{place, pairCount}
 use Rattle.pairs.proofs.PairLaws.{unplace}
 use Rattle.bounds.specs.Bounds.{intact, cuts}
 use Rattle.pairs.specs.Adding.{Joined, AddingCut, AddedCut}
-use Rattle.bounds.specs.Tallied.{Held, Sums, Examined}
+use Rattle.bounds.specs.Tallied.{Sums, Examined}
+use Rattle.plan.specs.Held.{Held}
 use Rattle.pairs.proofs.Row.{at-most}
 
 module _ (h : Header) (links words : List ℕ) (mass : ℕ) (lower : List ℕ) (failed : Failed) (nodes : ℕ) (rows : List ℕ)

@@ -24,7 +24,9 @@ use Rattle.walk.specs.Stack.{Begun, Stack, Entries, entry, branches, toCome}
 use Rattle.walk.proofs.Resume.{begun-stack, begun-whole, root-entry, none-to-come, complete-none, complete-some}
 use Rattle.pairs.specs.Pairs.{place}
 use Rattle.bounds.specs.Bounds.{cuts, lowerOf}
-use Rattle.bounds.specs.Tallied.{Held, coming, Ready, Tallied}
+use Rattle.bounds.specs.Tallied.{coming, Ready, Tallied}
+use Rattle.walk.specs.Valid.{held-probable}
+use Rattle.plan.specs.Held.{Held}
 use Rattle.bounds.specs.Calls.{totalsOf, Summed, Cleared}
 use Rattle.bounds.specs.declared.Tally.{Tally}
 use Rattle.bounds.specs.declared.Totals.{Totals}
@@ -82,7 +84,7 @@ ready-whole h links words at stack lower held few b clear =
     all = ends (h .threshold) whole (eventsOf (h .events) words)
 
     most : sumEnds (λ s m. m) all ≤ whole
-    most = rw (take-length all) at (masses-le (h .threshold) (length all) whole (eventsOf (h .events) words) (held .probable))
+    most = rw (take-length all) at (masses-le (h .threshold) (length all) whole (eventsOf (h .events) words) (held-probable h links words held))
 
 module _ (h : Header) (links words : List ℕ) (at : ℕ) (stack lower stack′ lower′ : List ℕ) (r : Tally)
     (b : Begun 0 whole 0 0 at stack) (clear : Cleared lower)

@@ -18,7 +18,8 @@ use Rattle.walk.specs.declared.Next.{Next}
 use Rattle.walk.proofs.Resume.{step-sum, step-drop, value-mass, value-one, none-to-come}
 use Rattle.pairs.specs.Pairs.{place}
 use Rattle.bounds.specs.Bounds.{cuts}
-use Rattle.bounds.specs.Tallied.{Held, Sums, Examined, coming, Ready, Tallied}
+use Rattle.bounds.specs.Tallied.{Sums, Examined, coming, Ready, Tallied}
+use Rattle.plan.specs.Held.{Held}
 use Rattle.bounds.specs.declared.Tally.{Tally}
 use Rattle.pairs.proofs.Row.{at-most}
 

@@ -10,20 +10,14 @@ use Rattle.plan.specs.Plan.{Plan}
 use Rattle.plan.specs.Lists.{linksOf, eventsOf}
 use Rattle.plan.specs.declared.Header.{Header}
 use Rattle.plan.specs.Records.{planOfLists}
-use Rattle.topology.specs.Code.{LinksHeld}
-use Rattle.walk.specs.Scenario.{Scenario, Probabilities, scenarioOf}
+use Rattle.plan.specs.Held.{Held}
+use Rattle.walk.specs.Scenario.{Scenario, scenarioOf}
 use Rattle.walk.specs.Ends.{End, sumEnds, valueOf, weighed}
 use Rattle.walk.specs.Stack.{Stack, toCome, nextEnd}
 use Rattle.walk.specs.declared.Next.{Next}
 use Rattle.pairs.specs.Pairs.{place}
 use Rattle.bounds.specs.Bounds.{cuts}
 use Rattle.bounds.specs.declared.Tally.{Tally}
-
--- the lists are those of a valid plan
-pub record Held (h : Header) (links words : List ℕ) : Type 0 where
-  pub links-held : LinksHeld (h .nodes) links (h .links)
-  pub events-fit : h .events ≤ 128
-  pub probable : Probabilities (eventsOf (h .events) words)
 
 -- the ends still to come of a walk over lent lists
 abbrev pub coming : Header → List ℕ → ℕ → List ℕ → List End

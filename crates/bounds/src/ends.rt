@@ -10,7 +10,8 @@ ghost use Rattle.topology.specs.Table.{LinksAt};
 ghost use Rattle.walk.specs.Ends.{relevant};
 ghost use Rattle.walk.specs.Scenario.{scenarioOf};
 ghost use Rattle.walk.specs.Stack.{endOf};
-ghost use Rattle.bounds.specs.Tallied.{Held, Sums, Examined, Ready, Tallied};
+ghost use Rattle.bounds.specs.Tallied.{Sums, Examined, Ready, Tallied};
+ghost use Rattle.plan.specs.Held.{Held};
 
 // Adds a relevant end's mass to the entries of the pairs that its topology disconnects.
 fn examine(

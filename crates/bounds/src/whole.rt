@@ -8,7 +8,7 @@ ghost use Prim.Native.Nat.{_≤_, _<_};
 ghost use lib.Dec.{leb};
 ghost use Rattle.sets.specs.Sets.{digit};
 ghost use Rattle.plan.specs.Records.{planOfLists};
-ghost use Rattle.bounds.specs.Tallied.{Held};
+ghost use Rattle.plan.specs.Held.{Held};
 ghost use Rattle.bounds.specs.Calls.{totalsOf, Summed, Cleared};
 
 // 1 where no branch is left on the stack, else 0.

@@ -5,3 +5,4 @@ pub mod Layout
 pub mod File
 pub mod Records
 pub mod Calls
+pub mod Held

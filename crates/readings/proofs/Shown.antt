@@ -17,7 +17,8 @@ use Rattle.walk.specs.Walk.{examined}
 use Rattle.walk.specs.Stack.{Begun}
 use Rattle.walk.proofs.Resume.{begun-stack, begun-whole, root-entry}
 use Rattle.pairs.specs.Pairs.{pairTest}
-use Rattle.bounds.specs.Tallied.{Held, coming}
+use Rattle.bounds.specs.Tallied.{coming}
+use Rattle.plan.specs.Held.{Held}
 use Rattle.readings.specs.Witness.{noneTest, witnessRefusal, witnessNumber, witnessAnswer, failingIn, Shows, Answers, Seeking}
 use Rattle.readings.specs.declared.Witnessed.{Witnessed}
 use Rattle.readings.specs.declared.Witnessed.the-variants as witnessed

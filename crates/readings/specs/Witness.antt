@@ -18,7 +18,7 @@ use Rattle.walk.specs.Stack.{Stack}
 use Rattle.walk.specs.declared.Failing.{Failing}
 use Rattle.bounds.specs.Bounds.{cuts}
 use Rattle.pairs.specs.Pairs.{pairTest}
-use Rattle.bounds.specs.Tallied.{Held}
+use Rattle.plan.specs.Held.{Held}
 use Rattle.readings.specs.declared.Witnessed.{Witnessed}
 use Rattle.readings.specs.declared.Witnessed.the-variants as witnessed
 

@@ -14,7 +14,8 @@ ghost use Rattle.walk.specs.Ends.{scenarios};
 ghost use Rattle.walk.specs.Walk.{examined};
 ghost use Rattle.topology.specs.Table.{LinksAt};
 ghost use Rattle.bounds.specs.Bounds.{cuts};
-ghost use Rattle.bounds.specs.Tallied.{Held, coming};
+ghost use Rattle.bounds.specs.Tallied.{coming};
+ghost use Rattle.plan.specs.Held.{Held};
 ghost use Rattle.readings.specs.Witness.{noneTest, witnessRefusal, witnessNumber, witnessAnswer, failingIn, Shows, Answers, Seeking};
 
 // Whether an end is relevant and its topology disconnects the pair.

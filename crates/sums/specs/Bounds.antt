@@ -10,7 +10,8 @@ use lib.ListN.{length, getD}
 use Rattle.mass.specs.Split.{whole}
 use Rattle.plan.specs.Plan.{Plan}
 use Rattle.plan.specs.Records.{planRefusal}
-use Rattle.walk.specs.Scenario.{Scenario, Probabilities}
+use Rattle.walk.specs.Scenario.{Scenario}
+use Rattle.plan.specs.Held.{Probabilities}
 use Rattle.sets.specs.Sets.{digit}
 use Rattle.walk.specs.Ends.{ends, weighed}
 use Rattle.walk.specs.Walk.{firstEnds, massExamined, count, count-sum}

@@ -10,7 +10,8 @@ use native.Mathlib.Omega.{arith}
 use lib.ListN.{length, take}
 use Rattle.mass.specs.Split.{certain, failing, working}
 use Rattle.plan.specs.Plan.{Event}
-use Rattle.walk.specs.Scenario.{Scenario, Probabilities}
+use Rattle.walk.specs.Scenario.{Scenario}
+use Rattle.plan.specs.Held.{Probabilities}
 use Rattle.sets.specs.Sets.{digit}
 use Rattle.walk.specs.Ends.{End, dropped, relevant, ends, both, sumEnds, weighed, scenarios, sumEnds-both, scenarios-both, first-ends}
 use Rattle.walk.specs.Member.{among, among-works, among-fails}

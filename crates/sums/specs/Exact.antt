@@ -11,7 +11,8 @@ use lib.Pow.{pow-add}
 use Rattle.mass.specs.Split.{certain}
 use Rattle.mass.specs.Laws.{products}
 use Rattle.plan.specs.Plan.{Plan, Event}
-use Rattle.walk.specs.Scenario.{Scenario, Probabilities}
+use Rattle.walk.specs.Scenario.{Scenario}
+use Rattle.plan.specs.Held.{Probabilities}
 use Rattle.sets.specs.Sets.{digit}
 use Rattle.walk.specs.Walk.{isExamined}
 

@@ -15,7 +15,7 @@ use Rattle.plan.specs.Records.{listsRefusal, planOfLists}
 use Rattle.plan.specs.declared.Header.{Header}
 use Rattle.layout.proofs.ListTheorems.{length-links-of}
 use Rattle.writer.proofs.WriterAnswer.{lists-counted}
-use Rattle.walk.specs.Scenario.{Probabilities}
+use Rattle.plan.specs.Held.{Probabilities}
 use Rattle.walk.specs.Valid.{lists-probable}
 use Rattle.walk.specs.Walk.{firstEnds, massExamined}
 use Rattle.bounds.specs.Bounds.{lowerOf, upperOf}

@@ -18,7 +18,9 @@ use Rattle.walk.specs.Walk.{planEnds}
 use Rattle.walk.specs.Stack.{Begun, Stack, Stepped, nextEnd}
 use Rattle.walk.specs.declared.Next.{Next}
 use Rattle.walk.proofs.Resume.{step-take, value-mass, none-to-come, begun-stack, begun-whole, root-entry}
-use Rattle.bounds.specs.Tallied.{Held, coming}
+use Rattle.bounds.specs.Tallied.{coming}
+use Rattle.walk.specs.Valid.{held-probable}
+use Rattle.plan.specs.Held.{Held}
 use Rattle.topologies.specs.Listing.{massesIn, Listing, listing, placed, placedAll, topologyAfter, listingOf}
 use Rattle.topologies.specs.ListingLaws.{refused-stays, masses-placed}
 use Rattle.topologies.specs.Words.{entriesOf, Placing, Gave, Ready}
@@ -178,7 +180,7 @@ ready-whole h links words at stack held b =
     all = ends (h .threshold) whole (eventsOf (h .events) words)
 
     most : sumEnds (λ s m. m) all ≤ whole
-    most = rw (take-length all) at (masses-le (h .threshold) (length all) whole (eventsOf (h .events) words) (held .probable))
+    most = rw (take-length all) at (masses-le (h .threshold) (length all) whole (eventsOf (h .events) words) (held-probable h links words held))
 
 pub whole-listing : (h : Header) (links words : List ℕ) (at : ℕ) (stack : List ℕ) (room : ℕ) → Begun 0 whole 0 0 at stack
     → placedAll room (topologyAfter (planOfLists h links words)) (listing [] 0) (take (h .limit) (coming h words at stack)) ≡ listingOf room (planOfLists h links words)

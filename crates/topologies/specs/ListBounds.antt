@@ -15,10 +15,11 @@ use Rattle.sets.specs.Sets.{bit, joined, digit}
 use Rattle.sets.specs.Laws.{bit-joined-low, bit-joined-high}
 use Rattle.plan.specs.Plan.{Plan, Link}
 use Rattle.topology.specs.Outage.{Outage}
-use Rattle.topology.specs.Topology.{Network, networkOf, linkAt, nodeWorks, linkWorks}
+use Rattle.topology.specs.Topology.{Network, networkOf, nodeWorks, linkWorks}
+use Rattle.plan.specs.Held.{linkAt, Probabilities}
 use Rattle.topology.specs.Paths.{disconnected}
 use Rattle.topology.specs.Laws.{same-working}
-use Rattle.walk.specs.Scenario.{Scenario, Probabilities}
+use Rattle.walk.specs.Scenario.{Scenario}
 use Rattle.walk.specs.Ends.{End, dropped, relevant, sumEnds}
 use Rattle.walk.specs.Walk.{firstEnds, massExamined}
 use Rattle.sums.specs.Bounds.{upper-lower}

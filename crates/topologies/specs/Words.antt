@@ -10,7 +10,8 @@ use Rattle.plan.specs.Plan.{Plan}
 use Rattle.plan.specs.declared.Header.{Header}
 use Rattle.walk.specs.Ends.{End, sumEnds}
 use Rattle.walk.specs.Stack.{Stack}
-use Rattle.bounds.specs.Tallied.{Held, coming}
+use Rattle.bounds.specs.Tallied.{coming}
+use Rattle.plan.specs.Held.{Held}
 use Rattle.topologies.specs.Listing.{Entry, entry, massesIn, same, Listing}
 use Rattle.topologies.specs.declared.Topology.{Topology}
 use Rattle.topologies.specs.declared.Placed.{Placed}

@@ -13,7 +13,8 @@ ghost use Rattle.plan.specs.Records.{planOfLists};
 ghost use Rattle.topology.specs.Table.{LinksAt};
 ghost use Rattle.walk.specs.Scenario.{scenarioOf};
 ghost use Rattle.walk.specs.Stack.{endOf};
-ghost use Rattle.bounds.specs.Tallied.{Held, coming};
+ghost use Rattle.bounds.specs.Tallied.{coming};
+ghost use Rattle.plan.specs.Held.{Held};
 ghost use Rattle.topologies.specs.Listing.{listing, placed, placedAll, topologyAfter, listingOf};
 ghost use Rattle.topologies.specs.Words.{entriesOf, Placing, Gave, Ready};
 

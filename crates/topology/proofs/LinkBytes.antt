@@ -9,7 +9,7 @@ use lib.Seq.{getD-drop}
 use Rattle.plan.specs.Plan.{Link}
 use Rattle.plan.specs.Lists.{linksOf}
 use Rattle.layout.proofs.ListTheorems.{length-links-of}
-use Rattle.topology.specs.Topology.{linkAt, EndsBelow}
+use Rattle.plan.specs.Held.{linkAt, EndsBelow}
 use Rattle.topology.specs.Table.{linkIn}
 
 byte-later : (bytes : List ℕ) (i k : ℕ) → getD (drop 2 bytes) (2 * i + k) 0 ≡ getD bytes (2 * suc i + k) 0

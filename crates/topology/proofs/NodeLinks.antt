@@ -18,7 +18,7 @@ use Rattle.plan.specs.Lists.{linksOf}
 use Rattle.layout.proofs.ListTheorems.{length-links-of}
 use Rattle.topology.specs.Outage.{Outage}
 use Rattle.topology.specs.Topology.{networkOf, nodeWorks, linkWorks}
-use Rattle.topology.specs.Code.{LinksHeld}
+use Rattle.plan.specs.Held.{LinksHeld}
 use Rattle.topology.specs.Table.{linkIn, isEnd, tableHas, atNodes, LinksAt}
 use Rattle.topology.proofs.LinkBytes.{link-at, link-below}
 use Rattle.topology.proofs.RowSets.{empty-row}

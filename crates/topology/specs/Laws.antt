@@ -11,7 +11,8 @@ use Rattle.sets.specs.Sets.{bit}
 use Rattle.sets.specs.Bools.{and-left, and-right, and-both, so-unless, clash, not-so, not-of, of-not, same-bool}
 use Rattle.plan.specs.Plan.{Link, Event}
 use Rattle.topology.specs.Outage.{Outage, unionOf, outageOf}
-use Rattle.topology.specs.Topology.{Network, networkOf, linkAt, nodeWorks, linkWorks, ends, joins}
+use Rattle.topology.specs.Topology.{Network, networkOf, nodeWorks, linkWorks, ends, joins}
+use Rattle.plan.specs.Held.{linkAt}
 use Rattle.topology.specs.Paths.{here, WorkingLink, WorkingPath, Reaches, disconnected}
 use Rattle.topology.specs.Chains.{chain-back, chain-keeps, chain-map}
 use Rattle.topology.specs.Works.{link-nodes, link-back}

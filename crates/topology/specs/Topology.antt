@@ -2,12 +2,13 @@
 -- Assumes nothing.
 use mathlib.Core.Bool.{Bool, not, _&&_, _||_}
 use mathlib.Core.List.{List}
-use Prim.Native.Nat.{ℕ, _<_}
+use Prim.Native.Nat.{ℕ}
 use lib.Dec.{eqb, ltb}
-use lib.ListN.{length, getD}
+use lib.ListN.{length}
 use Rattle.sets.specs.Sets.{bit}
 use Rattle.sets.specs.Bools.{anyBelow}
 use Rattle.plan.specs.Plan.{Link}
+use Rattle.plan.specs.Held.{linkAt}
 use Rattle.topology.specs.Outage.{Outage}
 
 -- a plan's nodes (N) and links, and what has failed of them
@@ -15,14 +16,6 @@ pub record Network : Type 0 where
   pub nodes : ℕ
   pub links : List Link
   pub out : Outage
-
--- link i of a list
-abbrev pub linkAt : List Link → ℕ → Link
-linkAt links i = getD links i (record { low = 0; high = 0 })
-
--- both ends of each link are nodes
-abbrev pub EndsBelow : ℕ → List Link → Type 0
-EndsBelow nodes links = (i : ℕ) → i < length links → (linkAt links i .low < nodes) × (linkAt links i .high < nodes)
 
 -- "A node works if no failing event names it."
 unfoldable pub nodeWorks : Network → ℕ → Bool

@@ -10,7 +10,8 @@ use borrow.Author.Tests.{ltb-true, eqb-true}
 use Rattle.sets.specs.Sets.{bit}
 use Rattle.sets.specs.Bools.{and-left, and-right, or-either, any-found, any-here, same-bool}
 use Rattle.plan.specs.Plan.{Link}
-use Rattle.topology.specs.Topology.{Network, linkAt, nodeWorks, linkWorks, ends, joins, adjacent}
+use Rattle.topology.specs.Topology.{Network, nodeWorks, linkWorks, ends, joins, adjacent}
+use Rattle.plan.specs.Held.{linkAt}
 use Rattle.topology.specs.Paths.{WorkingLink}
 
 -- a link joins its ends both ways

@@ -10,7 +10,8 @@ ghost use mathlib.Core.Logic.{_↔_};
 ghost use Prim.Native.Nat.{ℕ, _<_};
 ghost use Rattle.sets.specs.Sets.{bit};
 ghost use Rattle.topology.specs.Paths.{Reaches, disconnected};
-ghost use Rattle.topology.specs.Code.{networkIn, LinksHeld};
+ghost use Rattle.topology.specs.Code.{networkIn};
+ghost use Rattle.plan.specs.Held.{LinksHeld};
 ghost use Rattle.topology.specs.Table.{LinksAt};
 
 // What node v reaches: w exactly where v works and a path of working links joins v and w.

@@ -8,7 +8,8 @@ ghost use Prim.Native.Nat.{ℕ, _+_, _<_};
 ghost use lib.ListN.{length, getD};
 ghost use Rattle.sets.specs.Sets.{bit};
 ghost use Rattle.topology.specs.Topology.{ends, adjacent};
-ghost use Rattle.topology.specs.Code.{networkIn, LinksHeld};
+ghost use Rattle.topology.specs.Code.{networkIn};
+ghost use Rattle.plan.specs.Held.{LinksHeld};
 ghost use Rattle.topology.specs.Table.{endsOf, joinedBy, LinksAt};
 
 // Puts a and b into each other's rows.

@@ -5,7 +5,7 @@ ghost use mathlib.Core.Bool.{_&&_, _||_};
 ghost use Prim.Native.Nat.{ℕ, _<_};
 ghost use lib.Dec.{eqb};
 ghost use lib.ListN.{length};
-ghost use Rattle.topology.specs.Code.{LinksHeld};
+ghost use Rattle.plan.specs.Held.{LinksHeld};
 ghost use Rattle.topology.specs.Table.{tableHas, LinksAt};
 
 // Puts link i into the table at node v.

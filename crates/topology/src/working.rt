@@ -9,7 +9,8 @@ ghost use lib.Dec.{ltb};
 ghost use lib.ListN.{getD};
 ghost use Rattle.sets.specs.Sets.{bit, joined};
 ghost use Rattle.topology.specs.Topology.{linkWorks};
-ghost use Rattle.topology.specs.Code.{networkIn, LinksHeld};
+ghost use Rattle.topology.specs.Code.{networkIn};
+ghost use Rattle.plan.specs.Held.{LinksHeld};
 ghost use Rattle.topology.specs.Table.{atNodes, LinksAt};
 
 fn wide(x: u8) -> usize

@@ -11,8 +11,7 @@ use Rattle.plan.specs.Records.{linkListRefusal, listsRefusal}
 use Rattle.plan.specs.declared.Header.{Header}
 use Rattle.refusals.proofs.TestLaws.{or-none, counts-none}
 use Rattle.layout.proofs.LayoutFile.{link-list-none}
-use Rattle.topology.specs.Topology.{EndsBelow}
-use Rattle.topology.specs.Code.{LinksHeld}
+use Rattle.plan.specs.Held.{EndsBelow, LinksHeld}
 
 ends-below : (n : ℕ) (ls : List Link) → linkListRefusal n ls ≡ 0 → EndsBelow n ls
 ends-below n [] e i h = absurd (omega arith)

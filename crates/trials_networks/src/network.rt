@@ -6,7 +6,7 @@ use vectors::same_part;
 ghost use mathlib.Core.Path.{_≡_};
 ghost use mathlib.Core.Bool.{true};
 ghost use Prim.Native.Nat.{_<_};
-ghost use Rattle.topology.specs.Code.{LinksHeld};
+ghost use Rattle.plan.specs.Held.{LinksHeld};
 
 // An array that starts with these links.
 pub fn links(bytes: &[u8]) -> [u8; 256] {

@@ -15,7 +15,8 @@ use Rattle.mass.specs.Laws.{fails-le, works-le}
 use Rattle.sets.specs.Sets.{joined, digit}
 use Rattle.plan.specs.Plan.{Event}
 use Rattle.plan.specs.Lists.{eventsOf}
-use Rattle.walk.specs.Scenario.{Scenario, Probabilities, scenarioOf, scenario-length, scenario-next}
+use Rattle.walk.specs.Scenario.{Scenario, scenarioOf, scenario-length, scenario-next}
+use Rattle.plan.specs.Held.{Probabilities}
 use Rattle.walk.specs.Ends.{End, dropped, relevant}
 use Rattle.walk.specs.Pending.{Branch, branch, pending, pending-cut, pending-leaf, pending-node}
 use Rattle.walk.specs.Stack.{entry, branches, toCome, Entry, Entries, Stack, Stepped, Deciding, Decided}

@@ -16,7 +16,8 @@ use Rattle.mass.specs.Laws.{fails-le, works-le}
 use Rattle.sets.specs.Sets.{joined}
 use Rattle.plan.specs.Plan.{Event}
 use Rattle.plan.specs.Lists.{eventsOf}
-use Rattle.walk.specs.Scenario.{Scenario, Falling, falling-probable, falling-drop, scenarioOf, scenario-length, scenario-works}
+use Rattle.walk.specs.Scenario.{Scenario, falling-probable, falling-drop, scenarioOf, scenario-length, scenario-works}
+use Rattle.plan.specs.Held.{Falling}
 use Rattle.walk.specs.Ends.{End, dropped, relevant, after, ends, ends-cut, ends-leaf}
 use Rattle.walk.specs.Pending.{Branch, branch, branchEnds, branch-node}
 use Rattle.walk.specs.WorksPath.{pathSteps, pathMass, pathEnd, pathEnd-cut, pathEnd-enough, path-last, path-cut, path-on}

@@ -13,7 +13,8 @@ use borrow.Author.Tests.{ltb-true, ltb-false}
 use Rattle.mass.specs.Split.{certain, failing, working}
 use Rattle.mass.specs.Laws.{works-le}
 use Rattle.plan.specs.Plan.{Event}
-use Rattle.walk.specs.Scenario.{Scenario, Falling}
+use Rattle.walk.specs.Scenario.{Scenario}
+use Rattle.plan.specs.Held.{Falling}
 use Rattle.walk.specs.Ends.{End, dropped, relevant, after, ends, ends-cut, ends-leaf, ends-node}
 use Rattle.walk.specs.WorksPath.{pathSteps, pathMass, pathEnd, pathEnd-cut, pathEnd-enough, path-last, path-cut, path-on}
 

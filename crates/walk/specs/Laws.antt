@@ -15,7 +15,8 @@ use borrow.Author.Tests.{leb-true}
 use Rattle.mass.specs.Split.{whole, failing, working}
 use Rattle.mass.specs.Laws.{parts-le}
 use Rattle.plan.specs.Plan.{Plan, Event}
-use Rattle.walk.specs.Scenario.{Scenario, Probabilities, part, finalMass, finalMass-le}
+use Rattle.walk.specs.Scenario.{Scenario, part, finalMass, finalMass-le}
+use Rattle.plan.specs.Held.{Probabilities}
 use Rattle.sets.specs.Sets.{digit}
 use Rattle.walk.specs.Ends.{End, dropped, relevant, after, ends, endsAfter, sumEnds, scenarios, ends-leaf, ends-node}
 use Rattle.walk.specs.Ends.{both, sumEnds-both, scenarios-both, first-ends}

@@ -15,6 +15,7 @@ use Rattle.mass.specs.Split.{certain, failing, working}
 use Rattle.mass.specs.Laws.{fails-le, works-le}
 use Rattle.sets.specs.Sets.{bit, digit}
 use Rattle.plan.specs.Plan.{Event}
+use Rattle.plan.specs.Held.{Probabilities, Falling}
 
 -- "A scenario says of each event "fails" or "works"": entry i is true where event i fails
 abbrev pub Scenario : Type 0
@@ -40,16 +41,6 @@ abbrev pub finalMass : ℕ → List Event → Scenario → ℕ
 finalMass m [] s = m
 finalMass m (e ∷ events) [] = m
 finalMass m (e ∷ events) (b ∷ s) = finalMass (part b m (e .probability)) events s
-
--- every event's probability is at most 1
-abbrev pub Probabilities : List Event → Type 0
-Probabilities [] = Unit {0}
-Probabilities (e ∷ events) = (e .probability ≤ certain) × Probabilities events
-
--- each event's probability is at most that of the event before it, and the first one's is at most q
-abbrev pub Falling : ℕ → List Event → Type 0
-Falling q [] = Unit {0}
-Falling q (e ∷ events) = (e .probability ≤ q) × Falling (e .probability) events
 
 -- law: probabilities that fall from at most 1 are at most 1
 pub falling-probable : (q : ℕ) (events : List Event) → q ≤ certain → Falling q events → Probabilities events

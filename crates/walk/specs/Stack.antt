@@ -9,7 +9,7 @@ use Rattle.mass.specs.Split.{certain, whole, failing, working}
 use Rattle.sets.specs.Sets.{joined}
 use Rattle.plan.specs.Plan.{Event}
 use Rattle.plan.specs.Lists.{eventsOf}
-use Rattle.walk.specs.Scenario.{Scenario, Probabilities, scenarioOf}
+use Rattle.walk.specs.Scenario.{Scenario, scenarioOf}
 use Rattle.walk.specs.Ends.{End, dropped, relevant}
 use Rattle.walk.specs.Pending.{Branch, pending}
 use Rattle.walk.specs.declared.Next.{Next}

@@ -12,7 +12,8 @@ use Rattle.plan.specs.Plan.{Plan, Event}
 use Rattle.plan.specs.Lists.{eventsOf}
 use Rattle.plan.specs.Records.{eventListRefusal, planRefusal, listsRefusal}
 use Rattle.plan.specs.declared.Header.{Header}
-use Rattle.walk.specs.Scenario.{Probabilities, Falling, falling-probable}
+use Rattle.walk.specs.Scenario.{falling-probable}
+use Rattle.plan.specs.Held.{Probabilities, Falling, Held}
 
 pub events-falling : (nodes links before : ℕ) (events : List Event) → eventListRefusal nodes links before events ≡ 0 → Falling before events
 unfolding eventListRefusal
@@ -47,3 +48,7 @@ pub lists-probable : (h : Header) (linkRoom eventRoom : ℕ) (links words : List
     → Probabilities (eventsOf (h .events) words)
 lists-probable h linkRoom eventRoom links words e =
     falling-probable certain (eventsOf (h .events) words) (omega arith) (lists-falling h linkRoom eventRoom links words e)
+
+-- law: of lists that are held
+pub held-probable : (h : Header) (links words : List ℕ) → Held h links words → Probabilities (eventsOf (h .events) words)
+held-probable h links words held = falling-probable certain (eventsOf (h .events) words) (omega arith) (held .falling)

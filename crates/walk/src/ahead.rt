@@ -11,7 +11,7 @@ ghost use lib.ListN.{length, getD, drop};
 ghost use Rattle.mass.specs.Split.{certain, whole, failing, working};
 ghost use Rattle.sets.specs.Sets.{joined};
 ghost use Rattle.plan.specs.Lists.{eventsOf};
-ghost use Rattle.walk.specs.Scenario.{Falling};
+ghost use Rattle.plan.specs.Held.{Falling};
 ghost use mathlib.Core.List.{_++_};
 ghost use mathlib.Core.Bool.{false};
 ghost use Rattle.walk.specs.Pending.{branchEnds};

@@ -6,7 +6,7 @@ ghost use Prim.Native.Nat.{_+_, _*_, _^_, _≤_, _<_};
 ghost use lib.ListN.{length, getD, drop};
 ghost use Rattle.sets.specs.Sets.{joined};
 ghost use Rattle.plan.specs.Lists.{eventsOf};
-ghost use Rattle.walk.specs.Scenario.{Probabilities};
+ghost use Rattle.plan.specs.Held.{Probabilities};
 ghost use Rattle.walk.specs.Stack.{Begun, Decided, Deciding, Stack, Stepped};
 
 mod ahead;

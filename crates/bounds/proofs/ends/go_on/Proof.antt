@@ -1,6 +1,7 @@
 -- `bounds::ends::go_on` meets its contract: the invariant is `Turn`, the measure the ends left. Assumes nothing.
 use mathlib.Core.Path.{refl}
 use native.Mathlib.Omega.{arith}
+use Rattle.walk.specs.Valid.{held-probable}
 use Rattle.bounds.proofs.Turn.{Turn, asked-all, walked-all, mass-fits, end-sums, turned}
 use Rattle.bounds.proofs.ends.go_on.Statement.{statement}
 use Rattle.bounds.proofs.ends.go_on.Tie as tie
@@ -21,7 +22,7 @@ returns c = asked-all _ _ _ _ _ _ _ _ _ _ _ _ _ _ _ (c .before .before .loop .in
 next-end-requires : tie.Need-next-end-requires Inv-loop μ-loop
 next-end-requires c κs =
     let g = c .before .before .before .loop .inv .ready in
-    (g .held .events-fit, c .before .before .loop-test .taken, g .held .probable, g .stacked)
+    (g .held .events-fit, c .before .before .loop-test .taken, held-probable _ _ _ (g .held), g .stacked)
 
 examine-end-requires : tie.Need-examine-end-requires Inv-loop μ-loop
 examine-end-requires c κs =

@@ -1,6 +1,7 @@
 -- `readings::search::search_on` meets its contract: the invariant is `Seek`, the measure the ends left. Assumes nothing.
 use borrow.Author.Needs.{needs}
 use mathlib.Core.Path.{refl}
+use Rattle.walk.specs.Valid.{held-probable}
 use Rattle.readings.proofs.Seek.{Seek, asked-all, walked-all, found-here, turned}
 use Rattle.readings.proofs.search.search_on.Statement.{statement}
 use Rattle.readings.proofs.search.search_on.Tie as tie
@@ -20,7 +21,7 @@ returns c = asked-all _ _ _ _ _ _ _ _ _ _ _ (c .before .before .loop .inv) (c .i
 next-end-requires : tie.Need-next-end-requires Inv-loop μ-loop
 next-end-requires c κs =
     let g = c .before .before .before .loop .inv .seeking in
-    (g .held .events-fit, c .before .before .loop-test .taken, g .held .probable, g .stacked)
+    (g .held .events-fit, c .before .before .loop-test .taken, held-probable _ _ _ (g .held), g .stacked)
 
 end-cuts-requires : tie.Need-end-cuts-requires Inv-loop μ-loop
 end-cuts-requires c κs =

@@ -2,6 +2,7 @@
 use mathlib.Core.Path.{_∙_}
 use native.Mathlib.Omega.{arith}
 use borrow.Author.Needs.{needs}
+use Rattle.walk.specs.Valid.{held-probable}
 use Rattle.topologies.proofs.Turn.{Turn, turn-begun, asked-all, walked-all, may-place, stopped, turned}
 use Rattle.topologies.proofs.ends.list_ends.Statement.{statement}
 use Rattle.topologies.proofs.ends.list_ends.Tie as tie
@@ -25,7 +26,7 @@ returns c = asked-all _ _ _ _ _ _ _ _ _ _ _ _ (c .before .before .loop .inv) (c 
 next-end-requires : tie.Need-next-end-requires Inv-loop μ-loop
 next-end-requires c κs =
     let g = c .before .before .before .loop .inv in
-    (g .held .events-fit, c .before .before .loop-test .taken, g .held .probable, g .stacked)
+    (g .held .events-fit, c .before .before .loop-test .taken, held-probable _ _ _ (g .held), g .stacked)
 
 place-end-requires : tie.Need-place-end-requires Inv-loop μ-loop
 place-end-requires c κs =
