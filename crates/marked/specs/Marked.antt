@@ -24,8 +24,8 @@ use Rattle.readings.specs.Figure.{figureOf}
 use Rattle.readings.specs.declared.Figured.{Figured}
 use Rattle.readings.specs.declared.Figured.the-variants as figured
 
--- a marked plan, with what the run gives for it: the examined count, complete, E and the bounds of its pairs in order; and for each pair,
--- in the same order, whether it has a figure: 1 if it has one, else 0
+-- a marked plan, with what the run gives for it: the examined count, complete, E (`mass`) and the bounds of its pairs, in order; and for
+-- each pair, in the same order, whether it has a figure: 1 if it has one, else 0
 pub record MarkedPlan : Type 0 where
   pub plan : Plan
   pub examined : ℕ
@@ -42,6 +42,7 @@ pub record MarkedSplit : Type 0 where
   pub fails : ℕ
   pub works : ℕ
 
+-- an entry of the list: a plan with its figures, or a split with its parts
 pub data Entry : Type 0 where
   planned : MarkedPlan → Entry
   parted : MarkedSplit → Entry
