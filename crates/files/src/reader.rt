@@ -155,8 +155,12 @@ pub fn read_core(
     words: &mut [u64; 512],
 ) -> Reading
     ensures answer { λ r. ⌜ r ≡ readAnswer (readRefusal «link_room» «event_room» (now (s .entry))) (headerOf (now (s .entry))) ⌝ }
-    ensures links { λ r. ⌜ now (links .exit) ≡ filled (readRefusal «link_room» «event_room» (now (s .entry))) (linkBytes ((planOf (now (s .entry))) .links)) (now (links .entry)) ⌝ }
-    ensures words { λ r. ⌜ now (words .exit) ≡ filled (readRefusal «link_room» «event_room» (now (s .entry))) (eventWords ((planOf (now (s .entry))) .events)) (now (words .entry)) ⌝ }
+    ensures links { λ r. ⌜ now (links .exit) ≡ filled (readRefusal «link_room» «event_room» (now (s .entry)))
+        (linkBytes ((planOf (now (s .entry))) .links))
+        (now (links .entry)) ⌝ }
+    ensures words { λ r. ⌜ now (words .exit) ≡ filled (readRefusal «link_room» «event_room» (now (s .entry)))
+        (eventWords ((planOf (now (s .entry))) .events))
+        (now (words .entry)) ⌝ }
 {
     let number = read_test(s, link_room, event_room);
     if number != 0 {
@@ -185,7 +189,8 @@ pub fn read_at(
     links: &mut [u8; 256],
     words: &mut [u64; 512],
 ) -> Reading
-    ensures answer { λ r. ⌜ r ≡ readAnswer (readRefusal «link_room» «event_room» (drop at (now (s .entry)))) (headerOf (drop at (now (s .entry)))) ⌝ }
+    ensures answer { λ r. ⌜ r ≡ readAnswer (readRefusal «link_room» «event_room» (drop at (now (s .entry))))
+        (headerOf (drop at (now (s .entry)))) ⌝ }
     ensures links { λ r. ⌜ now (links .exit) ≡ filled (readRefusal «link_room» «event_room» (drop at (now (s .entry))))
         (linkBytes ((planOf (drop at (now (s .entry)))) .links)) (now (links .entry)) ⌝ }
     ensures words { λ r. ⌜ now (words .exit) ≡ filled (readRefusal «link_room» «event_room» (drop at (now (s .entry))))
@@ -213,9 +218,12 @@ pub fn header_in(answer: Reading) -> Header
 
 // Reads a plan into lent lists: the links' bytes, and four words to an event. A refusal changes nothing.
 pub fn read(s: &[u8], links: &mut [u8], events: &mut [u64]) -> Reading
-    ensures answer { λ r. ⌜ r ≡ readAnswer (readRefusal (length (now (links .entry))) (length (now (events .entry)) / 4) (now (s .entry))) (headerOf (now (s .entry))) ⌝ }
-    ensures links { λ r. ⌜ now (links .exit) ≡ filled (readRefusal (length (now (links .entry))) (length (now (events .entry)) / 4) (now (s .entry))) (linkBytes ((planOf (now (s .entry))) .links)) (now (links .entry)) ⌝ }
-    ensures events { λ r. ⌜ now (events .exit) ≡ filled (readRefusal (length (now (links .entry))) (length (now (events .entry)) / 4) (now (s .entry))) (eventWords ((planOf (now (s .entry))) .events)) (now (events .entry)) ⌝ }
+    ensures answer { λ r. ⌜ r ≡ readAnswer (readRefusal (length (now (links .entry))) (length (now (events .entry)) / 4) (now (s .entry)))
+        (headerOf (now (s .entry))) ⌝ }
+    ensures links { λ r. ⌜ now (links .exit) ≡ filled (readRefusal (length (now (links .entry))) (length (now (events .entry)) / 4) (now (s .entry)))
+        (linkBytes ((planOf (now (s .entry))) .links)) (now (links .entry)) ⌝ }
+    ensures events { λ r. ⌜ now (events .exit) ≡ filled (readRefusal (length (now (links .entry))) (length (now (events .entry)) / 4) (now (s .entry)))
+        (eventWords ((planOf (now (s .entry))) .events)) (now (events .entry)) ⌝ }
 {
     let mut bytes = [0u8; 256];
     let mut words = [0u64; 512];

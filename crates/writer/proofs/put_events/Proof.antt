@@ -8,7 +8,7 @@ use lib.Seq.{sets}
 use Rattle.plan.specs.Lists.{eventsOf}
 use Rattle.plan.specs.Layout.{eventBytes}
 use Rattle.lent.proofs.ListLaws.{eventAt}
-use Rattle.writer.proofs.WriterSizes.{length-bytes-next}
+use Rattle.sizes.proofs.SizeLaws.{length-bytes-next}
 use Rattle.writer.proofs.WriterLaws.{laid-next, laid-end}
 use Rattle.writer.proofs.put_events.Statement.{statement}
 use Rattle.writer.proofs.put_events.Tie as tie

@@ -5,7 +5,7 @@ use native.Mathlib.Omega.{arith}
 use lib.ListN.{length}
 use lib.Seq.{sets}
 use Rattle.plan.specs.Layout.{elements, memberBytes}
-use Rattle.writer.proofs.ElementLaws.{length-members-left, elements-end}
+use Rattle.sizes.proofs.ElementLaws.{length-members-left, elements-end}
 use Rattle.writer.proofs.WriterLaws.{members-next, members-end}
 use Rattle.writer.proofs.put_members.Statement.{statement}
 use Rattle.writer.proofs.put_members.Tie as tie

@@ -5,7 +5,7 @@ use native.Mathlib.Omega.{arith}
 use lib.ListN.{length}
 use Rattle.plan.specs.Lists.{eventsOf}
 use Rattle.plan.specs.Layout.{eventBytes}
-use Rattle.writer.proofs.WriterSizes.{plan-size}
+use Rattle.sizes.proofs.SizeLaws.{plan-size}
 use Rattle.writer.proofs.WriterLaws.{plan-laid}
 use Rattle.writer.proofs.put_plan.Statement.{statement}
 use Rattle.writer.proofs.put_plan.Tie as tie

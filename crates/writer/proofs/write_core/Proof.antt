@@ -8,7 +8,7 @@ use Rattle.plan.specs.Layout.{layout}
 use Rattle.plan.specs.Records.{planOfLists, listsRefusal}
 use Rattle.refusals.proofs.TestLaws.{Ranges, room-none}
 use Rattle.layout.proofs.ListTheorems.{length-events-of}
-use Rattle.writer.proofs.WriterSizes.{plan-size, events-most}
+use Rattle.sizes.proofs.SizeLaws.{plan-size, events-most}
 use Rattle.writer.proofs.WriterAnswer.{lists-counted, lists-refuse, room-refuses, written}
 use Rattle.writer.proofs.write_core.Statement.{statement}
 use Rattle.writer.proofs.write_core.Tie as tie

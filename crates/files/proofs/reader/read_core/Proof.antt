@@ -36,7 +36,7 @@ header-of-requires c κs = plan-fits _ (accepted c)
 fill-links-requires : tie.Need-fill-links-requires
 unfolding headerOf
 fill-links-requires c κs =
-    let e = accepted (c .before .before) in rw (c .before .header-of .ensures) (accepted-counts _ e .1, accepted-there _ e)
+    let e = accepted (c .before .before) in rw (c .before .header-of .ensures) (accepted-counts _ e .1, omega (arith, accepted-there _ e))
 
 links-there : (c : tie.After-header-of) → 20 + 2 * c .header-of .result .links ≤ length (c .before .before .before .before .args .s .now)
 unfolding headerOf

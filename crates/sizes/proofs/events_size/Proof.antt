@@ -1,4 +1,4 @@
--- `writer::events_size` meets its contract: the bytes counted and those of the events that are left make all. Assumes nothing.
+-- `sizes::events_size` meets its contract: the bytes counted and those of the events that are left make all. Assumes nothing.
 use mathlib.Core.Path.{_≡_, sym, ap, _∙_}
 use Prim.Native.Nat.{ℕ, _+_, _*_, _-_, _≤_}
 use native.Mathlib.Omega.{arith}
@@ -6,9 +6,9 @@ use lib.ListN.{length, drop}
 use Rattle.plan.specs.Lists.{eventsOf}
 use Rattle.plan.specs.Layout.{memberCount, eventBytes}
 use Rattle.layout.proofs.ListTheorems.{length-events-of}
-use Rattle.writer.proofs.WriterSizes.{size-next, events-most, bytes-end}
-use Rattle.writer.proofs.events_size.Statement.{statement}
-use Rattle.writer.proofs.events_size.Tie as tie
+use Rattle.sizes.proofs.SizeLaws.{size-next, events-most, bytes-end}
+use Rattle.sizes.proofs.events_size.Statement.{statement}
+use Rattle.sizes.proofs.events_size.Tie as tie
 
 abbrev Inv-loop : tie.InvT-loop
 Inv-loop words count at₀ left₀ size₀ at left size =

@@ -1,8 +1,8 @@
--- `writer::member_count` meets its contract: the three words are counted one by one. Assumes nothing.
+-- `sizes::member_count` meets its contract: the three words are counted one by one. Assumes nothing.
 use native.Mathlib.Omega.{arith}
-use Rattle.writer.proofs.ElementLaws.{members-counted}
-use Rattle.writer.proofs.member_count.Statement.{statement}
-use Rattle.writer.proofs.member_count.Tie as tie
+use Rattle.sizes.proofs.ElementLaws.{members-counted}
+use Rattle.sizes.proofs.member_count.Statement.{statement}
+use Rattle.sizes.proofs.member_count.Tie as tie
 
 count-elements-requires : tie.Need-count-elements-requires
 count-elements-requires c κs = tt

@@ -1,12 +1,12 @@
--- `writer::count_elements` meets its contract: the elements counted and those of the bits that are left make all. Assumes nothing.
+-- `sizes::count_elements` meets its contract: the elements counted and those of the bits that are left make all. Assumes nothing.
 use mathlib.Core.Path.{_≡_, ap}
 use Prim.Native.Nat.{_+_, _-_, _/_, _%_, _≤_}
 use native.Mathlib.Omega.{arith}
 use lib.ListN.{length}
 use Rattle.plan.specs.Layout.{elements}
-use Rattle.writer.proofs.ElementLaws.{length-left, length-most, elements-end}
-use Rattle.writer.proofs.count_elements.Statement.{statement}
-use Rattle.writer.proofs.count_elements.Tie as tie
+use Rattle.sizes.proofs.ElementLaws.{length-left, length-most, elements-end}
+use Rattle.sizes.proofs.count_elements.Statement.{statement}
+use Rattle.sizes.proofs.count_elements.Tie as tie
 
 abbrev Inv-loop : tie.InvT-loop
 Inv-loop set left₀ rest₀ count₀ left rest count = (left ≤ 64) × (count + length (elements left 0 rest) ≡ length (elements 64 0 set))

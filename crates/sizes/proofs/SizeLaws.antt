@@ -13,7 +13,7 @@ use Rattle.plan.specs.Lists.{linksOf, eventOf, eventsOf, linkBytes}
 use Rattle.plan.specs.Records.{planOfLists}
 use Rattle.plan.specs.declared.Header.{Header}
 use Rattle.plan.specs.Layout.{little, elements, memberBytes, members, memberCount, eventBytes, headerBytes, layout}
-use Rattle.writer.proofs.ElementLaws.{length-from, length-most, link-elements, members-counted, memberBytes-append, length-memberBytes}
+use Rattle.sizes.proofs.ElementLaws.{length-from, length-most, link-elements, members-counted, memberBytes-append, length-memberBytes}
 
 pub length-little : (width x : ℕ) → length (little width x) ≡ width
 unfolding little
