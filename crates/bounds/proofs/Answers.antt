@@ -24,9 +24,10 @@ use Rattle.walk.specs.Laws.{massExamined-le}
 use Rattle.walk.specs.Valid.{plan-probable}
 use Rattle.sums.specs.Bounds.{upper-lower, demand3-valid}
 use Rattle.pairs.specs.Pairs.{row, rows, table, start, place, pairCount, pairTest}
+use Rattle.pairs.specs.Giving.{Giving}
 use Rattle.pairs.proofs.PairLaws.{table-is, table-at, table-long, map-table, table-same, place-is, place-lt, pairs-most}
 use Rattle.bounds.specs.Bounds.{cuts, lowerOf, upperOf, lowerList, upperList, Encloses, EnclosesAll}
-use Rattle.bounds.specs.Calls.{runRefusal, ranAnswer, totalsOf, totalsIn, pairRefusal, pairAnswer, boundsOf, boundsIn, Summed, Giving}
+use Rattle.bounds.specs.Calls.{runRefusal, ranAnswer, totalsOf, totalsIn, pairRefusal, pairAnswer, boundsOf, boundsIn, Summed}
 use Rattle.bounds.specs.declared.Totals.{Totals}
 use Rattle.bounds.specs.declared.Ran.{Ran}
 use Rattle.bounds.specs.declared.Ran.the-variants as ran

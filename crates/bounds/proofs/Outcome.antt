@@ -17,8 +17,9 @@ use Rattle.layout.proofs.ListTheorems.{lists-denote}
 use Rattle.writer.proofs.WriterAnswer.{lists-counted}
 use Rattle.walk.specs.Walk.{massExamined, count}
 use Rattle.pairs.specs.Pairs.{pairCount}
+use Rattle.pairs.specs.Giving.{Giving}
 use Rattle.bounds.specs.Bounds.{lowerList, upperList, Encloses, EnclosesAll}
-use Rattle.bounds.specs.Calls.{runRefusal, runNumber, ranAnswer, totalsOf, totalsIn, pairRefusal, pairNumber, pairAnswer, boundsOf, boundsIn, Summed, Giving}
+use Rattle.bounds.specs.Calls.{runRefusal, runNumber, ranAnswer, totalsOf, totalsIn, pairRefusal, pairNumber, pairAnswer, boundsOf, boundsIn, Summed}
 use Rattle.bounds.specs.declared.Totals.{Totals}
 use Rattle.bounds.specs.declared.Ran.{Ran}
 use Rattle.bounds.specs.declared.Ran.the-variants as ran

@@ -6,7 +6,6 @@ use mathlib.Core.List.{List, [], _∷_}
 use Prim.Native.Nat.{ℕ, zero, suc, _/_, _<_, _≤_}
 use lib.ListN.{length, getD}
 use Rattle.mass.specs.Refusal.{first}
-use Rattle.mass.specs.Split.{whole}
 use Rattle.plan.specs.Plan.{Plan}
 use Rattle.refusals.specs.Tests.{roomTest}
 use Rattle.plan.specs.Records.{listsRefusal, planOfLists}
@@ -80,12 +79,3 @@ pub record Summed (p : Plan) (n : ℕ) (lower : List ℕ) : Type 0 where
 pub record Cleared (lower : List ℕ) : Type 0 where
   pub sized : length lower ≡ 2016
   pub zeros : (i : ℕ) → getD lower i 0 ≡ 0
-
--- what giving the bounds out asks: sums of at most one whole, and room for all pairs
-pub record Giving (n mass : ℕ) (sums lower upper : List ℕ) : Type 0 where
-  pub few : n ≤ 64
-  pub light : mass ≤ whole
-  pub sized : length sums ≡ 2016
-  pub below : (i : ℕ) → getD sums i 0 ≤ whole
-  pub lower-room : pairCount n ≤ length lower
-  pub upper-room : pairCount n ≤ length upper

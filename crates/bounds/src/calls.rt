@@ -3,11 +3,11 @@ use crate::PairBounds;
 use crate::Paired;
 use crate::Ran;
 use crate::whole::walk_all;
+use pairs::give_bounds;
 use pairs::pair_test;
 use pairs::start_of;
 use plan::Header;
 ghost use mathlib.Core.Path.{_≡_};
-ghost use mathlib.Core.List.{map};
 ghost use Prim.Native.Nat.{ℕ, _+_, _-_, _/_, _^_, _≤_, _<_};
 ghost use lib.ListN.{length, getD, take};
 ghost use lib.Seq.{sets};
@@ -15,9 +15,10 @@ ghost use Rattle.mass.specs.Split.{whole};
 ghost use Rattle.plan.specs.Records.{planOfLists};
 ghost use Rattle.plan.specs.Calls.{filled};
 ghost use Rattle.walk.specs.Walk.{count};
-ghost use Rattle.pairs.specs.Pairs.{place, pairCount};
+ghost use Rattle.pairs.specs.Pairs.{place};
+ghost use Rattle.pairs.specs.Giving.{Giving};
 ghost use Rattle.bounds.specs.Bounds.{lowerList, upperList, Encloses, EnclosesAll};
-ghost use Rattle.bounds.specs.Calls.{runRefusal, totalsOf, ranAnswer, totalsIn, runNumber, pairRefusal, boundsOf, pairAnswer, boundsIn, pairNumber, Summed, Cleared, Giving};
+ghost use Rattle.bounds.specs.Calls.{runRefusal, totalsOf, ranAnswer, totalsIn, runNumber, pairRefusal, boundsOf, pairAnswer, boundsIn, pairNumber, Summed, Cleared};
 
 // The tests of a run: those of the lists, then 12 for the two lists of bounds.
 fn run_test(
@@ -76,30 +77,6 @@ pub fn run_core(
         return Ran::Refused(number);
     }
     Ran::Done(walk_all(h, links, words, lower))
-}
-
-// The first `count` entries, each with `rest` added.
-pub fn copy_raised(from: &[u64], to: &mut [u64], count: usize, rest: u64)
-    requires { ⌜ (count ≤ length (now from)) × (count ≤ length (now to)) ⌝ }
-    requires { ⌜ ((i : ℕ) → i < count → rest + getD (now from) i 0 < 2 ^ 64) ⌝ }
-    ensures { λ r. ⌜ now (to .exit) ≡ sets (now (to .entry)) 0 (map (λ x. rest + x) (take count (now (from .entry)))) ⌝ }
-{
-    let mut i = 0;
-    while i < count {
-        to[i] = rest + from[i];
-        i += 1;
-    }
-}
-
-// Lays the bounds of all pairs down: the lower ones are the sums, the upper ones add what was not examined.
-fn give_bounds(n: usize, mass: u64, sums: &[u64; 2016], lower: &mut [u64], upper: &mut [u64])
-    requires { ⌜ Giving n mass (now sums) (now lower) (now upper) ⌝ }
-    ensures { λ r. ⌜ now (lower .exit) ≡ sets (now (lower .entry)) 0 (take (pairCount n) (now (sums .entry))) ⌝ }
-    ensures { λ r. ⌜ now (upper .exit) ≡ sets (now (upper .entry)) 0 (map (λ x. (whole - mass) + x) (take (pairCount n) (now (sums .entry)))) ⌝ }
-{
-    let pairs = start_of(n, n);
-    lent::copy_words(sums, lower, pairs);
-    copy_raised(sums, upper, pairs, mass::Mass::WHOLE.units - mass);
 }
 
 // The run over all pairs: fills the two lists with the bounds of the pairs, in order, and answers the examined count, complete and E.

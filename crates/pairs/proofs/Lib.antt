@@ -3,3 +3,4 @@ pub mod PairLaws
 pub mod Row
 pub mod Rows
 pub mod Cut
+pub mod Raised

@@ -20,7 +20,8 @@ use Rattle.files.proofs.ReaderLawsAnswer.{take-sets}
 use Rattle.walk.specs.Walk.{count, complete, massExamined}
 use Rattle.pairs.specs.Pairs.{place}
 use Rattle.bounds.specs.Bounds.{lowerOf}
-use Rattle.bounds.specs.Calls.{totalsOf, Summed, Giving}
+use Rattle.pairs.specs.Giving.{Giving}
+use Rattle.bounds.specs.Calls.{totalsOf, Summed}
 use Rattle.bounds.specs.declared.Totals.{Totals}
 use Rattle.bounds.proofs.Answers.{raised}
 use Rattle.input.specs.Loaded.{Loaded}

@@ -7,7 +7,7 @@ ghost use mathlib.Core.Path.{_≡_};
 ghost use Prim.Native.Nat.{_+_, _-_, _≤_, _<_};
 ghost use lib.ListN.{length};
 ghost use lib.Seq.{sets};
-ghost use Rattle.bounds.specs.Calls.{Giving};
+ghost use Rattle.pairs.specs.Giving.{Giving};
 ghost use Rattle.text.specs.Listing.{line, rowText, pairsText};
 ghost use Rattle.text.specs.Sums.{Listable, sumLine, headLine, sumsText};
 

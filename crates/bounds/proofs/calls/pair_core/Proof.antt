@@ -5,7 +5,7 @@ use Rattle.layout.proofs.ListTheorems.{lists-denote}
 use Rattle.pairs.proofs.PairLaws.{pairs-most}
 use Rattle.bounds.specs.declared.Totals.{Totals}
 use Rattle.bounds.proofs.Accepted.{lists-held, limit-most}
-use Rattle.bounds.proofs.Raised.{cleared}
+use Rattle.bounds.proofs.Zeros.{cleared}
 use Rattle.bounds.proofs.Answers.{pair-refuses, pair-done, pair-lists-stop, pair-test-stop, pair-accepted, pair-inside, giving, pair-bounds}
 use Rattle.bounds.proofs.calls.pair_core.Statement.{statement}
 use Rattle.bounds.proofs.calls.pair_core.Tie as tie

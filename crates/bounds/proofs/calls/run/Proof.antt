@@ -5,14 +5,14 @@ use Prim.Native.Nat.{ℕ, _/_}
 use lib.ListN.{length}
 use Rattle.plan.specs.Records.{planOfLists}
 use Rattle.bounds.specs.Calls.{runRefusal, ranAnswer, totalsOf, Summed}
-use Rattle.bounds.proofs.Raised.{cleared}
+use Rattle.bounds.proofs.Zeros.{cleared}
 use Rattle.bounds.proofs.Outcome.{run-answer, run-refused, may-give, run-done}
 use borrow.Author.Needs.{needs}
 use Rattle.bounds.proofs.calls.run.Statement.{statement}
 use Rattle.bounds.proofs.calls.run.Tie as tie
 use Rattle.bounds.proofs.calls.run.Reads as reads
 use Rattle.bounds.proofs.calls.run.Lts as lts
-use Rattle.bounds.proofs.calls.give_bounds.Reads as give-bounds-reads
+use Rattle.pairs.proofs.give_bounds.Reads as give-bounds-reads
 use Rattle.bounds.proofs.calls.run_core.Reads as run-core-reads
 use Rattle.lent.proofs.load.Reads as load-reads
 

@@ -1,13 +1,13 @@
--- `bounds::calls::copy_raised` meets its contract: the loop has laid down the entries before `i`. Assumes nothing.
+-- `pairs::give::copy_raised` meets its contract: the loop has laid down the entries before `i`. Assumes nothing.
 use mathlib.Core.Path.{_≡_, refl, ap, _∙_}
 use mathlib.Core.List.{map}
 use Prim.Native.Nat.{ℕ, _+_, _-_, _≤_, _<_}
 use native.Mathlib.Omega.{arith}
 use lib.ListN.{length, take}
 use lib.Seq.{sets, length-sets}
-use Rattle.bounds.proofs.Raised.{raise-next}
-use Rattle.bounds.proofs.calls.copy_raised.Statement.{statement}
-use Rattle.bounds.proofs.calls.copy_raised.Tie as tie
+use Rattle.pairs.proofs.Raised.{raise-next}
+use Rattle.pairs.proofs.give.copy_raised.Statement.{statement}
+use Rattle.pairs.proofs.give.copy_raised.Tie as tie
 
 abbrev Inv-loop : tie.InvT-loop
 Inv-loop from to₀ count rest i₀ to i = (i ≤ count) × (to ≡ sets to₀ 0 (map (λ x. rest + x) (take i from)))

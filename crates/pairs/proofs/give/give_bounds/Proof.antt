@@ -1,4 +1,4 @@
--- `bounds::calls::give_bounds` meets its contract. Assumes nothing.
+-- `pairs::give::give_bounds` meets its contract. Assumes nothing.
 use mathlib.Core.Path.{ap, _∙_}
 use mathlib.Core.List.{map}
 use Prim.Native.Nat.{ℕ, _+_, _-_}
@@ -6,46 +6,39 @@ use native.Mathlib.Omega.{arith}
 use lib.ListN.{take}
 use lib.Seq.{sets}
 use Rattle.mass.specs.Split.{whole}
 use Rattle.pairs.proofs.PairLaws.{pairs-most}
-use Rattle.bounds.proofs.calls.give_bounds.Statement.{statement}
-use Rattle.bounds.proofs.calls.give_bounds.Tie as tie
-use Rattle.bounds.proofs.calls.give_bounds.Reads as reads
-use Rattle.bounds.proofs.calls.give_bounds.Lts as lts
-use Rattle.bounds.proofs.calls.copy_raised.Reads as copy-raised-reads
-use Rattle.pairs.proofs.start_of.Reads as start-of-reads
+use Rattle.pairs.proofs.give.give_bounds.Statement.{statement}
+use Rattle.pairs.proofs.give.give_bounds.Tie as tie
+use Rattle.pairs.proofs.give.give_bounds.Reads as reads
+use Rattle.pairs.proofs.give.give_bounds.Lts as lts
+use Rattle.pairs.proofs.give.copy_raised.Reads as copy-raised-reads
+use Rattle.pairs.proofs.places.start_of.Reads as start-of-reads
 use Rattle.lent.proofs.copy_words.Reads as copy-words-reads
 
--- src/calls.rt:100:9
 start-of-requires : tie.Need-start-of-requires
 start-of-requires c κs = (c .before .before .pre .few, omega arith)
 
--- src/calls.rt:101:5
 copy-words-requires : tie.Need-copy-words-requires
 copy-words-requires c κs =
     let g = c .before .before .before .before .before .pre in
     let e = c .before .before .start-of .ensures in
     (omega (arith, e, g .sized, pairs-most _ (g .few)), omega (arith, e, g .lower-room))
 
--- src/calls.rt:102:37
 sub-copy-raised : tie.Need-sub-copy-raised
 sub-copy-raised c = omega (arith, c .before .before .before .before .before .before .before .before .before .before .before .pre .light)
 
--- src/calls.rt:102:5
 copy-raised-requires : tie.Need-copy-raised-requires
 copy-raised-requires c κs =
     let g = c .before .before .before .before .before .before .before .before .before .before .before .pre in
     let e = c .before .before .before .before .before .before .before .before .start-of .ensures in
     ((omega (arith, e, g .sized, pairs-most _ (g .few)), omega (arith, e, g .upper-room)), λ i h. omega (arith, g .below i))
 
--- src/calls.rt:95:1
 same-length : tie.Need-same-length
 same-length c = c .before .before .before .before .before .before .before .before .copy-words .kept .1 .0
 
--- src/calls.rt:95:1
 same-length-2 : tie.Need-same-length-2
 same-length-2 c = c .before .before .copy-raised .kept .1 .0
 
--- src/calls.rt:95:1
 returns : tie.Need-returns
 returns c =
     let a = c .before .before .before .before .before .before .before .before .before .before .before .before .before .before .args in
