@@ -18,7 +18,7 @@ use Rattle.plan.proofs.TestLaws.{or-none}
 use Rattle.plan.proofs.LayoutFile.{link-list-none, valid-none, ValidPlan}
 use Rattle.plan.proofs.ListTheorems.{lists-denote}
 use Rattle.files.proofs.WriterAnswer.{lists-counted}
-use Rattle.topology.specs.Topology.{EndsBelow}
+use Rattle.network.specs.Topology.{EndsBelow}
 use Rattle.walk.specs.Valid.{lists-probable}
 use Rattle.bounds.specs.Tallied.{Held}
 

@@ -10,7 +10,7 @@ use Rattle.plan.specs.Plan.{Plan}
 use Rattle.plan.specs.Lists.{linksOf, eventsOf}
 use Rattle.plan.specs.declared.Header.{Header}
 use Rattle.plan.specs.Records.{planOfLists}
-use Rattle.topology.specs.Code.{LinksHeld}
+use Rattle.network.specs.Code.{LinksHeld}
 use Rattle.walk.specs.Scenario.{Scenario, Probabilities, scenarioOf}
 use Rattle.walk.specs.Ends.{End, sumEnds, valueOf, weighed}
 use Rattle.walk.specs.Stack.{Stack, toCome, nextEnd}

@@ -14,8 +14,8 @@ use Rattle.mass.specs.Split.{whole}
 use Rattle.sets.specs.Sets.{bit, joined, digit}
 use Rattle.sets.specs.Laws.{bit-joined-low, bit-joined-high}
 use Rattle.plan.specs.Plan.{Plan, Link}
-use Rattle.topology.specs.Outage.{Outage}
-use Rattle.topology.specs.Topology.{Network, networkOf, linkAt, nodeWorks, linkWorks}
+use Rattle.network.specs.Outage.{Outage}
+use Rattle.network.specs.Topology.{Network, networkOf, linkAt, nodeWorks, linkWorks}
 use Rattle.topology.specs.Paths.{disconnected}
 use Rattle.topology.specs.Laws.{same-working}
 use Rattle.walk.specs.Scenario.{Scenario, Probabilities}
