@@ -16,14 +16,14 @@ use Rattle.sets.specs.Bools.{and-left, which, clash}
 use Rattle.plan.specs.Lists.{linksOf, eventsOf}
 use Rattle.plan.specs.Records.{planOfLists}
 use Rattle.plan.specs.declared.Header.{Header}
-use Rattle.topology.specs.Outage.{Outage, outageOf}
-use Rattle.topology.specs.Topology.{Network, networkOf, nodeWorks, adjacent}
+use Rattle.network.specs.Outage.{Outage, outageOf}
+use Rattle.network.specs.Topology.{Network, networkOf, nodeWorks, adjacent}
 use Rattle.topology.specs.Paths.{disconnected}
 use Rattle.topology.specs.Chains.{chain-map}
 use Rattle.topology.specs.Connection.{connected-is}
 use Rattle.topology.specs.Laws.{path-leads}
-use Rattle.topology.specs.Code.{outage, networkIn}
-use Rattle.topology.specs.declared.Failed.{Failed}
+use Rattle.network.specs.Code.{outage, networkIn}
+use Rattle.network.specs.declared.Failed.{Failed}
 use Rattle.topology.proofs.Shown.{nodes-shown, joining, step-link, link-step}
 use Rattle.walk.specs.Scenario.{Scenario, number, scenarioOf, number-scenario}
 use Rattle.walk.specs.Ends.{End, relevant, dropped}

@@ -5,8 +5,8 @@ use mathlib.Core.List.{List}
 use Prim.Native.Nat.{ℕ, _<_}
 use lib.ListN.{length, getD}
 use Rattle.plan.specs.Plan.{Plan}
-use Rattle.topology.specs.Outage.{Outage, outageOf}
-use Rattle.topology.specs.Topology.{Network, networkOf}
+use Rattle.network.specs.Outage.{Outage, outageOf}
+use Rattle.network.specs.Topology.{Network, networkOf}
 use Rattle.topology.specs.Paths.{disconnected}
 use Rattle.walk.specs.Scenario.{Scenario, number}
 use Rattle.walk.specs.Walk.{count}

@@ -1,12 +1,12 @@
 // The loop of the run over the ends of the walk.
 use crate::Tally;
+use network::Failed;
 use pairs::add_cut;
 use plan::Header;
-use topology::Failed;
 ghost use mathlib.Core.Path.{_≡_};
 ghost use Prim.Native.Nat.{_+_, _^_, _<_};
 ghost use Rattle.sets.specs.Sets.{joined, digit};
-ghost use Rattle.topology.specs.Table.{LinksAt};
+ghost use Rattle.network.specs.Table.{LinksAt};
 ghost use Rattle.walk.specs.Ends.{relevant};
 ghost use Rattle.walk.specs.Scenario.{scenarioOf};
 ghost use Rattle.walk.specs.Stack.{endOf};
@@ -37,9 +37,9 @@ fn examine(
         high: 0,
     };
     let n = h.nodes as usize;
-    let failed = topology::failed_by(words, h.events as usize, low, high, intact);
-    let nodes = topology::working_nodes(n, failed.nodes);
-    let rows = topology::neighbours(n, links, h.links as usize, table, failed);
+    let failed = network::failed_by(words, h.events as usize, low, high, intact);
+    let nodes = network::working_nodes(n, failed.nodes);
+    let rows = network::neighbours(n, links, h.links as usize, table, failed);
     add_cut(&mut *lower, n, rows, nodes, mass);
 }
 

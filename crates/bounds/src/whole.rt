@@ -30,7 +30,7 @@ pub fn walk_all(h: Header, links: &[u8; 256], words: &[u64; 512], lower: &mut [u
     ensures { λ r. ⌜ r ≡ totalsOf (planOfLists h (now (links .entry)) (now (words .entry))) ⌝ }
     ensures { λ r. ⌜ Summed (planOfLists h (now (links .entry)) (now (words .entry))) (h .nodes) (now (lower .exit)) ⌝ }
 {
-    let table = topology::links_at(h.nodes as usize, links, h.links as usize);
+    let table = network::links_at(h.nodes as usize, links, h.links as usize);
     let mut stack = [0u64; 512];
     let at = walk::begin(&mut stack, 0, mass::Mass::WHOLE.units, 0, 0);
     let so_far = Tally {

@@ -13,8 +13,8 @@ use Rattle.plan.specs.Plan.{Plan, Link, Event}
 use Rattle.plan.specs.Lists.{linkBytes}
 use Rattle.plan.specs.Layout.{little, value, elements, memberBytes, members, memberCount, eventBytes, headerBytes, layout}
 use Rattle.plan.specs.File.{headerRefusal, linksRefusal, memberRefusal, membersRefusal, eventRefusal, eventsRefusal, refusal}
-use Rattle.topology.specs.Outage.{unionOf}
-use Rattle.topology.specs.Topology.{nodeWorks, linkWorks, joins, adjacent}
+use Rattle.network.specs.Outage.{unionOf}
+use Rattle.network.specs.Topology.{nodeWorks, linkWorks, joins, adjacent}
 use Rattle.topology.specs.Paths.{via, disconnected}
 use Rattle.walk.specs.Ends.{ends}
 use Rattle.pairs.specs.Pairs.{row, rows, table}

@@ -13,11 +13,11 @@ use Rattle.plan.specs.Plan.{Plan}
 use Rattle.plan.specs.Lists.{linksOf, eventsOf}
 use Rattle.plan.specs.Records.{planOfLists}
 use Rattle.plan.specs.declared.Header.{Header}
-use Rattle.topology.specs.Outage.{Outage, outageOf}
-use Rattle.topology.specs.Topology.{networkOf}
+use Rattle.network.specs.Outage.{Outage, outageOf}
+use Rattle.network.specs.Topology.{networkOf}
 use Rattle.topology.specs.Paths.{disconnected}
-use Rattle.topology.specs.Code.{outage, networkIn}
-use Rattle.topology.specs.declared.Failed.{Failed}
+use Rattle.network.specs.Code.{outage, networkIn}
+use Rattle.network.specs.declared.Failed.{Failed}
 use Rattle.walk.specs.Scenario.{Scenario, scenarioOf, number-scenario}
 use Rattle.walk.specs.Ends.{End, relevant, scenarios}
 use Rattle.walk.specs.Member.{among, same-refl}

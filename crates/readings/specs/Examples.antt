@@ -7,8 +7,8 @@ use Prim.Native.Nat.{ℕ}
 use Rattle.sets.specs.Sets.{bit}
 use Rattle.sets.specs.Bools.{anyBelow}
 use Rattle.plan.specs.Plan.{Plan}
-use Rattle.topology.specs.Outage.{unionOf}
-use Rattle.topology.specs.Topology.{nodeWorks, linkWorks, joins, adjacent}
+use Rattle.network.specs.Outage.{unionOf}
+use Rattle.network.specs.Topology.{nodeWorks, linkWorks, joins, adjacent}
 use Rattle.topology.specs.Paths.{via, disconnected}
 use Rattle.walk.specs.Ends.{ends}
 use Rattle.walk.specs.Walk.{examined}

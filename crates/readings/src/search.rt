@@ -1,7 +1,7 @@
 // Witness: an examined scenario that disconnects a pair.
 use crate::Witnessed;
+use network::Failed;
 use plan::Header;
-use topology::Failed;
 use walk::Failing;
 ghost use mathlib.Core.Path.{_≡_};
 ghost use mathlib.Core.Bool.{_&&_};
@@ -12,7 +12,7 @@ ghost use Rattle.plan.specs.Records.{planOfLists};
 ghost use Rattle.walk.specs.Scenario.{scenarioOf};
 ghost use Rattle.walk.specs.Ends.{scenarios};
 ghost use Rattle.walk.specs.Walk.{examined};
-ghost use Rattle.topology.specs.Table.{LinksAt};
+ghost use Rattle.network.specs.Table.{LinksAt};
 ghost use Rattle.bounds.specs.Bounds.{cuts};
 ghost use Rattle.bounds.specs.Tallied.{coming};
 ghost use Rattle.plan.specs.Held.{Held};
@@ -41,7 +41,7 @@ fn end_cuts(
             low: 0,
             high: 0,
         };
-        let failed = topology::failed_by(words, h.events as usize, low, high, intact);
+        let failed = network::failed_by(words, h.events as usize, low, high, intact);
         return topology::is_disconnected(
             h.nodes as usize,
             failed,
@@ -100,7 +100,7 @@ fn search_all(h: Header, links: &[u8; 256], words: &[u64; 512], v: usize, w: usi
         (examined (planOfLists h (now (links .entry)) (now (words .entry))))
         (noneTest (planOfLists h (now (links .entry)) (now (words .entry))) v w (examined (planOfLists h (now (links .entry)) (now (words .entry))))) r ⌝ }
 {
-    let table = topology::links_at(h.nodes as usize, links, h.links as usize);
+    let table = network::links_at(h.nodes as usize, links, h.links as usize);
     let mut stack = [0u64; 512];
     let at = walk::begin(&mut stack, 0, mass::Mass::WHOLE.units, 0, 0);
     search_on(h, links, words, &table, &mut stack, at, v, w, h.limit)

@@ -10,8 +10,8 @@ use Rattle.sets.specs.Bools.{anyBelow}
 use Rattle.plan.specs.Layout.{value}
 use Rattle.plan.specs.Lists.{linksOf}
 use Rattle.plan.specs.File.{headerRefusal, linksRefusal, memberRefusal, membersRefusal, eventRefusal, eventsRefusal, refusal, setOf, eventsAt, planOf}
-use Rattle.topology.specs.Outage.{unionOf}
-use Rattle.topology.specs.Topology.{nodeWorks, linkWorks, joins, adjacent}
+use Rattle.network.specs.Outage.{unionOf}
+use Rattle.network.specs.Topology.{nodeWorks, linkWorks, joins, adjacent}
 use Rattle.topology.specs.Paths.{via, disconnected}
 use Rattle.walk.specs.Ends.{ends}
 use Rattle.text.specs.Decimal.{digits, decimal, decimal-small, decimal-enough}

@@ -11,10 +11,10 @@ use Rattle.sets.specs.Laws.{bit-joined-low, bit-joined-high}
 use Rattle.plan.specs.Lists.{linksOf, eventsOf}
 use Rattle.plan.specs.Records.{planOfLists}
 use Rattle.plan.specs.declared.Header.{Header}
-use Rattle.topology.specs.Outage.{Outage, outageOf}
-use Rattle.topology.specs.Topology.{Network, networkOf, nodeWorks, linkWorks}
-use Rattle.topology.specs.Code.{outage, networkIn}
-use Rattle.topology.specs.declared.Failed.{Failed}
+use Rattle.network.specs.Outage.{Outage, outageOf}
+use Rattle.network.specs.Topology.{Network, networkOf, nodeWorks, linkWorks}
+use Rattle.network.specs.Code.{outage, networkIn}
+use Rattle.network.specs.declared.Failed.{Failed}
 use Rattle.walk.specs.Scenario.{scenarioOf, number-scenario}
 use Rattle.bounds.specs.Bounds.{intact}
 use Rattle.topologies.specs.Listing.{topologyIn, topologyAfter}

@@ -14,8 +14,8 @@ use Rattle.mass.specs.Split.{whole}
 use Rattle.sets.specs.Sets.{bit, joined, digit}
 use Rattle.sets.specs.Laws.{bit-joined-low, bit-joined-high}
 use Rattle.plan.specs.Plan.{Plan, Link}
-use Rattle.topology.specs.Outage.{Outage}
-use Rattle.topology.specs.Topology.{Network, networkOf, nodeWorks, linkWorks}
+use Rattle.network.specs.Outage.{Outage}
+use Rattle.network.specs.Topology.{Network, networkOf, nodeWorks, linkWorks}
 use Rattle.plan.specs.Held.{linkAt, Probabilities}
 use Rattle.topology.specs.Paths.{disconnected}
 use Rattle.topology.specs.Laws.{same-working}

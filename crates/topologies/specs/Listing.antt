@@ -6,7 +6,7 @@ use Prim.Native.Nat.{ℕ, zero, suc, _+_, _*_, _^_}
 use lib.Dec.{eqb, ltb}
 use lib.ListN.{length}
 use Rattle.plan.specs.Plan.{Plan}
-use Rattle.topology.specs.Topology.{Network, nodeWorks, linkWorks}
+use Rattle.network.specs.Topology.{Network, nodeWorks, linkWorks}
 use Rattle.walk.specs.Scenario.{Scenario}
 use Rattle.sets.specs.Sets.{digit}
 use Rattle.walk.specs.Ends.{End, dropped, relevant}

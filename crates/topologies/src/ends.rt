@@ -2,15 +2,15 @@
 use crate::Placed;
 use crate::Topology;
 use crate::entries::place;
+use network::Failed;
 use plan::Header;
-use topology::Failed;
 ghost use mathlib.Core.Path.{_≡_};
 ghost use mathlib.Core.List.{[]};
 ghost use Prim.Native.Nat.{_/_, _^_, _<_};
 ghost use lib.ListN.{length, take};
 ghost use Rattle.sets.specs.Sets.{joined};
 ghost use Rattle.plan.specs.Records.{planOfLists};
-ghost use Rattle.topology.specs.Table.{LinksAt};
+ghost use Rattle.network.specs.Table.{LinksAt};
 ghost use Rattle.walk.specs.Scenario.{scenarioOf};
 ghost use Rattle.walk.specs.Stack.{endOf};
 ghost use Rattle.bounds.specs.Tallied.{coming};
@@ -38,9 +38,9 @@ fn topology_of(
         high: 0,
     };
     let n = h.nodes as usize;
-    let failed = topology::failed_by(words, h.events as usize, low, high, intact);
-    let nodes = topology::working_nodes(n, failed.nodes);
-    let up = topology::working_links(failed, h.links as usize, table);
+    let failed = network::failed_by(words, h.events as usize, low, high, intact);
+    let nodes = network::working_nodes(n, failed.nodes);
+    let up = network::working_links(failed, h.links as usize, table);
     Topology {
         nodes,
         low: up.low,
@@ -130,7 +130,7 @@ pub fn list_all(h: Header, links: &[u8; 256], words: &[u64; 512], list: &mut [u6
     ensures { λ r. ⌜ Gave (listingOf (length (now (list .entry)) / 4) (planOfLists h (now (links .entry)) (now (words .entry))))
         0 (now (list .entry)) (now (list .exit)) r ⌝ }
 {
-    let table = topology::links_at(h.nodes as usize, links, h.links as usize);
+    let table = network::links_at(h.nodes as usize, links, h.links as usize);
     let mut stack = [0u64; 512];
     let start = walk::begin(&mut stack, 0, mass::Mass::WHOLE.units, 0, 0);
     list_ends(h, links, words, &table, &mut stack, start, list)

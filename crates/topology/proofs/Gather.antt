@@ -7,26 +7,11 @@ use mathlib.Core.Logic.{_⊎_, inl, inr, ⊎-elim, _↔_}
 use Prim.Native.Nat.{ℕ}
 use lib.Dec.{eqb}
 use lib.ListN.{getD}
-use borrow.Author.Tests.{eqb-true}
 use Rattle.sets.specs.Sets.{bit}
 use Rattle.sets.specs.Laws.{bit-none}
-use Rattle.sets.specs.Bools.{and-left, and-both, or-either, or-left, or-right, which, clash, not-of}
+use Rattle.sets.specs.Bools.{or-either, or-left, or-right, clash}
+use Rattle.network.proofs.Rest.{rest-in, rest-or}
 use Rattle.topology.specs.RowPaths.{InRows}
-
--- a set without its element t
-module _ (left rest t found : ℕ) (is : found ≡ t) (law : (j : ℕ) → bit rest j ≡ (bit left j && not (eqb j t))) where
-  pub rest-in : (j : ℕ) → bit rest j ≡ true → bit left j ≡ true
-  rest-in j e = and-left (bit left j) (not (eqb j t)) (sym (law j) ∙ e)
-
-  -- an element is the one taken out, or one of the others
-  pub rest-or : (j : ℕ) → bit left j ≡ true → (j ≡ found) ⊎ (bit rest j ≡ true)
-  rest-or j e =
-      ⊎-elim
-      (λ s. inl (eqb-true j t s ∙ sym is))
-      (λ d. inr (law j ∙ and-both (bit left j) _ e (not-of (eqb j t) d)))
-      (which (eqb j t))
-
--- ---- the union of rows
 
 -- all holds rows of the set only, and every row of the set but for those of what is left
 pub record Gathered (rows : List ℕ) (s all left : ℕ) : Type 0 where

@@ -10,11 +10,11 @@ use lib.ListN.{getD}
 use Rattle.sets.specs.Sets.{bit, digit}
 use Rattle.sets.specs.Bools.{same-bool, not-of, of-not}
 use Rattle.plan.specs.Plan.{Link}
-use Rattle.topology.specs.Outage.{Outage}
-use Rattle.topology.specs.Topology.{Network, networkOf, nodeWorks, adjacent}
-use Rattle.topology.specs.Paths.{WorkingLink, Reaches, disconnected}
+use Rattle.network.specs.Outage.{Outage}
+use Rattle.network.specs.Topology.{Network, networkOf, nodeWorks, adjacent, WorkingLink}
+use Rattle.topology.specs.Paths.{Reaches, disconnected}
 use Rattle.topology.specs.Chains.{chain-map}
-use Rattle.topology.specs.Works.{adjacent-link, link-adjacent, adjacent-sym, link-nodes}
+use Rattle.network.specs.Works.{adjacent-link, link-adjacent, adjacent-sym, link-nodes}
 use Rattle.topology.specs.Connection.{connected-is}
 use Rattle.topology.specs.Laws.{path-leads}
 use Rattle.topology.specs.RowPaths.{RowStep, Reached, Joining}

@@ -9,10 +9,10 @@ use native.Mathlib.Decide.{decLt}
 use lib.Dec.{eqb}
 use borrow.Author.Tests.{eqb-true, eq-eqb, not-false}
 use Rattle.sets.specs.Bools.{and-left, and-right, and-both, or-either, or-left, or-right, which, clash}
-use Rattle.topology.specs.Topology.{Network, nodeWorks, adjacent}
+use Rattle.network.specs.Topology.{Network, nodeWorks, adjacent}
 use Rattle.topology.specs.Paths.{here, more, WorkingPath, Disconnected, via, disconnected}
 use Rattle.topology.specs.Chains.{chain-append}
-use Rattle.topology.specs.Works.{node-below, link-nodes, adjacent-link, link-adjacent}
+use Rattle.network.specs.Works.{node-below, link-nodes, adjacent-link, link-adjacent}
 
 module _ (net : Network) where
   -- ---- `via` finds a path only where there is one

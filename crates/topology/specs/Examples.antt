@@ -6,9 +6,8 @@ use mathlib.Core.List.{List, [], _∷_}
 use Prim.Native.Nat.{ℕ}
 use Rattle.sets.specs.Sets.{bit}
 use Rattle.sets.specs.Bools.{anyBelow}
-use Rattle.plan.specs.Plan.{Link, Event}
-use Rattle.topology.specs.Outage.{unionOf, outageOf}
-use Rattle.topology.specs.Topology.{networkOf, nodeWorks, linkWorks, joins, adjacent}
+use Rattle.plan.specs.Plan.{Link}
+use Rattle.network.specs.Topology.{networkOf, nodeWorks, linkWorks, joins, adjacent}
 use Rattle.topology.specs.Paths.{via, disconnected}
 
 -- the triangle of document 01: links 0-1, 0-2, 1-2
@@ -40,11 +39,3 @@ answers =
 known-answers : answers ≡ false ∷ false ∷ true ∷ false ∷ true ∷ true ∷ false ∷ true ∷ []
 unfolding answers cut triangle disconnected via adjacent joins linkWorks nodeWorks anyBelow bit
 known-answers = refl
-
--- events 0 and 2 of three fail, beside node 5 that had failed at the start
-events : List Event
-events = record { probability = 9; nodes = 1; links = 6 } ∷ record { probability = 8; nodes = 2; links = 8 } ∷ record { probability = 7; nodes = 4; links = 2 } ∷ []
-
-known-outage : outageOf (record { nodes = 32; links = 0 }) events 5 ≡ record { nodes = 37; links = 6 }
-unfolding events unionOf bit
-known-outage = refl

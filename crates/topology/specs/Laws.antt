@@ -10,14 +10,14 @@ use lib.ListN.{length}
 use Rattle.sets.specs.Sets.{bit}
 use Rattle.sets.specs.Bools.{and-left, and-right, and-both, so-unless, clash, not-so, not-of, of-not, same-bool}
 use Rattle.plan.specs.Plan.{Link, Event}
-use Rattle.topology.specs.Outage.{Outage, unionOf, outageOf}
-use Rattle.topology.specs.Topology.{Network, networkOf, nodeWorks, linkWorks, ends, joins}
+use Rattle.network.specs.Outage.{Outage, unionOf, outageOf}
+use Rattle.network.specs.Topology.{Network, networkOf, nodeWorks, linkWorks, ends, joins, WorkingLink}
 use Rattle.plan.specs.Held.{linkAt}
-use Rattle.topology.specs.Paths.{here, WorkingLink, WorkingPath, Reaches, disconnected}
+use Rattle.topology.specs.Paths.{here, WorkingPath, Reaches, disconnected}
 use Rattle.topology.specs.Chains.{chain-back, chain-keeps, chain-map}
-use Rattle.topology.specs.Works.{link-nodes, link-back}
+use Rattle.network.specs.Works.{link-nodes, link-back}
 use Rattle.topology.specs.Connection.{connected-is}
-use Rattle.topology.specs.Failing.{union-from, union-start, union-event}
+use Rattle.network.specs.Failing.{union-from, union-start, union-event}
 
 module _ (net : Network) where
   -- a path of working links can be taken back

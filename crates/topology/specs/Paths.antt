@@ -5,16 +5,12 @@ use mathlib.Core.Bool.{Bool, true, false, not, _&&_, _||_}
 use mathlib.Core.Logic.{_⊎_}
 use Prim.Native.Nat.{ℕ, zero, suc}
 use lib.Dec.{eqb}
-use Rattle.topology.specs.Topology.{Network, nodeWorks, joins, adjacent}
+use Rattle.network.specs.Topology.{Network, nodeWorks, adjacent, WorkingLink}
 
 -- a path by steps of one kind: here, or one step more
 pub data Chain (step : ℕ → ℕ → Type 0) : ℕ → ℕ → Type 0 where
   here : {v : ℕ} → Chain step v v
   more : {v u w : ℕ} → step v u → Chain step u w → Chain step v w
-
--- a step: a working link that joins the two nodes
-abbrev pub WorkingLink : Network → ℕ → ℕ → Type 0
-WorkingLink net v w = (i : ℕ) × (joins net i v w ≡ true)
 
 -- a path of working links
 abbrev pub WorkingPath : Network → ℕ → ℕ → Type 0

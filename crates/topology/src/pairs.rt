@@ -1,18 +1,18 @@
 // Which pairs of nodes the effective topology disconnects.
-use crate::Failed;
 use crate::Reach;
 use crate::rounds::reach;
-use crate::rows::neighbours;
-use crate::working::working_nodes;
+use network::Failed;
+use network::neighbours;
+use network::working_nodes;
 ghost use mathlib.Core.Path.{_≡_};
 ghost use mathlib.Core.Bool.{true};
 ghost use mathlib.Core.Logic.{_↔_};
 ghost use Prim.Native.Nat.{ℕ, _<_};
 ghost use Rattle.sets.specs.Sets.{bit};
 ghost use Rattle.topology.specs.Paths.{Reaches, disconnected};
-ghost use Rattle.topology.specs.Code.{networkIn};
+ghost use Rattle.network.specs.Code.{networkIn};
 ghost use Rattle.plan.specs.Held.{LinksHeld};
-ghost use Rattle.topology.specs.Table.{LinksAt};
+ghost use Rattle.network.specs.Table.{LinksAt};
 
 // What node v reaches: w exactly where v works and a path of working links joins v and w.
 pub fn reach_from(

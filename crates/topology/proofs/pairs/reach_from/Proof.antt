@@ -1,7 +1,7 @@
 -- `topology::pairs::reach_from` meets its contract: the rows show the network. Assumes nothing.
 use borrow.Author.Needs.{needs}
 use Rattle.plan.specs.Lists.{linksOf}
-use Rattle.topology.specs.Code.{outage, networkIn}
+use Rattle.network.specs.Code.{outage, networkIn}
 use Rattle.topology.proofs.Shown.{nodes-shown, reached-is}
 use Rattle.topology.proofs.pairs.reach_from.Statement.{statement}
 use Rattle.topology.proofs.pairs.reach_from.Tie as tie

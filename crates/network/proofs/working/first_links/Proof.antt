@@ -1,0 +1,30 @@
+-- `network::working::first_links` meets its contract, in one word and in two. Assumes nothing.
+use borrow.Author.Needs.{needs}
+use mathlib.Core.Path.{refl}
+use native.Mathlib.Omega.{arith}
+use Rattle.network.proofs.NodeLinks.{first-few, first-many}
+use Rattle.network.proofs.working.first_links.Statement.{statement}
+use Rattle.network.proofs.working.first_links.Tie as tie
+
+first-requires : tie.Need-first-requires
+first-requires c κs = search needs
+
+returns : tie.Need-returns
+returns c = first-few (c .before .before .args .count) (c .first .result) 0 (omega arith) (c .before .if1 .taken) refl (c .first .ensures)
+
+first-requires-2 : tie.Need-first-requires-2
+first-requires-2 c κs = search needs
+
+first-requires-3 : tie.Need-first-requires-3
+first-requires-3 c κs = search needs
+
+returns-2 : tie.Need-returns-2
+returns-2 c =
+    first-many (c .before .before .before .args .count) (c .before .first2 .result) (c .first3 .result) (omega arith)
+    (c .before .before .if1 .left)
+    (c .before .first2 .ensures)
+    (c .first3 .ensures)
+
+pub first-links-spec : {M : Type 1} → statement M
+first-links-spec =
+    tie.close (tie.spec first-requires returns first-requires-2 first-requires-3 returns-2)

@@ -1,0 +1,2 @@
+-- Laws that the proofs of the crate `network_vectors` share.
+pub mod Accepted

@@ -1,0 +1,40 @@
+// What the test programs of networks share: links in an array as in a plan, two bytes each, what has failed, and whether a plan may have such links.
+// Assumes nothing.
+use network::Failed;
+use plan::Header;
+ghost use mathlib.Core.Path.{_≡_};
+ghost use mathlib.Core.Bool.{true};
+ghost use Rattle.plan.specs.Held.{LinksHeld};
+
+// An array that starts with these links.
+pub fn links(bytes: &[u8]) -> [u8; 256] {
+    let mut all = [0u8; 256];
+    if bytes.len() <= 256 {
+        lent::copy_bytes(bytes, &mut all, bytes.len());
+    }
+    all
+}
+
+// What has failed: a set of nodes, and a set of links in two words.
+pub fn failed(nodes: u64, low: u64, high: u64) -> Failed {
+    Failed {
+        nodes: nodes,
+        low: low,
+        high: high,
+    }
+}
+
+// Whether no test of a plan refuses the counts and the links.
+pub fn held(n: usize, links: &[u8; 256], count: usize) -> bool
+    ensures { λ r. ⌜ (r ≡ true → LinksHeld n (now (links .entry)) count) ⌝ }
+{
+    let words = [0u64; 512];
+    let h = Header {
+        nodes: n as u64,
+        links: count as u64,
+        events: 0,
+        threshold: 1,
+        limit: 1,
+    };
+    lent::lists_refusal(h, 256, 128, links, &words) == 0
+}

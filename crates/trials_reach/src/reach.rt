@@ -1,0 +1,93 @@
+// Holding what the nodes of a network reach to what it should be.
+use network::Failed;
+use network_vectors::held;
+use vectors::same_at;
+use vectors::same_part;
+ghost use Prim.Native.Nat.{_<_};
+ghost use Rattle.plan.specs.Held.{LinksHeld};
+
+// What is expected at node v: the list starts at node `first`, and all others have the empty set.
+fn at_node(want: &[u64], first: usize, v: usize) -> u64 {
+    if v < first {
+        return 0;
+    }
+    if v - first < want.len() {
+        return want[v - first];
+    }
+    0
+}
+
+// Holds what each node reaches to a list of sets.
+pub fn parts(
+    label: &[u8],
+    n: usize,
+    links: &[u8; 256],
+    count: usize,
+    failed: Failed,
+    first: usize,
+    want: &[u64],
+) {
+    if held(n, links, count) {
+        compared(label, n, links, count, failed, first, want);
+    } else {
+        same_part(label, b"valid", 0, 1);
+    }
+}
+
+fn compared(
+    label: &[u8],
+    n: usize,
+    links: &[u8; 256],
+    count: usize,
+    failed: Failed,
+    first: usize,
+    want: &[u64],
+)
+    requires { ⌜ LinksHeld n (now links) count ⌝ }
+{
+    let table = network::links_at(n, links, count);
+    let mut v = 0;
+    while v < 64 {
+        let reach = topology::reach_from(n, failed, links, count, &table, v);
+        same_at(label, v, reach.set, at_node(want, first, v));
+        v += 1;
+    }
+}
+
+// Holds the disconnected test of a pair to 1, disconnected, or 0.
+pub fn pair(
+    label: &[u8],
+    n: usize,
+    links: &[u8; 256],
+    count: usize,
+    failed: Failed,
+    v: usize,
+    w: usize,
+    want: u64,
+)
+    requires { ⌜ (v < 64) × (w < 64) ⌝ }
+{
+    if held(n, links, count) {
+        tested(label, n, links, count, failed, v, w, want);
+    } else {
+        same_part(label, b"valid", 0, 1);
+    }
+}
+
+fn tested(
+    label: &[u8],
+    n: usize,
+    links: &[u8; 256],
+    count: usize,
+    failed: Failed,
+    v: usize,
+    w: usize,
+    want: u64,
+)
+    requires { ⌜ LinksHeld n (now links) count ⌝ }
+    requires { ⌜ (v < 64) × (w < 64) ⌝ }
+{
+    let table = network::links_at(n, links, count);
+    let cut = topology::is_disconnected(n, failed, links, count, &table, v, w);
+    same_part(label, b"disconnected", cut as u64, want);
+}
