@@ -1,7 +1,7 @@
 -- The rows of neighbours from the working links.
 -- Assumes nothing.
 use mathlib.Core.Path.{_≡_, sym, ap, _∙_, subst}
-use mathlib.Core.Bool.{Bool, true, _&&_, _||_}
+use mathlib.Core.Bool.{Bool, true, _||_}
 use mathlib.Core.List.{List}
 use Prim.Native.Nat.{ℕ, _+_, _^_, _<_}
 use lib.ListN.{getD, replicate}
@@ -14,7 +14,7 @@ use Rattle.layout.proofs.ListTheorems.{length-links-of}
 use Rattle.network.specs.Outage.{Outage}
 use Rattle.network.specs.Topology.{networkOf, linkWorks, ends, joins, adjacent}
 use Rattle.network.specs.Works.{adjacent-link, link-adjacent, link-below}
-use Rattle.network.specs.Table.{linkIn, joinedBy}
+use Rattle.network.specs.Table.{joinedBy}
 use Rattle.network.proofs.LinkBytes.{link-at}
 use Rattle.network.proofs.RowSets.{empty-row}
 use Rattle.network.proofs.Words.{in-low-word, in-high-word, two-found, two-here}

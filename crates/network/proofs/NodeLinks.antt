@@ -98,10 +98,10 @@ module _ (bytes : List ℕ) where
 -- ---- the first links in two words
 
 module _ (count low high : ℕ) (fits : low < 2 ^ 64) where
-  abbrev Firsts : Type 0
-  Firsts = (i : ℕ) → bit (joined low high) i ≡ ltb i count
+  abbrev FirstLinks : Type 0
+  FirstLinks = (i : ℕ) → bit (joined low high) i ≡ ltb i count
 
-  by-words : ((i : ℕ) → i < 64 → bit low i ≡ ltb i count) → ((m : ℕ) → bit high m ≡ ltb (64 + m) count) → Firsts
+  by-words : ((i : ℕ) → i < 64 → bit low i ≡ ltb i count) → ((m : ℕ) → bit high m ≡ ltb (64 + m) count) → FirstLinks
   by-words one other i = at (decLt i 64)
     where
       later : (m : ℕ) → bit (joined low high) (64 + m) ≡ ltb (64 + m) count
@@ -113,10 +113,10 @@ module _ (count low high : ℕ) (fits : low < 2 ^ 64) where
           let e : 64 + (i - 64) ≡ i = omega arith in
           subst (λ (x : ℕ). bit (joined low high) x ≡ ltb x count) e (later (i - 64))
 
-  pub first-few : count < 64 → high ≡ 0 → ((i : ℕ) → bit low i ≡ ltb i count) → Firsts
+  pub first-few : count < 64 → high ≡ 0 → ((i : ℕ) → bit low i ≡ ltb i count) → FirstLinks
   first-few h e one = by-words (λ i l. one i) (λ m. ap (λ (x : ℕ). bit x m) e ∙ bit-none m ∙ sym (le-ltb (64 + m) count (omega arith)))
 
-  pub first-many : 64 ≤ count → ((i : ℕ) → bit low i ≡ ltb i 64) → ((i : ℕ) → bit high i ≡ ltb i (count - 64)) → Firsts
+  pub first-many : 64 ≤ count → ((i : ℕ) → bit low i ≡ ltb i 64) → ((i : ℕ) → bit high i ≡ ltb i (count - 64)) → FirstLinks
   first-many h one other =
       by-words
       (λ i l. one i ∙ lt-ltb i 64 l ∙ sym (lt-ltb i count (omega arith)))
@@ -170,6 +170,10 @@ module _ (table : List ℕ) where
 
 -- ---- the links that have not failed, and that are at no failed node
 
+neither : (x y : Bool) → not (x || y) ≡ (not x && not y)
+neither true y = refl
+neither false y = refl
+
 module _ (n : ℕ) (bytes : List ℕ) (count : ℕ) (table : List ℕ) (held : LinksHeld n bytes count) (made : LinksAt bytes count table) (out : Outage) where
   at-ends : (i : ℕ) → i < count → atNodes table (out .nodes) i ≡ (bit (out .nodes) (linkIn bytes i .low) || bit (out .nodes) (linkIn bytes i .high))
   at-ends i h = same-bool _ _ there back
@@ -198,10 +202,6 @@ module _ (n : ℕ) (bytes : List ℕ) (count : ℕ) (table : List ℕ) (held : L
           (here (linkIn bytes i .low) (below .0) (or-left _ _ (eq-eqb (linkIn bytes i .low) _ refl)))
           (here (linkIn bytes i .high) (below .1) (or-right (eqb (linkIn bytes i .low) (linkIn bytes i .high)) _ (eq-eqb (linkIn bytes i .high) _ refl)))
           (or-either (bit (out .nodes) (linkIn bytes i .low)) (bit (out .nodes) (linkIn bytes i .high)) e)
-
-  neither : (x y : Bool) → not (x || y) ≡ (not x && not y)
-  neither true y = refl
-  neither false y = refl
 
   module _ (low high : ℕ) (fl : low < 2 ^ 64) (fh : high < 2 ^ 64)
       (law : (i : ℕ) → i < 128 → bit (joined low high) i ≡ ((ltb i count && not (bit (out .links) i)) && not (atNodes table (out .nodes) i)))

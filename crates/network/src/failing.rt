@@ -1,4 +1,5 @@
-// What has failed in a scenario: the union over its failing events. Events are four words each: probability, nodes, links 0 to 63, links 64 to 127.
+// What has failed in a scenario: the union over its failing events. Events are four words each: probability, nodes, links 0 to 63, links 64
+// to 127.
 use crate::Failed;
 ghost use mathlib.Core.Path.{_≡_};
 ghost use Prim.Native.Nat.{_*_, _^_, _≤_, _<_};

@@ -1,4 +1,5 @@
-// What the test programs of networks share: links in an array as in a plan, two bytes each, what has failed, and whether a plan may have such links.
+// What the test programs of networks share: links in an array as in a plan, two bytes each, what has failed, and whether a plan may have
+// such links.
 // Assumes nothing.
 use network::Failed;
 use plan::Header;

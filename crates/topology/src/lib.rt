@@ -6,7 +6,6 @@ mod rounds;
 pub use pairs::is_disconnected;
 pub use pairs::reach_from;
 pub use rounds::reach as reach_by_rows;
-pub use rounds::rows_of;
 
 // What a node reaches.
 pub struct Reach {

@@ -1,5 +1,5 @@
-// Working nodes and links of networks, and what has failed in a scenario: document 01, "Effective topology". A set has node or link i as its
-// bit i, of value 2^i.
+// Working nodes and links of networks, and what has failed in a scenario: document 01, "Effective topology". A set has node or link i as
+// its bit i, of value 2^i.
 use crate::working::works;
 use lent::copy_words;
 use lent::put_bytes;

@@ -6,15 +6,12 @@ mod reach;
 fn main() {
     networks::triangle();
     networks::end_nodes();
-    networks::end_node_pairs();
     networks::parallel();
-    networks::parallel_pairs();
-    networks::parallel_words();
+    networks::parallel_end();
     networks::without_links();
     networks::ring();
     networks::ring_nodes();
     networks::islands();
     networks::top_bits();
-    networks::word_end_pairs();
     io::write_all(1, b"trials ended\n");
 }

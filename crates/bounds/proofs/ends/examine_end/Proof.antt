@@ -1,5 +1,4 @@
 -- `bounds::ends::examine_end` meets its contract. Assumes nothing.
-use borrow.Author.Needs.{needs}
 use Rattle.bounds.proofs.Examine.{passed}
 use Rattle.bounds.proofs.ends.examine_end.Statement.{statement}
 use Rattle.bounds.proofs.ends.examine_end.Tie as tie

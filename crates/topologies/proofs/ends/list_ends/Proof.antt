@@ -1,7 +1,6 @@
 -- `topologies::ends::list_ends` meets its contract: the invariant is `Turn`, the measure the ends left. Assumes nothing.
 use mathlib.Core.Path.{_∙_}
 use native.Mathlib.Omega.{arith}
-use borrow.Author.Needs.{needs}
 use Rattle.walk.specs.Valid.{held-probable}
 use Rattle.topologies.proofs.Turn.{Turn, turn-begun, asked-all, walked-all, may-place, stopped, turned}
 use Rattle.topologies.proofs.ends.list_ends.Statement.{statement}

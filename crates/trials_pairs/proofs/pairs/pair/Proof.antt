@@ -1,7 +1,7 @@
--- `trials_reach::reach::pair` is safe and ends: what `held` promises is what `tested` asks for. Assumes nothing.
+-- `trials_pairs::pairs::pair` is safe and ends: what `held` promises is what `tested` asks for. Assumes nothing.
 use borrow.Author.Needs.{needs}
-use Rattle.trials_reach.proofs.reach.pair.Statement.{statement}
-use Rattle.trials_reach.proofs.reach.pair.Tie as tie
+use Rattle.trials_pairs.proofs.pairs.pair.Statement.{statement}
+use Rattle.trials_pairs.proofs.pairs.pair.Tie as tie
 
 held-requires : tie.Need-held-requires
 held-requires c κs = search needs
