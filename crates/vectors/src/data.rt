@@ -4,6 +4,7 @@ use crate::compare::same_part;
 use lent::put_bytes;
 use plan::Header;
 use plan::Reading;
+use plan::Writing;
 
 // What a lent list holds before a call.
 pub const BYTE: u8 = 170;
@@ -86,6 +87,18 @@ pub fn accepted(label: &[u8], answer: Reading, want: Header) {
             same_part(label, b"events", h.events, want.events);
             same_part(label, b"threshold", h.threshold, want.threshold);
             same_part(label, b"cap", h.limit, want.limit);
+        }
+    }
+}
+
+// Holds the answer of a writing to how many bytes it should lay down.
+pub fn written(label: &[u8], answer: Writing, want: u64) {
+    match answer {
+        Writing::Refused(number) => {
+            same(label, number as u64, 0);
+        }
+        Writing::Written(count) => {
+            same(label, count as u64, want);
         }
     }
 }
