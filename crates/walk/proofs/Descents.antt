@@ -2,8 +2,8 @@
 -- Assumes nothing.
 use mathlib.Core.Path.{_≡_, refl, ap, ap₂, sym, _∙_}
 use mathlib.Core.Bool.{true, false}
-use mathlib.Core.List.{List, [], _∷_, _++_, map, append-assoc}
-use Prim.Native.Nat.{ℕ, zero, suc, _+_, _-_, _*_, _%_, _^_, _≤_, _<_}
+use mathlib.Core.List.{List, [], _∷_, _++_, append-assoc}
+use Prim.Native.Nat.{ℕ, suc, _+_, _-_, _*_, _^_, _≤_, _<_}
 use native.Mathlib.Decide.{decLt}
 use native.Mathlib.Nat.{pow-succ'}
 use native.Mathlib.Numerals.{add-one}
@@ -21,8 +21,7 @@ use Rattle.plan.specs.Held.{Falling}
 use Rattle.walk.specs.Ends.{End, dropped, relevant, after, ends, ends-cut, ends-leaf}
 use Rattle.walk.specs.Pending.{Branch, branch, branchEnds, branch-node}
 use Rattle.walk.specs.WorksPath.{pathSteps, pathMass, pathEnd, pathEnd-cut, pathEnd-enough, path-last, path-cut, path-on}
-use Rattle.walk.specs.Stack.{entry, Entry}
-use Rattle.walk.specs.Runs.{stackEnds, toCome, Laid, Entries, Stack, entry-run, entry-branch}
+use Rattle.walk.specs.Stack.{entry, Entry, toCome, Laid, Entries, Stack, entry-run, entry-branch}
 use Rattle.walk.specs.Steps.{Stopped, Pushed, Delayed, Descended, descentOf, descent-cut, descent-enough}
 use Rattle.walk.specs.declared.Stop.{Stop}
 use Rattle.walk.proofs.Branches.{events-length, events-probability, probability-le, next-works, next-fails}
@@ -42,6 +41,10 @@ pub record OnPath (count threshold : ℕ) (words : List ℕ) (depth₀ mass₀ d
   pub stops : pathMass threshold mass₀ (drop depth₀ (eventsOf count words)) ≡ pathMass threshold mass (drop depth (eventsOf count words))
   pub within : depth ≤ count
   pub light : mass ≤ whole
+
+pub path-begun : (count threshold : ℕ) (words : List ℕ) (depth mass mass′ : ℕ) → mass′ ≡ mass → depth ≤ count → mass ≤ whole
+    → OnPath count threshold words depth mass depth mass′
+path-begun count threshold words depth mass mass′ e h l = rw e (record { steps = refl; stops = refl; within = h; light = l })
 
 module _ (count : ℕ) (words : List ℕ) (falls : Falling certain (eventsOf count words)) where
   -- the event at a depth: its probability, and that later ones fall from it
@@ -156,16 +159,30 @@ module _ (count threshold : ℕ) (words : List ℕ) where
       pub room : 4 ≤ top
       room = omega (arith, g .hand .room, length-drop top stack, g .held .sized)
 
+      pub worked-le : (works : ℕ) → works ≡ working mass (getD words (depth * 4) 0) → works ≤ whole
+      worked-le works e = omega (arith, e, works-le mass (getD words (depth * 4) 0) (probable count words falls depth l), g .hand .light)
+
       -- the "fails" side falls below the threshold
-      pub come-straight : failing mass (getD words (depth * 4) 0) < threshold → (s : Stop) → Stopped count threshold words depth mass s
+      pub come-straight : failing mass (getD words (depth * 4) 0) < threshold → (works : ℕ) → works ≡ working mass (getD words (depth * 4) 0)
+          → (s : Stop) → Stopped count threshold words (depth + 1) works s
           → Descended count threshold words all stack (descentOf threshold top (s .mass) low high (s .depth - depth))
-      come-straight less s stopped = come (s .mass) (s .depth - depth) (rw (← left-at count words depth, stopped .stops, steps) path) (stopped .light) (λ (z : 0 < s .depth - depth). room)
+      come-straight less works worked s stopped =
+          come (s .mass) (s .depth - depth) (rw (← left-at count words depth, stops, steps) path) (stopped .light) (λ (z : 0 < s .depth - depth). room)
         where
           events : List Event
           events = drop depth (eventsOf count words)
 
+          on : OnPath count threshold words depth mass (depth + 1) works
+          on = path-further count words falls threshold depth mass depth mass here h l works worked
+            where
+              here : OnPath count threshold words depth mass depth mass
+              here = path-begun count threshold words depth mass mass refl (g .hand .deep) (g .hand .light)
+
           steps : s .depth - depth ≡ pathSteps threshold mass events
-          steps = omega (arith, stopped .steps)
+          steps = omega (arith, on .steps, stopped .steps)
+
+          stops : s .mass ≡ pathMass threshold mass events
+          stops = omega (arith, on .stops, stopped .stops)
 
           path : ends threshold mass events ≡ pathEnd threshold (pathMass threshold mass events) (length events) ∷ replicate (pathSteps threshold mass events) dropped
           path = works-path threshold (getD words (depth * 4) 0) mass events (probable count words falls depth l) (falls-on count words falls depth l) less

@@ -1,9 +1,9 @@
 -- Dropped ends in one go: where the "fails" side of an event falls below the threshold, so do those of the events after it.
 -- Assumes nothing.
-use mathlib.Core.Path.{_≡_, refl, ap, sym, _∙_}
+use mathlib.Core.Path.{_≡_, refl, ap}
 use mathlib.Core.Bool.{Bool, true, false}
 use mathlib.Core.List.{List, [], _∷_, _++_, map, append-assoc}
-use Prim.Native.Nat.{ℕ, zero, suc, _+_, _*_, _/_, _≤_, _<_}
+use Prim.Native.Nat.{ℕ, zero, suc, _+_, _≤_, _<_}
 use native.Mathlib.Nat.{mul-le-mul}
 use native.Mathlib.Numerals.{add-one}
 use native.Mathlib.Omega.{arith}
@@ -15,7 +15,7 @@ use Rattle.mass.specs.Laws.{works-le}
 use Rattle.plan.specs.Plan.{Event}
 use Rattle.walk.specs.Scenario.{Scenario}
 use Rattle.plan.specs.Held.{Falling}
-use Rattle.walk.specs.Ends.{End, dropped, relevant, after, ends, ends-cut, ends-leaf, ends-node}
+use Rattle.walk.specs.Ends.{End, dropped, after, ends, ends-cut, ends-leaf, ends-node}
 use Rattle.walk.specs.WorksPath.{pathSteps, pathMass, pathEnd, pathEnd-cut, pathEnd-enough, path-last, path-cut, path-on}
 
 -- two runs of dropped ends are one

@@ -2,18 +2,18 @@
 -- Assumes nothing.
 use mathlib.Core.Path.{_≡_, refl, ap, sym, _∙_}
 use mathlib.Core.Bool.{true, false, true≢false}
-use mathlib.Core.List.{List, [], _∷_, _++_}
-use Prim.Native.Nat.{ℕ, suc, _+_, _-_, _^_, _≤_, _<_}
+use mathlib.Core.List.{List, _++_}
+use Prim.Native.Nat.{ℕ, suc, _+_, _-_, _≤_, _<_}
 use native.Mathlib.Nat.{zero-add}
 use native.Mathlib.Omega.{arith}
 use lib.ListN.{replicate}
 use lib.Pow.{pow-pos}
 use Rattle.walk.specs.Ends.{End, dropped}
-use Rattle.walk.specs.Runs.{toCome, Stack}
+use Rattle.walk.specs.Stack.{toCome, Stack}
 use Rattle.walk.specs.Steps.{Handed, Delayed, Descended}
 use Rattle.walk.specs.declared.Descent.{Descent}
 use Rattle.walk.proofs.Dropped.{runs-add}
-use Rattle.walk.proofs.Loops.{none-to-come}
+use Rattle.walk.proofs.Resume.{none-to-come}
 
 -- on the way: so many dropped ends were passed, and the others are to come
 pub record Passing (count threshold : ℕ) (words : List ℕ) (all : List End) (allowed at left : ℕ) (stack : List ℕ) : Type 0 where

@@ -1,8 +1,8 @@
 -- Laws that the proofs of the crate `walk` share.
 pub mod Words
+pub mod Parts
 pub mod Dropped
 pub mod Branches
 pub mod Descents
-pub mod Loops
-pub mod Handing
 pub mod Resume
+pub mod Handing

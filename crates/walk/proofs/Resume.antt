@@ -1,82 +1,197 @@
--- A walk begun, and gone on with: what a loop over its ends uses.
+-- A walk begun, and gone on with: what a loop over its relevant scenarios uses.
 -- Assumes nothing.
 use mathlib.Core.Path.{_≡_, refl, ap, sym, _∙_}
 use mathlib.Core.Bool.{Bool, true, false}
 use mathlib.Core.List.{List, [], _∷_, _++_, append-nil}
-use Prim.Native.Nat.{ℕ, zero, suc, _+_, _*_, _^_, _≤_, _<_}
+use Prim.Native.Nat.{ℕ, zero, suc, _+_, _≤_, _<_}
+use native.Mathlib.Decide.{decLe, decLt}
+use native.Mathlib.Nat.{zero-add, suc-add}
+use native.Mathlib.Numerals.{one-add}
 use native.Mathlib.Omega.{arith}
-use lib.Dec.{leb}
-use lib.ListN.{length, take, drop, length-drop, drop-of-length-le}
-use borrow.Author.Tests.{le-leb, lt-leb}
-use Rattle.mass.specs.Split.{whole}
+use lib.Dec.{ltb, leb}
+use lib.ListN.{length, take, drop, replicate, length-append, length-map, length-drop, length-replicate, drop-of-length-le}
+use lib.Seq.{take-nil, drop-nil}
+use borrow.Author.Tests.{ltb-true, ltb-false, le-leb, lt-leb}
+use Rattle.mass.specs.Split.{whole, working}
 use Rattle.sets.specs.Sets.{joined, digit}
-use Rattle.plan.specs.Plan.{Plan}
+use Rattle.plan.specs.Plan.{Plan, Event}
 use Rattle.plan.specs.Lists.{eventsOf}
 use Rattle.walk.specs.Scenario.{Scenario, scenarioOf, scenario-length}
-use Rattle.walk.specs.Ends.{End, dropped, relevant, ends, endsAfter, sumEnds, valueOf, sumEnds-first}
-use Rattle.walk.specs.Pending.{root, pending-root}
+use Rattle.walk.specs.Ends.{End, dropped, relevant, after, ends, endsAfter, sumEnds, scenarios, ends-cut, ends-leaf, ends-node}
+use Rattle.walk.specs.Pending.{root-ends}
 use Rattle.walk.specs.Walk.{planEnds, complete}
-use Rattle.walk.specs.Stack.{Begun, Entry, Stack, Stepped, endOf, nextEnd, toCome}
-use Rattle.walk.specs.declared.Next.{Next}
+use Rattle.walk.specs.Stack.{Begun, Entry, entryEnds, stackEnds, toCome, Laid, Entries, Stack, entry-run, entry-branch}
+use Rattle.walk.specs.Steps.{Handed}
+use Rattle.walk.specs.declared.Step.{Step}
 
-module _ (depth mass low high at : ℕ) (stack : List ℕ) (b : Begun depth mass low high at stack) where
+-- ---- the beginning
+
+module _ (depth mass low high at : ℕ) (stack : List ℕ) (b : Begun depth mass low high at stack) (few : depth ≤ 128) where
   -- a walk that begins at a branch may be gone on with
   pub begun-stack : (count : ℕ) → Entry count depth mass low high 0 → Stack count at stack
-  begun-stack count e = record { whole-entries = rw (b .place); within = omega (arith, b .place); sized = b .sized; entries = rw (b .alone) (e, tt) }
+  begun-stack count e =
+      record {
+        whole-entries = rw (b .place);
+        within = omega (arith, b .place);
+        sized = b .sized;
+        entries = rw (b .alone) (record { run = λ (z : 128 < depth). absurd (omega arith); branch = λ (z : depth ≤ 128). e }, tt);
+      }
 
   -- its ends are those that follow the branch's path
   pub begun-ends : (count threshold : ℕ) (words : List ℕ)
       → toCome count threshold words at stack ≡ endsAfter (scenarioOf depth (joined low high)) threshold mass (drop depth (eventsOf count words))
-  begun-ends count threshold words = rw (b .alone, append-nil, scenario-length)
+  begun-ends count threshold words =
+      rw (b .alone, entry-branch threshold (eventsOf count words) depth mass low high few, append-nil, scenario-length)
 
 -- at the root: the whole walk
 pub begun-whole : (at : ℕ) (stack : List ℕ) → Begun 0 whole 0 0 at stack → (count threshold : ℕ) (words : List ℕ)
     → toCome count threshold words at stack ≡ ends threshold whole (eventsOf count words)
-begun-whole at stack b count threshold words = rw (b .alone) (pending-root threshold whole (eventsOf count words))
+begun-whole at stack b count threshold words =
+    rw (b .alone, entry-branch threshold (eventsOf count words) 0 whole 0 0 (omega arith), append-nil) (root-ends threshold whole (eventsOf count words))
 
 pub root-entry : (count : ℕ) → Entry count 0 whole 0 0 0
 root-entry count = record { deep = omega arith; light = omega arith; word = omega arith; decided = omega arith; room = omega arith }
 
+-- ---- nothing is to come exactly where the stack is empty, at 512
+
+ends-some : (t m : ℕ) (events : List Event) → 0 < length (ends t m events)
+ends-some t m [] = step (ltb m t) refl
+  where
+    step : (b : Bool) → ltb m t ≡ b → 0 < length (ends t m [])
+    step true e = rw (ends-cut t m [] (ltb-true m t e)) (omega arith)
+    step false e = rw (ends-leaf t m (ltb-false m t e)) (omega arith)
+ends-some t m (x ∷ events) = step (ends-some t (working m (x .probability)) events) (ltb m t) refl
+  where
+    step : 0 < length (ends t (working m (x .probability)) events) → (b : Bool) → ltb m t ≡ b → 0 < length (ends t m (x ∷ events))
+    step some true e = rw (ends-cut t m (x ∷ events) (ltb-true m t e)) (omega arith)
+    step some false e =
+        rw (ends-node t m x events (ltb-false m t e), length-append, length-map (ends t (working m (x .probability)) events) (after (false ∷ [])))
+        (omega arith)
+
+entry-some : (count t : ℕ) (events : List Event) (depth mass low high below : ℕ) → Laid count depth mass low high below
+    → 0 < length (entryEnds t events depth mass low high)
+entry-some count t events depth mass low high below laid = step (decLt 128 depth)
+  where
+    step : Dec (128 < depth) → 0 < length (entryEnds t events depth mass low high)
+    step (yes h) = rw (entry-run t events depth mass low high h, length-replicate mass dropped) (laid .run h)
+    step (no h) =
+        let left : List Event = drop (length (scenarioOf depth (joined low high))) events in
+        rw (entry-branch t events depth mass low high (omega arith), length-map (ends t mass left) (after (scenarioOf depth (joined low high))))
+        (ends-some t mass left)
+
+stack-some : (count t : ℕ) (events : List Event) (words : List ℕ) → Entries count words → 0 < length words → 0 < length (stackEnds t events words)
+stack-some count t events [] e h = absurd (omega arith)
+stack-some count t events (a ∷ []) e h = absurd e
+stack-some count t events (a ∷ b ∷ []) e h = absurd e
+stack-some count t events (a ∷ b ∷ c ∷ []) e h = absurd e
+stack-some count t events (a ∷ b ∷ c ∷ d ∷ rest) e h =
+    rw (length-append (entryEnds t events a b c d) (stackEnds t events rest)) (omega (arith, entry-some count t events a b c d (length rest) (e .0)))
+
 module _ (count threshold : ℕ) (words : List ℕ) where
-  -- an empty stack: nothing is to come
   pub none-to-come : (stack : List ℕ) → length stack ≡ 512 → toCome count threshold words 512 stack ≡ []
   none-to-come stack h = rw (drop-of-length-le stack {i = 512} (omega arith))
 
-  -- a step: the sum over the first k + 1 ends is the value of the end handed out and the sum over the first k of the others
-  module _ (at : ℕ) (stack stack′ : List ℕ) (r : Next) (s : Stepped count threshold words at stack stack′ r) (k : ℕ) where
-    pub step-take : take (suc k) (toCome count threshold words at stack) ≡ nextEnd count r ∷ take k (toCome count threshold words (r .at) stack′)
-    step-take = rw (s .ends)
+  pub some-to-come : (at : ℕ) (stack : List ℕ) → Stack count at stack → at < 512 → 0 < length (toCome count threshold words at stack)
+  some-to-come at stack s h =
+      stack-some count threshold (eventsOf count words) (drop at stack) (s .entries) (omega (arith, length-drop at stack, s .sized))
 
-    pub step-sum : (f : Scenario → ℕ → ℕ)
-        → sumEnds f (take (suc k) (toCome count threshold words at stack)) ≡ valueOf f (nextEnd count r) + sumEnds f (take k (toCome count threshold words (r .at) stack′))
-    step-sum f = ap (sumEnds f) step-take ∙ sumEnds-first f (nextEnd count r) (take k (toCome count threshold words (r .at) stack′))
+  -- so complete is 1 where the stack is empty after the first cap ends, else 0
+  pub complete-at : (p : Plan) (at : ℕ) (stack : List ℕ) → Stack count at stack → drop (p .limit) (planEnds p) ≡ toCome count threshold words at stack
+      → complete p ≡ digit (leb 512 at)
+  complete-at p at stack s e = step (decLe 512 at)
+    where
+      step : Dec (512 ≤ at) → complete p ≡ digit (leb 512 at)
+      step (yes h) =
+          let last : at ≡ 512 = omega (arith, s .within) in
+          let nothing : drop (p .limit) (planEnds p) ≡ [] = e ∙ ap (λ (i : ℕ). toCome count threshold words i stack) last ∙ none-to-come stack (s .sized) in
+          ap digit (le-leb (length (planEnds p)) (p .limit) (omega (arith, length-drop (p .limit) (planEnds p), ap length nothing)) ∙ sym (le-leb 512 at h))
+      step (no h) =
+          let some : 0 < length (drop (p .limit) (planEnds p)) = rw e (some-to-come at stack s (omega arith)) in
+          ap digit (lt-leb (length (planEnds p)) (p .limit) (omega (arith, length-drop (p .limit) (planEnds p), some)) ∙ sym (lt-leb 512 at (omega arith)))
 
-    pub step-drop : drop (suc k) (toCome count threshold words at stack) ≡ drop k (toCome count threshold words (r .at) stack′)
-    step-drop = rw (s .ends)
+-- ---- a step
 
-    -- so an end is to come where the stack is not empty
-    pub some-to-come : 0 < length (toCome count threshold words at stack)
-    some-to-come = rw (s .ends) (omega arith)
+-- the first ends of a list that begins with dropped ones, and the ends after those
+take-run : (n k : ℕ) (list : List End) → take (n + k) (replicate n dropped ++ list) ≡ replicate n dropped ++ take k list
+take-run zero k list = rw (zero-add k)
+take-run (suc n) k list = rw (suc-add n k) (ap {B = List End} (λ l. dropped ∷ l) (take-run n k list))
 
--- what a step's answer adds to a sum of masses, and to a count
-pub value-mass : (count : ℕ) (r : Next) → (r .relevant ≡ false → (r .mass ≡ 0) × (r .low ≡ 0) × (r .high ≡ 0)) → valueOf (λ s x. x) (nextEnd count r) ≡ r .mass
-value-mass count r nothing = go (r .relevant) refl
-  where
-    go : (b : Bool) → r .relevant ≡ b → valueOf (λ s x. x) (endOf count b (r .mass) (r .low) (r .high)) ≡ r .mass
-    go true e = refl
-    go false e = sym (nothing e .0)
+drop-run : (n k : ℕ) (list : List End) → drop (n + k) (replicate n dropped ++ list) ≡ drop k list
+drop-run zero k list = rw (zero-add k)
+drop-run (suc n) k list = rw (suc-add n k) (drop-run n k list)
 
-pub value-one : (count : ℕ) (r : Next) → valueOf (λ s x. 1) (nextEnd count r) ≡ digit (r .relevant)
-value-one count r = go (r .relevant)
-  where
-    go : (b : Bool) → valueOf (λ s x. 1) (endOf count b (r .mass) (r .low) (r .high)) ≡ digit b
-    go true = refl
-    go false = refl
+module _ (count threshold : ℕ) (words : List ℕ) (at : ℕ) (stack : List ℕ) (allowed : ℕ) (stack′ : List ℕ) (r : Step)
+    (s : Handed count threshold words at stack allowed stack′ r) where
+  -- the ends to come before and after the step, and the end handed out
+  abbrev before : List End
+  before = toCome count threshold words at stack
 
--- complete is 1 where nothing is left after the first cap ends, else 0
-pub complete-none : (p : Plan) → drop (p .limit) (planEnds p) ≡ [] → complete p ≡ 1
-complete-none p h =
-    ap digit (le-leb (length (planEnds p)) (p .limit) (omega (arith, length-drop (p .limit) (planEnds p), ap length h)))
+  abbrev next : List End
+  next = toCome count threshold words (r .at) stack′
 
-pub complete-some : (p : Plan) → 0 < length (drop (p .limit) (planEnds p)) → complete p ≡ 0
-complete-some p h = ap digit (lt-leb (length (planEnds p)) (p .limit) (omega (arith, length-drop (p .limit) (planEnds p))))
+  abbrev scenario : Scenario
+  scenario = scenarioOf count (joined (r .low) (r .high))
+
+  ends-found : r .found ≡ true → before ≡ replicate (s .passed) dropped ++ (relevant scenario (r .mass) ∷ next)
+  ends-found e = rw e at (s .ends)
+
+  ends-none : r .found ≡ false → before ≡ replicate (s .passed) dropped ++ next
+  ends-none e = rw e at (s .ends)
+
+  counted-found : r .found ≡ true → allowed ≡ s .passed + suc (r .left)
+  counted-found e = rw (e, one-add) at (s .counted)
+
+  counted-none : r .found ≡ false → allowed ≡ s .passed + r .left
+  counted-none e = rw (e, zero-add) at (s .counted)
+
+  -- fewer ends may be reached after a scenario was handed out
+  pub left-less : r .found ≡ true → r .left < allowed
+  left-less e = omega (arith, counted-found e)
+
+  -- where none is handed out: no end is left that may be reached, or none at all
+  none-taken : r .found ≡ false → (k : ℕ) → r .left ≡ k → take k next ≡ []
+  none-taken e zero same = refl
+  none-taken e (suc k) same = rw (s .ended e (omega arith), take-nil {A = End} (suc k))
+
+  none-dropped : r .found ≡ false → (k : ℕ) → r .left ≡ k → drop k next ≡ next
+  none-dropped e zero same = refl
+  none-dropped e (suc k) same = rw (s .ended e (omega arith), drop-nil {A = End} (suc k))
+
+  -- law: the ends after those that may be reached
+  pub drop-found : r .found ≡ true → drop allowed before ≡ drop (r .left) next
+  drop-found e = rw (ends-found e, counted-found e) (drop-run (s .passed) (suc (r .left)) (relevant scenario (r .mass) ∷ next))
+
+  pub drop-none : r .found ≡ false → drop allowed before ≡ next
+  drop-none e = rw (ends-none e, counted-none e) (drop-run (s .passed) (r .left) next ∙ none-dropped e (r .left) refl)
+
+  -- law: any value of a list of ends that passes over dropped ones
+  module _ {A : Type 0} (value : List End → A) (passes : (list : List End) → value (dropped ∷ list) ≡ value list) where
+    passes-run : (n : ℕ) (list : List End) → value (replicate n dropped ++ list) ≡ value list
+    passes-run zero list = refl
+    passes-run (suc n) list = passes (replicate n dropped ++ list) ∙ passes-run n list
+
+    pub value-found : r .found ≡ true → value (take allowed before) ≡ value (relevant scenario (r .mass) ∷ take (r .left) next)
+    value-found e =
+        rw (ends-found e, counted-found e)
+        (ap value (take-run (s .passed) (suc (r .left)) (relevant scenario (r .mass) ∷ next))
+        ∙ passes-run (s .passed) (relevant scenario (r .mass) ∷ take (r .left) next))
+
+    pub value-none : r .found ≡ false → value (take allowed before) ≡ value []
+    value-none e =
+        rw (ends-none e, counted-none e)
+        (ap value (take-run (s .passed) (r .left) next) ∙ passes-run (s .passed) (take (r .left) next) ∙ ap value (none-taken e (r .left) refl))
+
+  -- sums
+  pub sum-found : (f : Scenario → ℕ → ℕ) → r .found ≡ true
+      → sumEnds f (take allowed before) ≡ f scenario (r .mass) + sumEnds f (take (r .left) next)
+  sum-found f = value-found (sumEnds f) (λ list. refl)
+
+  pub sum-none : (f : Scenario → ℕ → ℕ) → r .found ≡ false → sumEnds f (take allowed before) ≡ 0
+  sum-none f = value-none (sumEnds f) (λ list. refl)
+
+  -- scenarios
+  pub scenarios-found : r .found ≡ true → scenarios (take allowed before) ≡ scenario ∷ scenarios (take (r .left) next)
+  scenarios-found = value-found scenarios (λ list. refl)
+
+  pub scenarios-none : r .found ≡ false → scenarios (take allowed before) ≡ []
+  scenarios-none = value-none scenarios (λ list. refl)

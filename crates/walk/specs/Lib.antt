@@ -7,6 +7,5 @@ pub mod WorksPath
 pub mod Walk
 pub mod Laws
 pub mod Stack
-pub mod Runs
 pub mod Steps
 pub mod Valid

@@ -1,36 +1,43 @@
--- The stack of the walk in memory: what its words denote, and what a step of the walk promises.
+-- The stack of the walk in memory: what its words denote.
 -- Assumes nothing.
-use mathlib.Core.Path.{_≡_, refl}
-use mathlib.Core.Bool.{Bool, true, false}
-use mathlib.Core.List.{List, [], _∷_}
-use Prim.Native.Nat.{ℕ, _+_, _*_, _%_, _^_, _≤_, _<_}
-use lib.ListN.{length, drop}
-use Rattle.mass.specs.Split.{certain, whole, failing, working}
+use mathlib.Core.Path.{_≡_}
+use mathlib.Core.Bool.{true, false}
+use mathlib.Core.List.{List, [], _∷_, _++_}
+use Prim.Native.Nat.{ℕ, _*_, _%_, _^_, _≤_, _<_}
+use lib.Dec.{ltb}
+use lib.ListN.{length, drop, replicate}
+use borrow.Author.Tests.{lt-ltb, le-ltb}
+use Rattle.mass.specs.Split.{whole}
 use Rattle.sets.specs.Sets.{joined}
 use Rattle.plan.specs.Plan.{Event}
 use Rattle.plan.specs.Lists.{eventsOf}
-use Rattle.walk.specs.Scenario.{Scenario, scenarioOf}
-use Rattle.walk.specs.Ends.{End, dropped, relevant}
-use Rattle.walk.specs.Pending.{Branch, pending}
-use Rattle.walk.specs.declared.Next.{Next}
+use Rattle.walk.specs.Scenario.{scenarioOf}
+use Rattle.walk.specs.Ends.{End, dropped}
+use Rattle.walk.specs.Pending.{Branch, branchEnds}
 
 -- the pending branch that four words hold: its depth (how many events are decided), its mass, and the set of failing events in two words
 abbrev pub entry : ℕ → ℕ → ℕ → ℕ → Branch
 entry depth mass low high = record { path = scenarioOf depth (joined low high); mass = mass }
 
--- the pending branches that a list of words holds, four words to a branch, the next one first
-abbrev pub branches : List ℕ → List Branch
-branches [] = []
-branches (a ∷ []) = []
-branches (a ∷ b ∷ []) = []
-branches (a ∷ b ∷ c ∷ []) = []
-branches (depth ∷ mass ∷ low ∷ high ∷ rest) = entry depth mass low high ∷ branches rest
+-- the ends that four words of the stack stand for: those of a pending branch; or, where the first word is above 128 (no branch has so many
+-- events decided), so many dropped ends as the second word says
+unfoldable pub entryEnds : ℕ → List Event → ℕ → ℕ → ℕ → ℕ → List End
+entryEnds t events depth mass low high =
+    elim (ltb 128 depth) [ true ↦ replicate mass dropped | false ↦ branchEnds t events (entry depth mass low high) ]
+
+-- the ends that a list of words stands for, four words to an entry, the next one first
+abbrev pub stackEnds : ℕ → List Event → List ℕ → List End
+stackEnds t events [] = []
+stackEnds t events (a ∷ []) = []
+stackEnds t events (a ∷ b ∷ []) = []
+stackEnds t events (a ∷ b ∷ c ∷ []) = []
+stackEnds t events (depth ∷ mass ∷ low ∷ high ∷ rest) = entryEnds t events depth mass low high ++ stackEnds t events rest
 
 -- the ends still to come: the stack is the words from `at` on; `count` events in `words`, four words to an event
 abbrev pub toCome : ℕ → ℕ → List ℕ → ℕ → List ℕ → List End
-toCome count threshold words at stack = pending threshold (eventsOf count words) (branches (drop at stack))
+toCome count threshold words at stack = stackEnds threshold (eventsOf count words) (drop at stack)
 
--- what holds of four words of the stack and the words under them: no more branches lie under a branch than its depth says
+-- what holds of a branch in four words, and of the words under them: no more entries lie under a branch than its depth says
 pub record Entry (count depth mass low high below : ℕ) : Type 0 where
   pub deep : depth ≤ count
   pub light : mass ≤ whole
@@ -38,13 +45,18 @@ pub record Entry (count depth mass low high below : ℕ) : Type 0 where
   pub decided : joined low high < 2 ^ depth
   pub room : below ≤ 4 * depth
 
--- what holds of each branch on the stack
+-- what holds of four words of the stack and the words under them, whichever of the two they are
+pub record Laid (count depth mass low high below : ℕ) : Type 0 where
+  pub run : 128 < depth → 0 < mass
+  pub branch : depth ≤ 128 → Entry count depth mass low high below
+
+-- what holds of each entry of the stack
 abbrev pub Entries : ℕ → List ℕ → Type 0
 Entries count [] = Unit {0}
 Entries count (a ∷ []) = ⊥
 Entries count (a ∷ b ∷ []) = ⊥
 Entries count (a ∷ b ∷ c ∷ []) = ⊥
-Entries count (depth ∷ mass ∷ low ∷ high ∷ rest) = Entry count depth mass low high (length rest) × Entries count rest
+Entries count (depth ∷ mass ∷ low ∷ high ∷ rest) = Laid count depth mass low high (length rest) × Entries count rest
 
 -- a stack that the walk may go on with
 pub record Stack (count at : ℕ) (stack : List ℕ) : Type 0 where
@@ -53,45 +65,18 @@ pub record Stack (count at : ℕ) (stack : List ℕ) : Type 0 where
   pub sized : length stack ≡ 512
   pub entries : Entries count (drop at stack)
 
--- the end that a step's answer stands for
-abbrev pub endOf : ℕ → Bool → ℕ → ℕ → ℕ → End
-endOf count true mass low high = relevant (scenarioOf count (joined low high)) mass
-endOf count false mass low high = dropped
-
-abbrev pub nextEnd : ℕ → Next → End
-nextEnd count r = endOf count (r .relevant) (r .mass) (r .low) (r .high)
-
--- a step hands out the first of the ends to come, and leaves the others to come
-pub record Stepped (count threshold : ℕ) (words : List ℕ) (at : ℕ) (stack stack′ : List ℕ) (r : Next) : Type 0 where
-  pub ends : toCome count threshold words at stack ≡ nextEnd count r ∷ toCome count threshold words (r .at) stack′
-  pub held : Stack count (r .at) stack′
-  pub light : r .mass ≤ whole
-  pub decided : joined (r .low) (r .high) < 2 ^ count
-  pub nothing : r .relevant ≡ false → (r .mass ≡ 0) × (r .low ≡ 0) × (r .high ≡ 0)
-
--- what deciding an event of probability q asks
-pub record Deciding (q depth mass low high at : ℕ) (stack : List ℕ) : Type 0 where
-  pub probable : q ≤ certain
-  pub shallow : depth < 128
-  pub light : mass ≤ whole
-  pub word : low < 2 ^ 64
-  pub decided : joined low high < 2 ^ depth
-  pub room : at + 4 ≤ 512
-  pub sized : length stack ≡ 512
-
--- deciding one event: the branch where it fails lies on the stack at `at`, with its set of failing events in two words; r is the mass
--- where it works
-pub record Decided (q depth mass low high at : ℕ) (stack stack′ : List ℕ) (r : ℕ) : Type 0 where
-  pub setLow : ℕ
-  pub setHigh : ℕ
-  pub word : setLow < 2 ^ 64
-  pub set : joined setLow setHigh ≡ joined low high + 2 ^ depth
-  pub fails : drop at stack′ ≡ (depth + 1) ∷ failing mass q ∷ setLow ∷ setHigh ∷ drop (at + 4) stack
-  pub works : r ≡ working mass q
-  pub sized : length stack′ ≡ 512
-
 -- a stack with one branch alone
 pub record Begun (depth mass low high at : ℕ) (stack : List ℕ) : Type 0 where
   pub place : at ≡ 508
   pub alone : drop at stack ≡ depth ∷ mass ∷ low ∷ high ∷ []
   pub sized : length stack ≡ 512
+
+module _ (t : ℕ) (events : List Event) (depth mass low high : ℕ) where
+  -- law: the two kinds of an entry
+  pub entry-run : 128 < depth → entryEnds t events depth mass low high ≡ replicate mass dropped
+  unfolding entryEnds
+  entry-run h = rw (lt-ltb 128 depth h, entryEnds)
+
+  pub entry-branch : depth ≤ 128 → entryEnds t events depth mass low high ≡ branchEnds t events (entry depth mass low high)
+  unfolding entryEnds
+  entry-branch h = rw (le-ltb 128 depth h, entryEnds)

@@ -7,15 +7,15 @@ use Prim.Native.Nat.{ℕ, _+_, _*_, _^_, _≤_, _<_}
 use lib.Dec.{ltb}
 use lib.ListN.{length, drop, replicate}
 use borrow.Author.Tests.{lt-ltb, le-ltb}
-use Rattle.mass.specs.Split.{whole}
+use Rattle.mass.specs.Split.{certain, whole}
 use Rattle.sets.specs.Sets.{joined, digit}
-use Rattle.plan.specs.Plan.{Event}
 use Rattle.plan.specs.Lists.{eventsOf}
 use Rattle.walk.specs.Scenario.{scenarioOf}
 use Rattle.walk.specs.Ends.{End, dropped, relevant}
 use Rattle.walk.specs.WorksPath.{pathSteps, pathMass}
-use Rattle.walk.specs.Runs.{toCome, Stack}
+use Rattle.walk.specs.Stack.{toCome, Stack}
 use Rattle.walk.specs.declared.Descent.{Descent}
+use Rattle.walk.specs.declared.Parted.{Parted}
 use Rattle.walk.specs.declared.Step.{Step}
 use Rattle.walk.specs.declared.Stop.{Stop}
 
@@ -25,7 +25,7 @@ handedOut count true mass low high = relevant (scenarioOf count (joined low high
 handedOut count false mass low high = []
 
 -- A step, from a stack that begins at `at`, where so many ends as `allowed` may still be reached: the ends to come begin with `passed`
--- dropped ones, then the one handed out; the ends that are then still to come, and how many may still be reached, are the rest. Where none is
+-- dropped ones, then the one handed out; the ends then still to come, and how many may still be reached, are the rest. Where none is
 -- handed out, no more may be reached, or none is to come.
 pub record Handed (count threshold : ℕ) (words : List ℕ) (at : ℕ) (stack : List ℕ) (allowed : ℕ) (stack′ : List ℕ) (r : Step) : Type 0 where
   pub passed : ℕ
@@ -37,6 +37,13 @@ pub record Handed (count threshold : ℕ) (words : List ℕ) (at : ℕ) (stack :
   pub light : r .mass ≤ whole
   pub decided : joined (r .low) (r .high) < 2 ^ count
   pub nothing : r .found ≡ false → (r .mass ≡ 0) × (r .low ≡ 0) × (r .high ≡ 0)
+
+-- a mass in two parts
+pub record TwoParts (mass : ℕ) (m : Parted) : Type 0 where
+  pub units : m .units ≡ mass
+  pub parts : m .units ≡ m .high * certain + m .low
+  pub small : m .low < 16 * certain
+  pub light : m .units ≤ whole
 
 -- the "works" path of a branch goes to where it stops
 pub record Stopped (count threshold : ℕ) (words : List ℕ) (depth mass : ℕ) (r : Stop) : Type 0 where
@@ -68,7 +75,8 @@ endOf count false mass low high = dropped
 -- a descent takes an entry off the stack: one end, then so many dropped ones as it says, then what is left on the stack
 pub record Descended (count threshold : ℕ) (words : List ℕ) (all : List End) (stack : List ℕ) (r : Descent) : Type 0 where
   pub ends : all
-      ≡ endOf count (r .relevant) (r .mass) (r .low) (r .high) ∷ (replicate (r .dropped) dropped ++ toCome count threshold words (r .at) stack)
+      ≡ endOf count (r .relevant) (r .mass) (r .low) (r .high)
+      ∷ (replicate (r .dropped) dropped ++ toCome count threshold words (r .at) stack)
   pub held : Stack count (r .at) stack
   pub room : 0 < r .dropped → 4 ≤ r .at
   pub light : r .mass ≤ whole
@@ -89,6 +97,7 @@ module _ (threshold at mass low high number : ℕ) where
   descent-cut h = rw (lt-ltb mass threshold h, descentOf)
 
   pub descent-enough : threshold ≤ mass
-      → descentOf threshold at mass low high number ≡ record { at = at; relevant = true; mass = mass; low = low; high = high; dropped = number }
+      → descentOf threshold at mass low high number
+      ≡ record { at = at; relevant = true; mass = mass; low = low; high = high; dropped = number }
   unfolding descentOf
   descent-enough h = rw (le-ltb mass threshold h, descentOf)

@@ -1,12 +1,12 @@
--- What is not refused has probabilities that fall from at most 1, so the laws of the walk and of the exact sums hold of every accepted plan.
+-- What is not refused has probabilities that fall from at most 1, so the laws of the walk and of the exact sums hold of every valid plan.
 -- Assumes nothing.
 use mathlib.Core.Path.{_≡_}
 use mathlib.Core.List.{List, [], _∷_}
-use Prim.Native.Nat.{ℕ, _≤_}
+use Prim.Native.Nat.{ℕ}
 use native.Mathlib.Omega.{arith}
 use lib.Dec.{ltb}
 use borrow.Author.Tests.{ltb-false}
-use Rattle.mass.specs.Refusal.{first, first-none, refuse-none}
+use Rattle.mass.specs.Refusal.{first-none, refuse-none}
 use Rattle.mass.specs.Split.{certain}
 use Rattle.plan.specs.Plan.{Plan, Event}
 use Rattle.plan.specs.Lists.{eventsOf}

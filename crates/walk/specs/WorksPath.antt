@@ -1,4 +1,4 @@
--- The "works" path of a branch: the events still to be decided work, one after the other, for as long as the mass is at least the threshold.
+-- The "works" path of a branch: the events still to be decided work, one after the other, as long as the mass is at least the threshold.
 -- Assumes nothing.
 use mathlib.Core.Path.{_≡_, refl}
 use mathlib.Core.Bool.{true, false}

@@ -1,6 +1,7 @@
 // One step of the walk: the next relevant scenario.
 use crate::Descent;
 use crate::Failing;
+use crate::Parted;
 use crate::Step;
 use crate::Stop;
 use crate::put;
@@ -15,9 +16,8 @@ ghost use Rattle.plan.specs.Held.{Falling};
 ghost use mathlib.Core.List.{_++_};
 ghost use mathlib.Core.Bool.{false};
 ghost use Rattle.walk.specs.Pending.{branchEnds};
-ghost use Rattle.walk.specs.Stack.{entry, Entry};
-ghost use Rattle.walk.specs.Runs.{toCome, Stack};
-ghost use Rattle.walk.specs.Steps.{Handed, Stopped, Pushed, Delayed, Descended, descentOf};
+ghost use Rattle.walk.specs.Stack.{entry, Entry, toCome, Stack};
+ghost use Rattle.walk.specs.Steps.{Handed, TwoParts, Stopped, Pushed, Delayed, Descended, descentOf};
 
 // The first word of an entry that is a number of dropped ends, and no branch.
 const RUN: u64 = 129;
@@ -44,21 +44,64 @@ fn works(events: &[u64; 512], depth: u64, mass: u64) -> u64
     part.units
 }
 
+// A mass in two parts.
+fn parted(mass: u64) -> Parted
+    requires { ⌜ mass ≤ whole ⌝ }
+    ensures { λ r. ⌜ TwoParts mass r ⌝ }
+{
+    Parted {
+        units: mass,
+        high: mass / mass::CERTAIN,
+        low: mass % mass::CERTAIN,
+    }
+}
+
+// What the event at a depth leaves of a mass where it works. Each part is gone on with by itself, so that no division waits for another;
+// the low part may grow to 16 × 10^9 before it is carried over.
+fn works_on(events: &[u64; 512], depth: u64, m: Parted) -> Parted
+    requires { ⌜ (depth < 128) × TwoParts (m .units) m × (getD (now events) (depth * 4) 0 ≤ certain) ⌝ }
+    ensures { λ r. ⌜ TwoParts (working (m .units) (getD (now (events .entry)) (depth * 4) 0)) r ⌝ }
+{
+    let rest = mass::CERTAIN - events[depth as usize * 4];
+    let first = m.high * rest;
+    let second = m.low * rest / mass::CERTAIN;
+    let high = first / mass::CERTAIN;
+    let low = first % mass::CERTAIN + second;
+    if low < 16_000_000_000 {
+        return Parted {
+            units: first + second,
+            high,
+            low,
+        };
+    }
+    Parted {
+        units: first + second,
+        high: high + low / mass::CERTAIN,
+        low: low % mass::CERTAIN,
+    }
+}
+
 // Goes down the "works" path of a branch, to its end or to where its mass falls below the threshold.
 fn straight(count: u64, threshold: u64, events: &[u64; 512], depth: u64, mass: u64) -> Stop
     requires { ⌜ (count ≤ 128) × (depth ≤ count) × (mass ≤ whole) × Falling certain (eventsOf count (now events)) ⌝ }
     ensures { λ r. ⌜ Stopped count threshold (now (events .entry)) depth mass r ⌝ }
 {
     let mut d = depth;
-    let mut m = mass;
+    let mut m = parted(mass);
     loop {
-        if m < threshold {
-            return Stop { depth: d, mass: m };
+        if m.units < threshold {
+            return Stop {
+                depth: d,
+                mass: m.units,
+            };
         }
         if d >= count {
-            return Stop { depth: d, mass: m };
+            return Stop {
+                depth: d,
+                mass: m.units,
+            };
         }
-        m = works(events, d, m);
+        m = works_on(events, d, m);
         d += 1;
     }
 }
@@ -96,7 +139,7 @@ fn come_to(threshold: u64, at: usize, mass: u64, low: u64, high: u64, number: u6
     }
 }
 
-// Goes down from a branch to its first end, leaving each "fails" side pending; from where a "fails" side falls below the threshold it leaves
+// Goes down from a branch to its first end, leaving each "fails" side pending. From where a "fails" side falls below the threshold it leaves
 // none, since no later one on the "works" path has more mass: each is one dropped end.
 fn go_down(
     count: u64,
@@ -112,7 +155,8 @@ fn go_down(
     requires { ⌜ (count ≤ 128) × Falling certain (eventsOf count (now events)) ⌝ }
     requires { ⌜ Entry count depth mass low high (length (drop at (now stack))) × Stack count at (now stack) ⌝ }
     ensures { λ r. ⌜ Descended count threshold (now (events .entry))
-        (branchEnds threshold (eventsOf count (now (events .entry))) (entry depth mass low high) ++ toCome count threshold (now (events .entry)) at (now (stack .entry)))
+        (branchEnds threshold (eventsOf count (now (events .entry))) (entry depth mass low high)
+        ++ toCome count threshold (now (events .entry)) at (now (stack .entry)))
         (now (stack .exit)) r ⌝ }
 {
     let mut top = at;
@@ -126,13 +170,14 @@ fn go_down(
             return come_to(threshold, top, m, low, high, 0);
         }
         let f = fails(events, d, m);
+        let w = works(events, d, m);
         if f < threshold {
-            let stop = straight(count, threshold, events, d, m);
+            let stop = straight(count, threshold, events, d + 1, w);
             return come_to(threshold, top, stop.mass, low, high, stop.depth - d);
         }
         top -= 4;
         push(&mut *stack, top, d, f, low, high);
-        m = works(events, d, m);
+        m = w;
         d += 1;
     }
 }

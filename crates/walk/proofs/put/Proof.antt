@@ -1,5 +1,4 @@
 -- `walk::put` meets its contract: four stores are four words put over. Assumes nothing.
-use borrow.Author.Needs.{needs}
 use native.Mathlib.Omega.{arith}
 use lib.ListN.{length-set}
 use Rattle.walk.proofs.Words.{words-stored}
@@ -7,37 +6,37 @@ use Rattle.walk.proofs.put.Statement.{statement}
 use Rattle.walk.proofs.put.Tie as tie
 
 mul-stack : tie.Need-mul-stack
-mul-stack c = search needs
+mul-stack c = omega arith
 
 element-write-stack : tie.Need-element-write-stack
-element-write-stack c = search needs
+element-write-stack c = omega arith
 
 add-stack : tie.Need-add-stack
-add-stack c = search needs
+add-stack c = omega arith
 
 mul-stack-2 : tie.Need-mul-stack-2
-mul-stack-2 c = search needs
+mul-stack-2 c = omega arith
 
 element-write-stack-2 : tie.Need-element-write-stack-2
-element-write-stack-2 c = search needs
+element-write-stack-2 c = omega arith
 
 add-stack-2 : tie.Need-add-stack-2
-add-stack-2 c = search needs
+add-stack-2 c = omega arith
 
 mul-stack-3 : tie.Need-mul-stack-3
-mul-stack-3 c = search needs
+mul-stack-3 c = omega arith
 
 element-write-stack-3 : tie.Need-element-write-stack-3
-element-write-stack-3 c = search needs
+element-write-stack-3 c = omega arith
 
 add-stack-3 : tie.Need-add-stack-3
-add-stack-3 c = search needs
+add-stack-3 c = omega arith
 
 mul-stack-4 : tie.Need-mul-stack-4
-mul-stack-4 c = search needs
+mul-stack-4 c = omega arith
 
 element-write-stack-4 : tie.Need-element-write-stack-4
-element-write-stack-4 c = search needs
+element-write-stack-4 c = omega arith
 
 returns : tie.Need-returns
 returns c = (words-stored (c .args .stack .now) (c .args .at) _ _ _ _ (omega arith), simp length-set (c .pre .1))

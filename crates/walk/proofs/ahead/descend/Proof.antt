@@ -1,33 +1,32 @@
 -- `walk::ahead::descend` meets its contract: the entry taken off the stack is a number of dropped ends, or a branch to go down from.
 -- Assumes nothing.
-use borrow.Author.Needs.{needs}
 use native.Mathlib.Omega.{arith}
 use Rattle.walk.proofs.Descents.{under, taken, taken-ends, run-some, taken-run}
 use Rattle.walk.proofs.ahead.descend.Statement.{statement}
 use Rattle.walk.proofs.ahead.descend.Tie as tie
 
 mul-depth : tie.Need-mul-depth
-mul-depth c = search needs
+mul-depth c = omega arith
 
 element-copy-out-depth : tie.Need-element-copy-out-depth
-element-copy-out-depth c = search needs
+element-copy-out-depth c = omega arith
 
 add-mass : tie.Need-add-mass
-add-mass c = search needs
+add-mass c = omega arith
 
 mul-mass : tie.Need-mul-mass
-mul-mass c = search needs
+mul-mass c = omega arith
 
 element-copy-out-mass : tie.Need-element-copy-out-mass
-element-copy-out-mass c = search needs
+element-copy-out-mass c = omega arith
 
 add-t18 : tie.Need-add-t18
-add-t18 c = search needs
+add-t18 c = omega arith
 
 sub-t19 : tie.Need-sub-t19
 sub-t19 c =
     let s = c .before .before .before in
-    run-some (s .args .count) (s .args .threshold) (s .args .events .now) _ _ (s .pre .3) (s .pre .2) (c .if1 .taken)
+    omega (arith, run-some (s .args .count) (s .args .threshold) (s .args .events .now) (s .args .at) (s .args .stack .now) (s .pre .3) (s .pre .2) (c .if1 .taken))
 
 returns : tie.Need-returns
 returns c =
@@ -35,25 +34,25 @@ returns c =
     taken-run _ _ _ _ _ (s .pre .3) (s .pre .2) (c .if1 .taken)
 
 add-low : tie.Need-add-low
-add-low c = search needs
+add-low c = omega arith
 
 mul-low : tie.Need-mul-low
-mul-low c = search needs
+mul-low c = omega arith
 
 element-copy-out-low : tie.Need-element-copy-out-low
-element-copy-out-low c = search needs
+element-copy-out-low c = omega arith
 
 add-high : tie.Need-add-high
-add-high c = search needs
+add-high c = omega arith
 
 mul-high : tie.Need-mul-high
-mul-high c = search needs
+mul-high c = omega arith
 
 element-copy-out-high : tie.Need-element-copy-out-high
-element-copy-out-high c = search needs
+element-copy-out-high c = omega arith
 
 add-go-down : tie.Need-add-go-down
-add-go-down c = search needs
+add-go-down c = omega arith
 
 go-down-requires : tie.Need-go-down-requires
 go-down-requires c κs =

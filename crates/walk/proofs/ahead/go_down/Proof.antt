@@ -7,9 +7,8 @@ use borrow.Author.Needs.{needs}
 use native.Mathlib.Omega.{arith}
 use Rattle.plan.specs.Lists.{eventsOf}
 use Rattle.walk.specs.Pending.{branchEnds}
-use Rattle.walk.specs.Stack.{entry}
-use Rattle.walk.specs.Runs.{toCome}
-use Rattle.walk.proofs.Descents.{probable, Going, come-cut, come-leaf, come-straight, room, room-next, down}
+use Rattle.walk.specs.Stack.{entry, toCome}
+use Rattle.walk.proofs.Descents.{probable, Going, come-cut, come-leaf, come-straight, worked-le, room, room-next, down}
 use Rattle.walk.proofs.ahead.go_down.Statement.{statement}
 use Rattle.walk.proofs.ahead.go_down.Tie as tie
 
@@ -39,10 +38,20 @@ returns-2 c =
 fails-requires : tie.Need-fails-requires Inv-loop μ-loop
 fails-requires c κs = (omega arith, c .before .before .loop .inv .hand .light, probable _ _ (c .before .before .before .pre .0 .1) _ (c .if2 .left))
 
+works-requires : tie.Need-works-requires Inv-loop μ-loop
+works-requires c κs =
+    let two = c .before in
+    (omega arith, two .before .before .loop .inv .hand .light, probable _ _ (two .before .before .before .pre .0 .1) _ (two .if2 .left))
+
+add-straight : tie.Need-add-straight Inv-loop μ-loop
+add-straight c = omega arith
+
 straight-requires : tie.Need-straight-requires Inv-loop μ-loop
 straight-requires c κs =
-    let s = c .before .before .before .before .before in
-    (s .pre .0 .0, omega arith, c .before .before .before .before .loop .inv .hand .light, s .pre .0 .1)
+    let two = c .before .before .before in
+    let s = two .before .before .before in
+    let l = worked-le _ _ _ _ _ _ _ _ _ _ (two .before .before .loop .inv) (s .pre .0 .0) (s .pre .0 .1) (two .before .if1 .left) (two .if2 .left) _ (c .before .works .ensures) in
+    (s .pre .0 .0, omega arith, l, s .pre .0 .1)
 
 sub-come-to : tie.Need-sub-come-to Inv-loop μ-loop
 sub-come-to c = omega (arith, c .before .straight .ensures .steps)
@@ -53,29 +62,25 @@ come-to-requires-3 c κs = search needs
 returns-3 : tie.Need-returns-3 Inv-loop μ-loop
 returns-3 c =
     let three = c .before .before .before in
-    let two = three .before .before in
+    let fell = three .before .before in
+    let two = fell .before in
     let s = two .before .before .before in
     rw (c .come-to3 .ensures)
     (come-straight _ _ _ _ _ _ _ _ _ _ (two .before .before .loop .inv) (s .pre .0 .0) (s .pre .0 .1) (two .before .if1 .left) (two .if2 .left)
-    (rw (three .before .fails .ensures) at (three .if3 .taken)) _ (c .before .before .straight .ensures))
+    (rw (fell .fails .ensures) at (three .if3 .taken)) _ (three .before .works .ensures) _ (c .before .before .straight .ensures))
 
 sub-top : tie.Need-sub-top Inv-loop μ-loop
 sub-top c =
-    let two = c .before .before in
+    let two = c .before .before .before in
     let s = two .before .before .before in
     room _ _ _ _ _ _ _ _ _ _ (two .before .before .loop .inv) (s .pre .0 .0) (s .pre .0 .1) (two .before .if1 .left) (two .if2 .left)
 
 push-requires : tie.Need-push-requires Inv-loop μ-loop
 push-requires c κs =
-    let two = c .before .before .before in
+    let two = c .before .before .before .before in
     let s = two .before .before .before in
     let g = two .before .before .loop .inv in
     (omega arith, g .hand .word, g .hand .decided, room-next _ _ _ _ _ _ _ _ _ _ g (s .pre .0 .0) (s .pre .0 .1) (two .before .if1 .left) (two .if2 .left), g .held .sized)
-
-works-requires : tie.Need-works-requires Inv-loop μ-loop
-works-requires c κs =
-    let two = c .before .before .before .before in
-    (omega arith, two .before .before .loop .inv .hand .light, probable _ _ (two .before .before .before .pre .0 .1) _ (two .if2 .left))
 
 add-d : tie.Need-add-d Inv-loop μ-loop
 add-d c = omega arith
@@ -85,11 +90,12 @@ loop-less c = omega arith
 
 loop-again : tie.Need-loop-again Inv-loop μ-loop
 loop-again c =
-    let fell = c .before .before .before .before in
+    let worked = c .before .before .before in
+    let fell = worked .before in
     let two = fell .before in
     let s = two .before .before .before in
     down _ _ _ _ _ _ _ _ _ _ (two .before .before .loop .inv) (s .pre .0 .0) (s .pre .0 .1) (two .before .if1 .left) (two .if2 .left) _ _ _
-    (fell .fails .ensures) (c .works .ensures) (c .before .push .ensures)
+    (fell .fails .ensures) (worked .works .ensures) (c .push .ensures)
 
 pub go-down-spec : {M : Type 1} → statement M
 go-down-spec =
@@ -103,13 +109,14 @@ go-down-spec =
     come-to-requires-2
     returns-2
     fails-requires
+    works-requires
+    add-straight
     straight-requires
     sub-come-to
     come-to-requires-3
     returns-3
     sub-top
     push-requires
-    works-requires
     add-d
     loop-less
     loop-again)

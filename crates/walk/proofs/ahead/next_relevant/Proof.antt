@@ -2,7 +2,7 @@
 -- come. The measure is how many ends may still be reached. Assumes nothing.
 use borrow.Author.Needs.{needs}
 use native.Mathlib.Omega.{arith}
-use Rattle.walk.specs.Runs.{toCome}
+use Rattle.walk.specs.Stack.{toCome}
 use Rattle.walk.proofs.Handing.{Passing, starts, used-up, all-reached, further, short, hands}
 use Rattle.walk.proofs.ahead.next_relevant.Statement.{statement}
 use Rattle.walk.proofs.ahead.next_relevant.Tie as tie
