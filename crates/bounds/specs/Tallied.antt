@@ -1,20 +1,18 @@
--- The loop of the run over the ends of the walk: what it asks and promises, from any state.
+-- The loop of the run over the relevant scenarios of the walk: what it asks and promises, from any state.
 -- Assumes nothing.
 use mathlib.Core.Path.{_≡_}
 use mathlib.Core.List.{List}
-use Prim.Native.Nat.{ℕ, _+_, _*_, _^_, _<_, _≤_}
+use Prim.Native.Nat.{ℕ, _+_, _*_, _<_, _≤_}
 use lib.ListN.{length, getD, take, drop}
 use Rattle.mass.specs.Split.{whole}
 use Rattle.sets.specs.Sets.{joined, digit}
-use Rattle.plan.specs.Plan.{Plan}
-use Rattle.plan.specs.Lists.{linksOf, eventsOf}
 use Rattle.plan.specs.declared.Header.{Header}
 use Rattle.plan.specs.Records.{planOfLists}
 use Rattle.plan.specs.Held.{Held}
-use Rattle.walk.specs.Scenario.{Scenario, scenarioOf}
-use Rattle.walk.specs.Ends.{End, sumEnds, valueOf, weighed}
-use Rattle.walk.specs.Stack.{Stack, toCome, nextEnd}
-use Rattle.walk.specs.declared.Next.{Next}
+use Rattle.walk.specs.Scenario.{scenarioOf}
+use Rattle.walk.specs.Ends.{End, sumEnds, weighed}
+use Rattle.walk.specs.Runs.{Stack, toCome}
+use Rattle.walk.specs.declared.Step.{Step}
 use Rattle.pairs.specs.Pairs.{place}
 use Rattle.bounds.specs.Bounds.{cuts}
 use Rattle.bounds.specs.declared.Tally.{Tally}
@@ -23,37 +21,38 @@ use Rattle.bounds.specs.declared.Tally.{Tally}
 abbrev pub coming : Header → List ℕ → ℕ → List ℕ → List End
 coming h words at stack = toCome (h .events) (h .threshold) words at stack
 
--- the entries of the pairs: each entry is at most the mass examined so far, which leaves room for what is to come
-pub record Sums (mass more : ℕ) (lower : List ℕ) : Type 0 where
+-- the entries of the pairs, each with room for a mass
+pub record Room (mass : ℕ) (lower : List ℕ) : Type 0 where
   pub sized : length lower ≡ 2016
-  pub below : (i : ℕ) → getD lower i 0 ≤ mass
-  pub fits : mass + more ≤ whole
+  pub fits : (i : ℕ) → getD lower i 0 + mass ≤ whole
 
--- one end's mass is added to the entries of the pairs that its topology disconnects
-pub record Examined (h : Header) (links words : List ℕ) (end : End) (mass : ℕ) (lower lower′ : List ℕ) : Type 0 where
+-- the mass of the scenario that a step of the walk handed out is added to the entries of the pairs that its topology disconnects
+pub record Examined (h : Header) (links words : List ℕ) (step : Step) (lower lower′ : List ℕ) : Type 0 where
   pub sized : length lower′ ≡ 2016
-  pub most : (i : ℕ) → getD lower′ i 0 ≤ getD lower i 0 + mass
+  pub most : (i : ℕ) → getD lower′ i 0 ≤ getD lower i 0 + step .mass
   pub each : (v w : ℕ) → v < w → w < h .nodes
       → getD lower′ (place (h .nodes) v w) 0
       ≡ getD lower (place (h .nodes) v w) 0
-      + valueOf (λ s m. m * digit (cuts (planOfLists h links words) v w s)) end
+      + step .mass * digit (cuts (planOfLists h links words) v w (scenarioOf (h .events) (joined (step .low) (step .high))))
 
--- what the loop asks: a stack that denotes the ends to come, sums so far, and at most k ends more
-pub record Ready (h : Header) (links words : List ℕ) (at : ℕ) (stack lower : List ℕ) (number mass k : ℕ) : Type 0 where
+-- what the loop asks: a stack that denotes the ends to come, no entry above the mass so far, and room for the first k ends to come
+pub record Ready (h : Header) (links words stack lower : List ℕ) (start : Tally) (k : ℕ) : Type 0 where
   pub held : Held h links words
-  pub stacked : Stack (h .events) at stack
-  pub sums : Sums mass (sumEnds (λ s m. m) (coming h words at stack)) lower
-  pub counted : number + k < 4294967296
+  pub stacked : Stack (h .events) (start .at) stack
+  pub sized : length lower ≡ 2016
+  pub below : (i : ℕ) → getD lower i 0 ≤ start .mass
+  pub fits : start .mass + sumEnds (λ s m. m) (take k (coming h words (start .at) stack)) ≤ whole
+  pub counted : start .number + k < 4294967296
 
 -- what it promises: the sums so far plus those over the first k ends to come, and the others still to come
-pub record Tallied (h : Header) (links words : List ℕ) (at : ℕ) (stack lower : List ℕ) (number mass k : ℕ) (stack′ lower′ : List ℕ) (r : Tally) : Type 0 where
-  pub numbers : r .number ≡ number + sumEnds (λ s m. 1) (take k (coming h words at stack))
-  pub masses : r .mass ≡ mass + sumEnds (λ s m. m) (take k (coming h words at stack))
+pub record Tallied (h : Header) (links words stack lower : List ℕ) (start : Tally) (k : ℕ) (stack′ lower′ : List ℕ) (r : Tally) : Type 0 where
+  pub numbers : r .number ≡ start .number + sumEnds (λ s m. 1) (take k (coming h words (start .at) stack))
+  pub masses : r .mass ≡ start .mass + sumEnds (λ s m. m) (take k (coming h words (start .at) stack))
   pub entries : (v w : ℕ) → v < w → w < h .nodes
       → getD lower′ (place (h .nodes) v w) 0
       ≡ getD lower (place (h .nodes) v w) 0
-      + weighed (λ s. digit (cuts (planOfLists h links words) v w s)) (take k (coming h words at stack))
+      + weighed (λ s. digit (cuts (planOfLists h links words) v w s)) (take k (coming h words (start .at) stack))
   pub below : (i : ℕ) → getD lower′ i 0 ≤ r .mass
-  pub rest : coming h words (r .at) stack′ ≡ drop k (coming h words at stack)
+  pub rest : coming h words (r .at) stack′ ≡ drop k (coming h words (start .at) stack)
   pub stacked : Stack (h .events) (r .at) stack′
   pub sized : length lower′ ≡ 2016

@@ -18,12 +18,12 @@ neighbours-requires c κs =
 add-cut-requires : tie.Need-add-cut-requires
 add-cut-requires c κs =
     let e = c .before .before .before .before in
-    adding _ _ _ _ _ _ _ _ (c .before .before .working-nodes .ensures) (c .before .neighbours .ensures) _ (e .pre .0) (e .pre .1 .1 .1)
+    adding _ _ _ _ _ _ _ (c .before .before .working-nodes .ensures) (c .before .neighbours .ensures) _ (e .pre .0) (e .pre .1 .1 .1)
 
 returns : tie.Need-returns
 returns c =
     let e = c .before .before .before .before .before in
-    examined _ _ _ _ _ _ _ _ (c .before .before .before .working-nodes .ensures) (c .before .before .neighbours .ensures) _ (c .add-cut .ensures) _ _ (e .pre .1 .1 .0)
+    examined _ _ _ _ _ _ _ (c .before .before .before .working-nodes .ensures) (c .before .before .neighbours .ensures) _ _ (c .add-cut .ensures) (e .pre .1 .1 .0)
     (c .before .before .before .before .failed-by .ensures)
 
 pub examine-spec : {M : Type 1} → statement M

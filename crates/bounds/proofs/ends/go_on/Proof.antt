@@ -1,60 +1,62 @@
 -- `bounds::ends::go_on` meets its contract: the invariant is `Turn`, the measure the ends left. Assumes nothing.
-use mathlib.Core.Path.{refl}
 use native.Mathlib.Omega.{arith}
-use Rattle.walk.specs.Valid.{held-probable}
-use Rattle.bounds.proofs.Turn.{Turn, asked-all, walked-all, mass-fits, end-sums, turned}
+use borrow.Author.Tests.{not-true, not-false}
+use Rattle.bounds.proofs.Turn.{Turn, stopped, mass-fits, number-fits, room, less, turned}
 use Rattle.bounds.proofs.ends.go_on.Statement.{statement}
 use Rattle.bounds.proofs.ends.go_on.Tie as tie
 
 abbrev Inv-loop : tie.InvT-loop
 Inv-loop h links words table stack₀ lower₀ k at₀ number₀ mass₀ left₀ stack lower at number mass left =
-    Turn h links words at₀ stack₀ lower₀ number₀ mass₀ k stack lower at number mass left
+    Turn
+    h
+    links
+    words
+    stack₀
+    lower₀
+    (record { at = at₀; number = number₀; mass = mass₀ })
+    k
+    stack
+    lower
+    (record { at = at; number = number; mass = mass })
+    left
 
 abbrev μ-loop : tie.MeasureT-loop
 μ-loop h links words table stack₀ lower₀ k at₀ number₀ mass₀ left₀ stack lower at number mass left = left
 
 loop-holds : tie.Need-loop-holds Inv-loop μ-loop
-loop-holds c = record { numbers = refl; masses = refl; entries = λ v w l e. refl; rest = refl; ready = c .pre .1 }
+loop-holds c = record { ready = c .pre .1; goes = λ stack lower r t. t }
+
+next-relevant-requires : tie.Need-next-relevant-requires Inv-loop μ-loop
+next-relevant-requires c κs =
+    let ready = c .before .loop .inv .ready in
+    (ready .held .events-fit, ready .held .falling, ready .stacked)
 
 returns : tie.Need-returns Inv-loop μ-loop
-returns c = asked-all _ _ _ _ _ _ _ _ _ _ _ _ _ _ _ (c .before .before .loop .inv) (c .if1 .taken)
+returns c =
+    let t = c .before .before .before .before .loop .inv in
+    t .goes _ _ _ (stopped _ _ _ _ _ _ _ (t .ready) _ _ (c .before .before .next-relevant .ensures) (not-true _ (c .if1 .taken)))
 
-next-end-requires : tie.Need-next-end-requires Inv-loop μ-loop
-next-end-requires c κs =
-    let g = c .before .before .before .loop .inv .ready in
-    (g .held .events-fit, c .before .before .loop-test .taken, held-probable _ _ _ (g .held), g .stacked)
+examine-requires : tie.Need-examine-requires Inv-loop μ-loop
+examine-requires c κs =
+    let ready = c .before .before .before .before .before .loop .inv .ready in
+    let s = c .before .before .before .next-relevant .ensures in
+    (ready .held, (c .before .before .before .before .before .before .pre .0, (s .decided, room _ _ _ _ _ _ _ ready _ _ s (not-false _ (c .before .if1 .left)))))
 
-examine-end-requires : tie.Need-examine-end-requires Inv-loop μ-loop
-examine-end-requires c κs =
-    let g = c .before .before .before .before .before .loop .inv in (
-      g .ready .held,
-      (
-        c .before .before .before .before .before .before .pre .0,
-        (c .before .next-end .ensures .decided, end-sums _ _ _ _ _ _ _ _ _ _ _ _ _ _ _ g (c .before .before .before .if1 .left) _ _ (c .before .next-end .ensures)),
-      ),
-    )
-
-one-more-requires : tie.Need-one-more-requires Inv-loop μ-loop
-one-more-requires c κs = omega (arith, c .before .before .before .before .before .before .loop .inv .ready .counted)
+add-number : tie.Need-add-number Inv-loop μ-loop
+add-number c =
+    omega (arith, number-fits _ _ _ _ _ _ _ (c .before .before .before .before .before .before .loop .inv .ready) _ _ (c .before .before .before .before .next-relevant .ensures) (not-false _ (c .before .before .if1 .left)))
 
 add-mass : tie.Need-add-mass Inv-loop μ-loop
 add-mass c =
-    omega
-    (arith, mass-fits _ _ _ _ _ _ _ _ _ _ _ _ _ _ _ (c .before .before .before .before .before .before .before .before .loop .inv) (c .before .before .before .before .before .before .if1 .left) _ _ (c .before .before .before .before .next-end .ensures))
-
-sub-left : tie.Need-sub-left Inv-loop μ-loop
-sub-left c = omega (arith, c .before .before .before .before .before .before .if1 .left)
+    omega (arith, mass-fits _ _ _ _ _ _ _ (c .before .before .before .before .before .before .before .loop .inv .ready) _ _ (c .before .before .before .before .before .next-relevant .ensures) (not-false _ (c .before .before .before .if1 .left)))
 
 loop-less : tie.Need-loop-less Inv-loop μ-loop
-loop-less c = omega (arith, c .before .before .before .before .before .before .if1 .left)
+loop-less c = less _ _ _ _ _ _ _ (c .before .before .before .before .before .before .before .loop .inv .ready) _ _ (c .before .before .before .before .before .next-relevant .ensures) (not-false _ (c .before .before .before .if1 .left))
 
 loop-again : tie.Need-loop-again Inv-loop μ-loop
 loop-again c =
-    rw (c .before .one-more .ensures)
-    (turned _ _ _ _ _ _ _ _ _ _ _ _ _ _ _ (c .before .before .before .before .before .before .before .before .loop .inv) (c .before .before .before .before .before .before .if1 .left) _ _ (c .before .before .before .before .next-end .ensures) _ (c .before .before .examine-end .ensures))
-
-returns-2 : tie.Need-returns-2 Inv-loop μ-loop
-returns-2 c = walked-all _ _ _ _ _ _ _ _ _ _ _ _ _ _ _ (c .before .loop .inv) (c .loop-test .left)
+    let t = c .before .before .before .before .before .before .before .loop .inv in
+    turned _ _ _ _ _ _ _ (t .ready) _ _ (c .before .before .before .before .before .next-relevant .ensures) (not-false _ (c .before .before .before .if1 .left)) _ (c .before .examine .ensures) _ _ _ _ (t .goes)
 
 pub go-on-spec : {M : Type 1} → statement M
 go-on-spec =
@@ -63,12 +65,10 @@ go-on-spec =
     Inv-loop
     μ-loop
     loop-holds
+    next-relevant-requires
     returns
-    next-end-requires
-    examine-end-requires
-    one-more-requires
+    examine-requires
+    add-number
     add-mass
-    sub-left
     loop-less
-    loop-again
-    returns-2)
+    loop-again)

@@ -13,7 +13,7 @@ begin-requires c κs = search needs
 go-on-requires : tie.Need-go-on-requires
 go-on-requires c κs =
     let pre = c .before .before .before .before .before .before .pre in
-    (c .before .before .before .before .before .links-at .ensures, ready-whole _ _ _ _ _ _ (pre .0) (pre .1 .0) (c .before .before .before .begin .ensures) (pre .1 .1))
+    (c .before .before .before .before .before .links-at .ensures, ready-whole _ _ _ _ _ _ (c .before .before .before .begin .ensures) (pre .1 .1) (pre .0) (pre .1 .0))
 
 none-left-requires : tie.Need-none-left-requires
 none-left-requires c κs = search needs
@@ -23,8 +23,8 @@ returns c =
     let e = c .before .before .before .before .before .before .before .before in
     let begun = c .before .before .before .before .before .begin .ensures in
     let tallied = c .before .go-on .ensures in (
-      whole-totals _ _ _ _ _ _ _ _ _ begun (e .pre .1 .1) tallied _ (c .none-left .ensures),
-      whole-sums _ _ _ _ _ _ _ _ _ begun (e .pre .1 .1) tallied,
+      whole-totals _ _ _ _ _ _ begun (e .pre .1 .1) _ _ _ tallied _ (c .none-left .ensures),
+      whole-sums _ _ _ _ _ _ begun (e .pre .1 .1) _ _ _ tallied,
     )
 
 pub walk-all-spec : {M : Type 1} → statement M
