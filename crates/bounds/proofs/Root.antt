@@ -18,7 +18,7 @@ use Rattle.walk.specs.Laws.{masses-le}
 use Rattle.walk.specs.Walk.{planEnds, firstEnds, count-sum}
 use Rattle.walk.specs.Stack.{Begun}
 use Rattle.walk.specs.Valid.{held-probable}
-use Rattle.walk.proofs.Loops.{begun-stack, begun-whole, root-entry, complete-at}
+use Rattle.walk.proofs.Resume.{begun-stack, begun-whole, root-entry, complete-at}
 use Rattle.pairs.specs.Pairs.{place}
 use Rattle.bounds.specs.Bounds.{cuts}
 use Rattle.bounds.specs.Tallied.{coming, Ready, Tallied}

@@ -14,7 +14,7 @@ use Rattle.walk.specs.Scenario.{Scenario, scenarioOf}
 use Rattle.walk.specs.Ends.{sumEnds}
 use Rattle.walk.specs.Steps.{Handed}
 use Rattle.walk.specs.declared.Step.{Step}
-use Rattle.walk.proofs.Loops.{left-less, drop-found, drop-none, sum-found, sum-none}
+use Rattle.walk.proofs.Resume.{left-less, drop-found, drop-none, sum-found, sum-none}
 use Rattle.bounds.specs.Bounds.{cuts}
 use Rattle.bounds.specs.Tallied.{Room, Examined, coming, Ready, Tallied}
 use Rattle.bounds.specs.declared.Tally.{Tally}

@@ -11,7 +11,7 @@ use Rattle.plan.specs.Records.{planOfLists}
 use Rattle.plan.specs.Held.{Held}
 use Rattle.walk.specs.Scenario.{scenarioOf}
 use Rattle.walk.specs.Ends.{End, sumEnds, weighed}
-use Rattle.walk.specs.Runs.{Stack, toCome}
+use Rattle.walk.specs.Stack.{Stack, toCome}
 use Rattle.walk.specs.declared.Step.{Step}
 use Rattle.pairs.specs.Pairs.{place}
 use Rattle.bounds.specs.Bounds.{cuts}

@@ -3,6 +3,7 @@
 use mathlib.Core.Path.{_≡_, refl, sym, ap, subst, _∙_}
 use mathlib.Core.List.{List, [], _∷_}
 use Prim.Native.Nat.{ℕ, zero, suc, _/_, _<_}
+use native.Mathlib.Omega.{arith}
 use lib.ListN.{length, take}
 use Rattle.mass.specs.Refusal.{first, first-none, first-skip}
 use Rattle.mass.specs.Split.{whole}
@@ -17,9 +18,8 @@ use Rattle.walk.specs.Walk.{examined}
 use Rattle.walk.specs.Stack.{Begun}
 use Rattle.walk.proofs.Resume.{begun-stack, begun-whole, root-entry}
 use Rattle.pairs.specs.Pairs.{pairTest}
-use Rattle.bounds.specs.Tallied.{coming}
 use Rattle.plan.specs.Held.{Held}
-use Rattle.readings.specs.Witness.{noneTest, witnessRefusal, witnessNumber, witnessAnswer, failingIn, Shows, Answers, Seeking}
+use Rattle.readings.specs.Witness.{noneTest, witnessRefusal, witnessNumber, witnessAnswer, failingIn, reached, Shows, Answers, Searched, Seeking}
 use Rattle.readings.specs.declared.Witnessed.{Witnessed}
 use Rattle.readings.specs.declared.Witnessed.the-variants as witnessed
 use Rattle.readings.proofs.Told.{refuses}
@@ -29,19 +29,15 @@ use Rattle.readings.proofs.Told.{refuses}
 module _ (h : Header) (links words : List ℕ) (at : ℕ) (stack : List ℕ) (v w : ℕ) (b : Begun 0 whole 0 0 at stack) where
   pub seeking-whole : Held h links words → (v < 64) × (w < 64) → Seeking h links words at stack v w
   seeking-whole held inside =
-      record { held = held; stacked = begun-stack 0 whole 0 0 at stack b (h .events) (root-entry (h .events)); inside = inside }
+      record { held = held; stacked = begun-stack 0 whole 0 0 at stack b (omega arith) (h .events) (root-entry (h .events)); inside = inside }
 
-  firsts : scenarios (take (h .limit) (coming h words at stack)) ≡ examined (planOfLists h links words)
+  firsts : reached h words at stack (h .limit) ≡ examined (planOfLists h links words)
   unfolding planOfLists
   firsts = ap (λ (l : List End). scenarios (take (h .limit) l)) (begun-whole at stack b (h .events) (h .threshold) words)
 
-  pub answers-whole : (r : Witnessed)
-      → Answers (planOfLists h links words) v w (scenarios (take (h .limit) (coming h words at stack)))
-      (noneTest (planOfLists h links words) v w (scenarios (take (h .limit) (coming h words at stack)))) r
-      → Answers (planOfLists h links words) v w (examined (planOfLists h links words))
-      (noneTest (planOfLists h links words) v w (examined (planOfLists h links words))) r
-  answers-whole r a =
-      subst (λ (l : List Scenario). Answers (planOfLists h links words) v w l (noneTest (planOfLists h links words) v w l) r) firsts a
+  pub answers-whole : (r : Witnessed) → Searched (planOfLists h links words) v w (reached h words at stack (h .limit)) r
+      → Searched (planOfLists h links words) v w (examined (planOfLists h links words)) r
+  answers-whole r = subst (λ (l : List Scenario). Searched (planOfLists h links words) v w l r) firsts
 
 -- ---- through the tests
 

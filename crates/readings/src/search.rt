@@ -4,27 +4,22 @@ use network::Failed;
 use plan::Header;
 use walk::Failing;
 ghost use mathlib.Core.Path.{_≡_};
-ghost use mathlib.Core.Bool.{_&&_};
 ghost use Prim.Native.Nat.{_/_, _^_, _<_};
-ghost use lib.ListN.{take};
 ghost use Rattle.sets.specs.Sets.{joined};
 ghost use Rattle.plan.specs.Records.{planOfLists};
 ghost use Rattle.walk.specs.Scenario.{scenarioOf};
-ghost use Rattle.walk.specs.Ends.{scenarios};
 ghost use Rattle.walk.specs.Walk.{examined};
 ghost use Rattle.network.specs.Table.{LinksAt};
 ghost use Rattle.bounds.specs.Bounds.{cuts};
-ghost use Rattle.bounds.specs.Tallied.{coming};
 ghost use Rattle.plan.specs.Held.{Held};
-ghost use Rattle.readings.specs.Witness.{noneTest, witnessRefusal, witnessNumber, witnessAnswer, failingIn, Shows, Answers, Seeking};
+ghost use Rattle.readings.specs.Witness.{reached, witnessRefusal, witnessNumber, witnessAnswer, failingIn, Shows, Answers, Searched, Seeking};
 
-// Whether an end is relevant and its topology disconnects the pair.
-fn end_cuts(
+// Whether the topology of a scenario, by its failing events, disconnects the pair.
+fn cut_by(
     h: Header,
     links: &[u8; 256],
     words: &[u64; 512],
     table: &[u64; 128],
-    relevant: bool,
     low: u64,
     high: u64,
     v: usize,
@@ -33,29 +28,26 @@ fn end_cuts(
     requires { ⌜ Held h (now links) (now words) ⌝ }
     requires { ⌜ LinksAt (now links) (h .links) (now table) ⌝ }
     requires { ⌜ (joined low high < 2 ^ (h .events)) × (v < 64) × (w < 64) ⌝ }
-    ensures { λ r. ⌜ r ≡ (relevant && cuts (planOfLists h (now (links .entry)) (now (words .entry))) v w (scenarioOf (h .events) (joined low high))) ⌝ }
+    ensures { λ r. ⌜ r ≡ cuts (planOfLists h (now (links .entry)) (now (words .entry))) v w (scenarioOf (h .events) (joined low high)) ⌝ }
 {
-    if relevant {
-        let intact = Failed {
-            nodes: 0,
-            low: 0,
-            high: 0,
-        };
-        let failed = network::failed_by(words, h.events as usize, low, high, intact);
-        return topology::is_disconnected(
-            h.nodes as usize,
-            failed,
-            links,
-            h.links as usize,
-            table,
-            v,
-            w,
-        );
-    }
-    false
+    let intact = Failed {
+        nodes: 0,
+        low: 0,
+        high: 0,
+    };
+    let failed = network::failed_by(words, h.events as usize, low, high, intact);
+    topology::is_disconnected(
+        h.nodes as usize,
+        failed,
+        links,
+        h.links as usize,
+        table,
+        v,
+        w,
+    )
 }
 
-// The first of at most k ends to come that is relevant and whose topology disconnects the pair.
+// The first relevant scenario among the next k ends whose topology disconnects the pair.
 fn search_on(
     h: Header,
     links: &[u8; 256],
@@ -69,36 +61,33 @@ fn search_on(
 ) -> Witnessed
     requires { ⌜ LinksAt (now links) (h .links) (now table) ⌝ }
     requires { ⌜ Seeking h (now links) (now words) start (now stack) v w ⌝ }
-    ensures { λ r. ⌜ Answers (planOfLists h (now (links .entry)) (now (words .entry))) v w
-        (scenarios (take k (coming h (now (words .entry)) start (now (stack .entry)))))
-        (noneTest (planOfLists h (now (links .entry)) (now (words .entry))) v w (scenarios (take k (coming h (now (words .entry)) start (now (stack .entry)))))) r ⌝ }
+    ensures { λ r. ⌜ Searched (planOfLists h (now (links .entry)) (now (words .entry))) v w
+        (reached h (now (words .entry)) start (now (stack .entry)) k) r ⌝ }
 {
     let mut at = start;
     let mut left = k;
-    while at < 512 {
-        if left == 0 {
+    loop {
+        let r = walk::next_relevant(h.events, h.threshold, words, &mut *stack, at, left);
+        if !r.found {
             return Witnessed::Refused(14);
         }
-        let r = walk::next_end(h.events, h.threshold, words, &mut *stack, at);
-        if end_cuts(h, links, words, table, r.relevant, r.low, r.high, v, w) {
+        if cut_by(h, links, words, table, r.low, r.high, v, w) {
             return Witnessed::Found(Failing {
                 low: r.low,
                 high: r.high,
             });
         }
         at = r.at;
-        left -= 1;
+        left = r.left;
     }
-    Witnessed::Refused(14)
 }
 
 // A witness of an accepted plan: the walk from its root, for at most cap ends.
 fn search_all(h: Header, links: &[u8; 256], words: &[u64; 512], v: usize, w: usize) -> Witnessed
     requires { ⌜ Held h (now links) (now words) ⌝ }
     requires { ⌜ (v < 64) × (w < 64) ⌝ }
-    ensures { λ r. ⌜ Answers (planOfLists h (now (links .entry)) (now (words .entry))) v w
-        (examined (planOfLists h (now (links .entry)) (now (words .entry))))
-        (noneTest (planOfLists h (now (links .entry)) (now (words .entry))) v w (examined (planOfLists h (now (links .entry)) (now (words .entry))))) r ⌝ }
+    ensures { λ r. ⌜ Searched (planOfLists h (now (links .entry)) (now (words .entry))) v w
+        (examined (planOfLists h (now (links .entry)) (now (words .entry)))) r ⌝ }
 {
     let table = network::links_at(h.nodes as usize, links, h.links as usize);
     let mut stack = [0u64; 512];

@@ -1,52 +1,103 @@
--- One turn of the loop over the ends of the walk, and the whole walk from its root.
+-- One turn of the loop over the relevant scenarios of the walk, and the whole walk from its root.
 -- Assumes nothing.
 use mathlib.Core.Path.{_≡_, refl, sym, ap, subst, _∙_}
+use mathlib.Core.Bool.{true, false}
 use mathlib.Core.List.{List, [], _∷_}
-use Prim.Native.Nat.{ℕ, zero, suc, _+_, _-_, _*_, _/_, _<_, _≤_}
+use Prim.Native.Nat.{ℕ, _+_, _-_, _*_, _/_, _<_, _≤_}
 use native.Mathlib.Omega.{arith}
 use lib.ListN.{length, take, drop}
-use lib.Seq.{take-nil, take-length, drop-drop}
+use lib.Seq.{drop-drop}
 use Rattle.mass.specs.Split.{whole}
-use Rattle.plan.specs.Plan.{Plan}
+use Rattle.sets.specs.Sets.{joined}
 use Rattle.plan.specs.Lists.{eventsOf}
 use Rattle.plan.specs.Records.{planOfLists}
-use Rattle.plan.specs.declared.Header.{Header}
-use Rattle.walk.specs.Scenario.{Scenario}
-use Rattle.walk.specs.Ends.{End, ends, sumEnds, sumEnds-first}
-use Rattle.walk.specs.Laws.{masses-le}
-use Rattle.walk.specs.Walk.{planEnds}
-use Rattle.walk.specs.Stack.{Begun, Stack, Stepped, nextEnd}
-use Rattle.walk.specs.declared.Next.{Next}
-use Rattle.walk.proofs.Resume.{step-take, value-mass, none-to-come, begun-stack, begun-whole, root-entry}
-use Rattle.bounds.specs.Tallied.{coming}
-use Rattle.walk.specs.Valid.{held-probable}
 use Rattle.plan.specs.Held.{Held}
-use Rattle.topologies.specs.Listing.{massesIn, Listing, listing, placed, placedAll, topologyAfter, listingOf}
+use Rattle.plan.specs.declared.Header.{Header}
+use Rattle.walk.specs.Scenario.{Scenario, scenarioOf}
+use Rattle.walk.specs.Ends.{End, relevant, sumEnds}
+use Rattle.walk.specs.Laws.{masses-le}
+use Rattle.walk.specs.Stack.{Stack}
+use Rattle.walk.specs.Stack.{Begun}
+use Rattle.walk.specs.Steps.{Handed}
+use Rattle.walk.specs.Valid.{held-probable}
+use Rattle.walk.specs.declared.Step.{Step}
+use Rattle.walk.proofs.Resume.{begun-stack, begun-whole, root-entry, value-found, value-none, sum-found}
+use Rattle.topologies.specs.Listing.{massesIn, added, Listing, listing, fitted, placed, placedAll, topologyAfter, listingOf}
 use Rattle.topologies.specs.ListingLaws.{refused-stays, masses-placed}
-use Rattle.topologies.specs.Words.{entriesOf, Placing, Gave, Ready}
+use Rattle.topologies.specs.Words.{entriesOf, nextEnds, Placing, Gave, Ready}
 use Rattle.topologies.specs.declared.Topology.{Topology}
 use Rattle.topologies.specs.declared.Placed.{Placed}
 
--- ---- in the loop: placing what is left from here on gives what the whole was to give
+-- ---- one scenario's topology placed, then the others
+
+-- what is given where no entry is added
+pub none-given : (count : ℕ) (list : List ℕ) → 4 * count ≤ length list
+    → Gave (listing (entriesOf count list) 0) count list list (record { count = count; number = 0 })
+none-given count list room = record { number = refl; entries = refl; grows = omega arith; room = room; others = refl; sized = refl }
+
+module _ (T : Scenario → Topology) (count : ℕ) (list list₁ : List ℕ) (q : Placed) (s : Scenario) (mass : ℕ) (later : List End)
+    (given : Gave (placed (length list / 4) T (listing (entriesOf count list) 0) (relevant s mass)) count list list₁ q) where
+  abbrev out : Listing
+  out = placed (length list / 4) T (listing (entriesOf count list) 0) (relevant s mass)
+
+  -- no entry was left for it: what is given is given for all
+  full-given : (q .number ≡ 0 → ⊥) → Gave (placedAll (length list / 4) T out later) count list list₁ q
+  full-given full =
+      subst (λ (l : Listing). Gave l count list list₁ q) (sym (refused-stays (length list / 4) T out later (λ z. full (given .number ∙ z)))) given
+
+  -- what is given for the others, after it, is given for all
+  then-given : q .number ≡ 0 → (list₂ : List ℕ) (q₂ : Placed)
+      → Gave (placedAll (length list₁ / 4) T (listing (entriesOf (q .count) list₁) 0) later) (q .count) list₁ list₂ q₂
+      → Gave (placedAll (length list / 4) T out later) count list list₂ q₂
+  then-given z list₂ q₂ next =
+      record {
+        number = next .number ∙ ap (λ (l : Listing). l .number) same;
+        entries = next .entries ∙ ap (λ (l : Listing). l .entries) same;
+        grows = omega (arith, given .grows, next .grows);
+        room = next .room;
+        others =
+            next .others
+            ∙ ap (λ (n : ℕ). drop n list₁) more
+            ∙ sym (drop-drop past (4 * q .count) list₁)
+            ∙ ap (drop past) (given .others)
+            ∙ drop-drop past (4 * q .count) list
+            ∙ ap (λ (n : ℕ). drop n list) (sym more);
+        sized = next .sized ∙ given .sized;
+      }
+    where
+      past : ℕ
+      past = 4 * q₂ .count - 4 * q .count
+
+      more : 4 * q₂ .count ≡ 4 * q .count + past
+      more = omega (arith, next .grows)
+
+      same : placedAll (length list₁ / 4) T (listing (entriesOf (q .count) list₁) 0) later ≡ placedAll (length list / 4) T out later
+      same =
+          ap (λ (n : ℕ). placedAll (n / 4) T (listing (entriesOf (q .count) list₁) 0) later) (given .sized)
+          ∙ ap (λ (l : Listing). placedAll (length list / 4) T l later)
+          (λ i. record { entries = given .entries i; number = (sym z ∙ given .number) i })
+
+-- ---- the loop: what is given for the ends that are left is given for the whole
 
 pub record Turn (h : Header) (links words : List ℕ) (at₀ : ℕ) (stack₀ list₀ : List ℕ) (k : ℕ) (stack list : List ℕ) (at left count : ℕ) : Type 0 where
-  pub outcome : placedAll (length list₀ / 4) (topologyAfter (planOfLists h links words)) (listing (entriesOf count list) 0) (take left (coming h words at stack))
-      ≡ placedAll (length list₀ / 4) (topologyAfter (planOfLists h links words)) (listing [] 0) (take k (coming h words at₀ stack₀))
+  pub gives : (list′ : List ℕ) (q : Placed)
+      → Gave
+      (placedAll (length list / 4) (topologyAfter (planOfLists h links words)) (listing (entriesOf count list) 0) (nextEnds h words at stack left))
+      count list list′ q
+      → Gave (placedAll (length list₀ / 4) (topologyAfter (planOfLists h links words)) (listing [] 0) (nextEnds h words at₀ stack₀ k)) 0 list₀ list′ q
   pub room : 4 * count ≤ length list
-  pub others : drop (4 * count) list ≡ drop (4 * count) list₀
   pub sized : length list ≡ length list₀
   pub held : Held h links words
   pub stacked : Stack (h .events) at stack
-  pub fits : massesIn (entriesOf count list) + sumEnds (λ s m. m) (coming h words at stack) ≤ whole
+  pub fits : massesIn (entriesOf count list) + sumEnds (λ s m. m) (nextEnds h words at stack left) ≤ whole
 
-pub turn-begun : (h : Header) (links words : List ℕ) (at₀ : ℕ) (stack₀ list₀ : List ℕ) (k : ℕ) → Ready h links words at₀ stack₀
-    → Turn h links words at₀ stack₀ list₀ k stack₀ list₀ at₀ k 0
+pub turn-begun : (h : Header) (links words : List ℕ) (at₀ : ℕ) (stack₀ list₀ : List ℕ) → Ready h links words at₀ stack₀
+    → Turn h links words at₀ stack₀ list₀ (h .limit) stack₀ list₀ at₀ (h .limit) 0
 unfolding entriesOf
-turn-begun h links words at₀ stack₀ list₀ k ready =
+turn-begun h links words at₀ stack₀ list₀ ready =
     record {
-      outcome = refl;
+      gives = λ list′ q given. given;
       room = omega arith;
-      others = refl;
       sized = refl;
       held = ready .held;
       stacked = ready .stacked;
@@ -54,103 +105,63 @@ turn-begun h links words at₀ stack₀ list₀ k ready =
     }
 
 module _ (h : Header) (links words : List ℕ) (at₀ : ℕ) (stack₀ list₀ : List ℕ) (k : ℕ) (stack list : List ℕ) (at left count : ℕ)
-    (g : Turn h links words at₀ stack₀ list₀ k stack list at left count) where
+    (g : Turn h links words at₀ stack₀ list₀ k stack list at left count)
+    (stack′ : List ℕ) (r : Step) (s : Handed (h .events) (h .threshold) words at stack left stack′ r) where
   abbrev T : Scenario → Topology
   T = topologyAfter (planOfLists h links words)
 
   abbrev aim : Listing
-  aim = placedAll (length list₀ / 4) T (listing [] 0) (take k (coming h words at₀ stack₀))
+  aim = placedAll (length list₀ / 4) T (listing [] 0) (nextEnds h words at₀ stack₀ k)
 
-  -- the loop ends where no end is to be placed any more
-  ended : take left (coming h words at stack) ≡ [] → Gave aim 0 list₀ list (record { count = count; number = 0 })
-  ended none =
-      let is : listing (entriesOf count list) 0 ≡ aim =
-      ap (placedAll (length list₀ / 4) T (listing (entriesOf count list) 0)) (sym none) ∙ g .outcome in
-      record {
-        number = ap (λ (l : Listing). l .number) is;
-        entries = ap (λ (l : Listing). l .entries) is;
-        grows = omega arith;
-        room = g .room;
-        others = g .others;
-        sized = g .sized;
-      }
+  abbrev here : Scenario
+  here = scenarioOf (h .events) (joined (r .low) (r .high))
 
-  pub asked-all : left ≡ 0 → Gave aim 0 list₀ list (record { count = count; number = 0 })
-  asked-all e = ended (ap (λ (j : ℕ). take j (coming h words at stack)) e)
+  abbrev later : List End
+  later = nextEnds h words (r .at) stack′ (r .left)
 
-  pub walked-all : 512 ≤ at → Gave aim 0 list₀ list (record { count = count; number = 0 })
-  walked-all l = ended (ap (take left) none ∙ take-nil {A = End} left)
-    where
-      last : at ≡ 512
-      last = omega (arith, g .stacked .within)
+  -- what is left to be placed, as a value of the ends
+  abbrev left-to-place : List End → Listing
+  left-to-place = placedAll (length list / 4) T (listing (entriesOf count list) 0)
 
-      none : coming h words at stack ≡ []
-      none =
-          ap (λ (j : ℕ). coming h words j stack) last
-          ∙ none-to-come (h .events) (h .threshold) words stack (g .stacked .sized)
+  -- no scenario is left
+  pub ended : r .found ≡ false → Gave aim 0 list₀ list (record { count = count; number = 0 })
+  ended e =
+      g .gives list _
+      (subst (λ (l : Listing). Gave l count list list (record { count = count; number = 0 }))
+      (sym (value-none (h .events) (h .threshold) words at stack left stack′ r s left-to-place (λ l. refl) e)) (none-given count list (g .room)))
 
-  -- one end more
-  module _ (some : left ≡ 0 → ⊥) (stack′ : List ℕ) (r : Next) (s : Stepped (h .events) (h .threshold) words at stack stack′ r) where
-    first : take left (coming h words at stack) ≡ nextEnd (h .events) r ∷ take (left - 1) (coming h words (r .at) stack′)
-    first =
-        let one-less : left ≡ suc (left - 1) = omega arith in
-        ap (λ (j : ℕ). take j (coming h words at stack)) one-less
-        ∙ step-take (h .events) (h .threshold) words at stack stack′ r s (left - 1)
+  module _ (e : r .found ≡ true) where
+    masses : sumEnds (λ s m. m) (nextEnds h words at stack left) ≡ r .mass + sumEnds (λ s m. m) later
+    masses = sum-found (h .events) (h .threshold) words at stack left stack′ r s (λ s m. m) e
 
-    all : sumEnds (λ s m. m) (coming h words at stack) ≡ r .mass + sumEnds (λ s m. m) (coming h words (r .at) stack′)
-    all =
-        ap (sumEnds (λ s m. m)) (s .ends)
-        ∙ sumEnds-first (λ s m. m) (nextEnd (h .events) r) (coming h words (r .at) stack′)
-        ∙ ap (λ (x : ℕ). x + sumEnds (λ s m. m) (coming h words (r .at) stack′)) (value-mass (h .events) r (s .nothing))
-
+    -- its mass has room
     pub may-place : Placing count (r .mass) list
-    may-place = record { room = g .room; fits = omega (arith, g .fits, all) }
+    may-place = record { room = g .room; fits = omega (arith, g .fits, masses) }
 
-    module _ (list′ : List ℕ) (q : Placed)
-        (given : Gave (placed (length list / 4) T (listing (entriesOf count list) 0) (nextEnd (h .events) r)) count list list′ q) where
-      abbrev out : Listing
-      out = placed (length list / 4) T (listing (entriesOf count list) 0) (nextEnd (h .events) r)
+    -- its topology is placed
+    module _ (t : Topology) (is : t ≡ T here) (list′ : List ℕ) (q : Placed)
+        (placing : Gave (fitted (length list / 4) (entriesOf count list) (added t (r .mass) (entriesOf count list))) count list list′ q) where
+      given : Gave (placed (length list / 4) T (listing (entriesOf count list) 0) (relevant here (r .mass))) count list list′ q
+      given =
+          subst
+          (λ (x : Topology). Gave (fitted (length list / 4) (entriesOf count list) (added x (r .mass) (entriesOf count list))) count list list′ q)
+          is placing
 
-      rest : placedAll (length list₀ / 4) T out (take (left - 1) (coming h words (r .at) stack′)) ≡ aim
-      rest =
-          ap
-          (λ (n : ℕ).
-          placedAll (length list₀ / 4) T (placed (n / 4) T (listing (entriesOf count list) 0) (nextEnd (h .events) r)) (take (left - 1) (coming h words (r .at) stack′)))
-          (g .sized)
-          ∙ ap (placedAll (length list₀ / 4) T (listing (entriesOf count list) 0)) (sym first)
-          ∙ g .outcome
+      from-first : (list″ : List ℕ) (q′ : Placed)
+          → Gave (left-to-place (relevant here (r .mass) ∷ later)) count list list″ q′ → Gave aim 0 list₀ list″ q′
+      from-first list″ q′ first =
+          g .gives list″ q′
+          (subst (λ (l : Listing). Gave l count list list″ q′)
+          (sym (value-found (h .events) (h .threshold) words at stack left stack′ r s left-to-place (λ l. refl) e)) first)
 
-      kept : drop (4 * q .count) list′ ≡ drop (4 * q .count) list₀
-      kept =
-          let more : 4 * q .count ≡ 4 * count + (4 * q .count - 4 * count) = omega (arith, given .grows) in
-          given .others
-          ∙ ap (λ (n : ℕ). drop n list) more
-          ∙ sym (drop-drop (4 * q .count - 4 * count) (4 * count) list)
-          ∙ ap (drop (4 * q .count - 4 * count)) (g .others)
-          ∙ drop-drop (4 * q .count - 4 * count) (4 * count) list₀
-          ∙ ap (λ (n : ℕ). drop n list₀) (sym more)
-
-      -- no entry was left
       pub stopped : (q .number ≡ 0 → ⊥) → Gave aim 0 list₀ list′ q
-      stopped full =
-          let is : out ≡ aim =
-          sym (refused-stays (length list₀ / 4) T out (take (left - 1) (coming h words (r .at) stack′)) (λ z. full (given .number ∙ z))) ∙ rest in
-          record {
-            number = given .number ∙ ap (λ (l : Listing). l .number) is;
-            entries = given .entries ∙ ap (λ (l : Listing). l .entries) is;
-            grows = omega arith;
-            room = given .room;
-            others = kept;
-            sized = given .sized ∙ g .sized;
-          }
+      stopped full = from-first list′ q (full-given T count list list′ q here (r .mass) later given full)
 
-      pub turned : q .number ≡ 0 → Turn h links words at₀ stack₀ list₀ k stack′ list′ (r .at) (left - 1) (q .count)
+      pub turned : q .number ≡ 0 → Turn h links words at₀ stack₀ list₀ k stack′ list′ (r .at) (r .left) (q .count)
       turned z =
-          let is : listing (entriesOf (q .count) list′) 0 ≡ out = λ i. record { entries = given .entries i; number = (sym z ∙ given .number) i } in
           record {
-            outcome = ap (λ (l : Listing). placedAll (length list₀ / 4) T l (take (left - 1) (coming h words (r .at) stack′))) is ∙ rest;
+            gives = λ list″ q′ next. from-first list″ q′ (then-given T count list list′ q here (r .mass) later given z list″ q′ next);
             room = given .room;
-            others = kept;
             sized = given .sized ∙ g .sized;
             held = g .held;
             stacked = s .held;
@@ -158,34 +169,30 @@ module _ (h : Header) (links words : List ℕ) (at₀ : ℕ) (stack₀ list₀ :
                 omega (
                   arith,
                   g .fits,
-                  all,
+                  masses,
                   ap massesIn (given .entries),
-                  masses-placed (length list / 4) T (entriesOf count list) (nextEnd (h .events) r),
-                  value-mass (h .events) r (s .nothing),
+                  masses-placed (length list / 4) T (entriesOf count list) (relevant here (r .mass)),
                 );
           }
 
 -- ---- from the root
 
-pub ready-whole : (h : Header) (links words : List ℕ) (at : ℕ) (stack : List ℕ) → Held h links words → Begun 0 whole 0 0 at stack
-    → Ready h links words at stack
-ready-whole h links words at stack held b =
-    record {
-      held = held;
-      stacked = begun-stack 0 whole 0 0 at stack b (h .events) (root-entry (h .events));
-      light = rw (begun-whole at stack b (h .events) (h .threshold) words) most;
-    }
-  where
-    all : List End
-    all = ends (h .threshold) whole (eventsOf (h .events) words)
+module _ (h : Header) (links words : List ℕ) (at : ℕ) (stack : List ℕ) (b : Begun 0 whole 0 0 at stack) where
+  pub ready-whole : Held h links words → Ready h links words at stack
+  ready-whole held =
+      record {
+        held = held;
+        stacked = begun-stack 0 whole 0 0 at stack b (omega arith) (h .events) (root-entry (h .events));
+        light =
+            rw (begun-whole at stack b (h .events) (h .threshold) words)
+            (masses-le (h .threshold) (h .limit) whole (eventsOf (h .events) words) (held-probable h links words held));
+      }
 
-    most : sumEnds (λ s m. m) all ≤ whole
-    most = rw (take-length all) at (masses-le (h .threshold) (length all) whole (eventsOf (h .events) words) (held-probable h links words held))
-
-pub whole-listing : (h : Header) (links words : List ℕ) (at : ℕ) (stack : List ℕ) (room : ℕ) → Begun 0 whole 0 0 at stack
-    → placedAll room (topologyAfter (planOfLists h links words)) (listing [] 0) (take (h .limit) (coming h words at stack)) ≡ listingOf room (planOfLists h links words)
-unfolding planOfLists listingOf
-whole-listing h links words at stack room b =
-    ap
-    (λ (l : List End). placedAll room (topologyAfter (planOfLists h links words)) (listing [] 0) (take (h .limit) l))
-    (begun-whole at stack b (h .events) (h .threshold) words)
+  pub whole-listing : (room : ℕ)
+      → placedAll room (topologyAfter (planOfLists h links words)) (listing [] 0) (nextEnds h words at stack (h .limit))
+      ≡ listingOf room (planOfLists h links words)
+  unfolding planOfLists listingOf
+  whole-listing room =
+      ap
+      (λ (l : List End). placedAll room (topologyAfter (planOfLists h links words)) (listing [] 0) (take (h .limit) l))
+      (begun-whole at stack b (h .events) (h .threshold) words)

@@ -4,13 +4,12 @@ use mathlib.Core.Path.{_≡_}
 use mathlib.Core.Bool.{true, false}
 use mathlib.Core.List.{List, [], _∷_}
 use Prim.Native.Nat.{ℕ, zero, suc, _+_, _*_, _<_, _≤_}
-use lib.ListN.{length, getD, drop}
+use lib.ListN.{length, getD, take, drop}
 use Rattle.mass.specs.Split.{whole}
 use Rattle.plan.specs.Plan.{Plan}
 use Rattle.plan.specs.declared.Header.{Header}
 use Rattle.walk.specs.Ends.{End, sumEnds}
-use Rattle.walk.specs.Stack.{Stack}
-use Rattle.bounds.specs.Tallied.{coming}
+use Rattle.walk.specs.Stack.{toCome, Stack}
 use Rattle.plan.specs.Held.{Held}
 use Rattle.topologies.specs.Listing.{Entry, entry, massesIn, same, Listing}
 use Rattle.topologies.specs.declared.Topology.{Topology}
@@ -56,8 +55,12 @@ pub record Gave (list : Listing) (count : ℕ) (words words′ : List ℕ) (r : 
   pub others : drop (4 * r .count) words′ ≡ drop (4 * r .count) words
   pub sized : length words′ ≡ length words
 
--- what the loop over the ends asks: a stack that denotes the ends to come
+-- the next k ends of a walk
+abbrev pub nextEnds : Header → List ℕ → ℕ → List ℕ → ℕ → List End
+nextEnds h words at stack k = take k (toCome (h .events) (h .threshold) words at stack)
+
+-- what the loop over the ends asks: a stack that denotes the ends to come, whose masses have room in one whole
 pub record Ready (h : Header) (links words : List ℕ) (at : ℕ) (stack : List ℕ) : Type 0 where
   pub held : Held h links words
   pub stacked : Stack (h .events) at stack
-  pub light : sumEnds (λ s m. m) (coming h words at stack) ≤ whole
+  pub light : sumEnds (λ s m. m) (nextEnds h words at stack (h .limit)) ≤ whole

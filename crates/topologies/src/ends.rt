@@ -7,16 +7,14 @@ use plan::Header;
 ghost use mathlib.Core.Path.{_≡_};
 ghost use mathlib.Core.List.{[]};
 ghost use Prim.Native.Nat.{_/_, _^_, _<_};
-ghost use lib.ListN.{length, take};
+ghost use lib.ListN.{length};
 ghost use Rattle.sets.specs.Sets.{joined};
 ghost use Rattle.plan.specs.Records.{planOfLists};
 ghost use Rattle.network.specs.Table.{LinksAt};
 ghost use Rattle.walk.specs.Scenario.{scenarioOf};
-ghost use Rattle.walk.specs.Stack.{endOf};
-ghost use Rattle.bounds.specs.Tallied.{coming};
 ghost use Rattle.plan.specs.Held.{Held};
-ghost use Rattle.topologies.specs.Listing.{listing, placed, placedAll, topologyAfter, listingOf};
-ghost use Rattle.topologies.specs.Words.{entriesOf, Placing, Gave, Ready};
+ghost use Rattle.topologies.specs.Listing.{listing, placedAll, topologyAfter, listingOf};
+ghost use Rattle.topologies.specs.Words.{nextEnds, Gave, Ready};
 
 // The effective topology of a scenario, by its failing events.
 fn topology_of(
@@ -48,36 +46,7 @@ fn topology_of(
     }
 }
 
-// Places the topology of an end that is relevant, and passes over a dropped one.
-fn place_end(
-    h: Header,
-    links: &[u8; 256],
-    words: &[u64; 512],
-    table: &[u64; 128],
-    list: &mut [u64],
-    count: usize,
-    relevant: bool,
-    low: u64,
-    high: u64,
-    mass: u64,
-) -> Placed
-    requires { ⌜ Held h (now links) (now words) ⌝ }
-    requires { ⌜ LinksAt (now links) (h .links) (now table) ⌝ }
-    requires { ⌜ joined low high < 2 ^ (h .events) ⌝ }
-    requires { ⌜ Placing count mass (now list) ⌝ }
-    ensures { λ r. ⌜ Gave
-        (placed (length (now (list .entry)) / 4) (topologyAfter (planOfLists h (now (links .entry)) (now (words .entry))))
-        (listing (entriesOf count (now (list .entry))) 0) (endOf (h .events) relevant mass low high))
-        count (now (list .entry)) (now (list .exit)) r ⌝ }
-{
-    if relevant {
-        let t = topology_of(h, links, words, table, low, high);
-        return place(list, count, t, mass);
-    }
-    Placed { count, number: 0 }
-}
-
-// Goes through at most h.limit ends of a walk, and places the topologies of the relevant ones.
+// Places the topologies of the relevant scenarios among the next h.limit ends of a walk.
 fn list_ends(
     h: Header,
     links: &[u8; 256],
@@ -91,37 +60,26 @@ fn list_ends(
     requires { ⌜ Ready h (now links) (now words) start (now stack) ⌝ }
     ensures { λ r. ⌜ Gave
         (placedAll (length (now (list .entry)) / 4) (topologyAfter (planOfLists h (now (links .entry)) (now (words .entry))))
-        (listing [] 0) (take (h .limit) (coming h (now (words .entry)) start (now (stack .entry)))))
+        (listing [] 0) (nextEnds h (now (words .entry)) start (now (stack .entry)) (h .limit)))
         0 (now (list .entry)) (now (list .exit)) r ⌝ }
 {
     let mut at = start;
     let mut left = h.limit;
     let mut count = 0;
-    while at < 512 {
-        if left == 0 {
+    loop {
+        let r = walk::next_relevant(h.events, h.threshold, words, &mut *stack, at, left);
+        if !r.found {
             return Placed { count, number: 0 };
         }
-        let r = walk::next_end(h.events, h.threshold, words, &mut *stack, at);
-        let placed = place_end(
-            h,
-            links,
-            words,
-            table,
-            &mut *list,
-            count,
-            r.relevant,
-            r.low,
-            r.high,
-            r.mass,
-        );
+        let t = topology_of(h, links, words, table, r.low, r.high);
+        let placed = place(&mut *list, count, t, r.mass);
         if placed.number != 0 {
             return placed;
         }
         count = placed.count;
         at = r.at;
-        left -= 1;
+        left = r.left;
     }
-    Placed { count, number: 0 }
 }
 
 // The topology list of an accepted plan, from the root of the walk.

@@ -1,8 +1,9 @@
 -- `readings::search::search_on` meets its contract: the invariant is `Seek`, the measure the ends left. Assumes nothing.
 use borrow.Author.Needs.{needs}
-use mathlib.Core.Path.{refl}
-use Rattle.walk.specs.Valid.{held-probable}
-use Rattle.readings.proofs.Seek.{Seek, asked-all, walked-all, found-here, turned}
+use mathlib.Core.Path.{_≡_, sym, ap, _∙_}
+use mathlib.Core.Bool.{Bool, not, Bool·not-not}
+use Rattle.walk.proofs.Resume.{left-less}
+use Rattle.readings.proofs.Seek.{Seek, ended, found-here, turned}
 use Rattle.readings.proofs.search.search_on.Statement.{statement}
 use Rattle.readings.proofs.search.search_on.Tie as tie
 
@@ -12,42 +13,47 @@ Inv-loop h links words table stack₀ start v w k at₀ left₀ stack at left = 
 abbrev μ-loop : tie.MeasureT-loop
 μ-loop h links words table stack₀ start v w k at₀ left₀ stack at left = left
 
+-- what the test `!found` says of `found`
+unnot : {b x : Bool} → not b ≡ x → b ≡ not x
+unnot {b} e = sym (Bool·not-not b) ∙ ap not e
+
 loop-holds : tie.Need-loop-holds Inv-loop μ-loop
-loop-holds c = record { seeking = c .pre .1; alike = refl; members = λ s m. m }
+loop-holds c = record { seeking = c .pre .1; answers = λ r a. a }
+
+next-relevant-requires : tie.Need-next-relevant-requires Inv-loop μ-loop
+next-relevant-requires c κs =
+    let g = c .before .loop .inv .seeking in
+    (g .held .events-fit, g .held .falling, g .stacked)
 
 returns : tie.Need-returns Inv-loop μ-loop
-returns c = asked-all _ _ _ _ _ _ _ _ _ _ _ (c .before .before .loop .inv) (c .if1 .taken)
+returns c =
+    let n = c .before .before in
+    ended _ _ _ _ _ _ _ _ _ _ _ (n .before .before .loop .inv) _ _ (n .next-relevant .ensures) (unnot (c .if1 .taken))
 
-next-end-requires : tie.Need-next-end-requires Inv-loop μ-loop
-next-end-requires c κs =
-    let g = c .before .before .before .loop .inv .seeking in
-    (g .held .events-fit, c .before .before .loop-test .taken, held-probable _ _ _ (g .held), g .stacked)
-
-end-cuts-requires : tie.Need-end-cuts-requires Inv-loop μ-loop
-end-cuts-requires c κs =
-    let g = c .before .before .before .before .loop .inv .seeking in
-    (g .held, (c .before .before .before .before .before .pre .0, (c .next-end .ensures .decided, g .inside .0, g .inside .1)))
+cut-by-requires : tie.Need-cut-by-requires Inv-loop μ-loop
+cut-by-requires c κs =
+    let n = c .before .before in
+    let g = n .before .before .loop .inv .seeking in
+    (g .held, (n .before .before .before .pre .0, (n .next-relevant .ensures .decided, g .inside .0, g .inside .1)))
 
 returns-2 : tie.Need-returns-2 Inv-loop μ-loop
 returns-2 c =
-    let n = c .before .before in
-    let g = n .before .before .before .before .loop .inv in
-    found-here _ _ _ _ _ _ _ _ _ _ _ g (n .before .before .if1 .left) _ _ (n .next-end .ensures) _ (c .if2 .taken) (c .before .end-cuts .ensures)
-
-sub-left : tie.Need-sub-left Inv-loop μ-loop
-sub-left c = search needs
+    let e = c .before .before in
+    let n = e .before .before in
+    found-here _ _ _ _ _ _ _ _ _ _ _ (n .before .before .loop .inv) _ _ (n .next-relevant .ensures) (unnot (e .if1 .left))
+    (sym (c .before .cut-by .ensures) ∙ c .if2 .taken)
 
 loop-less : tie.Need-loop-less Inv-loop μ-loop
-loop-less c = search needs
+loop-less c =
+    let e = c .before .before in
+    left-less _ _ _ _ _ _ _ _ (e .before .before .next-relevant .ensures) (unnot (e .if1 .left))
 
 loop-again : tie.Need-loop-again Inv-loop μ-loop
 loop-again c =
-    let n = c .before .before in
-    let g = n .before .before .before .before .loop .inv in
-    turned _ _ _ _ _ _ _ _ _ _ _ g (n .before .before .if1 .left) _ _ (n .next-end .ensures) _ (c .if2 .left) (c .before .end-cuts .ensures)
-
-returns-3 : tie.Need-returns-3 Inv-loop μ-loop
-returns-3 c = walked-all _ _ _ _ _ _ _ _ _ _ _ (c .before .loop .inv) (c .loop-test .left)
+    let e = c .before .before in
+    let n = e .before .before in
+    turned _ _ _ _ _ _ _ _ _ _ _ (n .before .before .loop .inv) _ _ (n .next-relevant .ensures) (unnot (e .if1 .left))
+    (sym (c .before .cut-by .ensures) ∙ c .if2 .left)
 
 pub search-on-spec : {M : Type 1} → statement M
 search-on-spec =
@@ -56,11 +62,9 @@ search-on-spec =
     Inv-loop
     μ-loop
     loop-holds
+    next-relevant-requires
     returns
-    next-end-requires
-    end-cuts-requires
+    cut-by-requires
     returns-2
-    sub-left
     loop-less
-    loop-again
-    returns-3)
+    loop-again)

@@ -13,7 +13,7 @@ begin-requires c κs = search needs
 list-ends-requires : tie.Need-list-ends-requires
 list-ends-requires c κs = (
   c .before .before .before .before .before .links-at .ensures,
-  ready-whole _ _ _ _ _ (c .before .before .before .before .before .before .before .pre) (c .before .before .before .begin .ensures),
+  ready-whole _ _ _ _ _ (c .before .before .before .begin .ensures) (c .before .before .before .before .before .before .before .pre),
 )
 
 same-length : tie.Need-same-length
@@ -23,7 +23,7 @@ returns : tie.Need-returns
 returns c =
     let e = c .before .before .list-ends .ensures in
     let b = c .before .before .before .before .before .before .begin .ensures in
-    rw (whole-listing _ _ _ _ _ _ b) at e
+    rw (whole-listing _ _ _ _ _ b _) at e
 
 pub list-all-spec : {M : Type 1} → statement M
 list-all-spec = tie.close (tie.spec links-at-requires begin-requires list-ends-requires same-length returns)

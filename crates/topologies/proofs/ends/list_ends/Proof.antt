@@ -1,8 +1,9 @@
 -- `topologies::ends::list_ends` meets its contract: the invariant is `Turn`, the measure the ends left. Assumes nothing.
-use mathlib.Core.Path.{_∙_}
-use native.Mathlib.Omega.{arith}
-use Rattle.walk.specs.Valid.{held-probable}
-use Rattle.topologies.proofs.Turn.{Turn, turn-begun, asked-all, walked-all, may-place, stopped, turned}
+use mathlib.Core.Path.{_≡_, sym, ap, _∙_}
+use mathlib.Core.Bool.{Bool, not, Bool·not-not}
+use borrow.Author.Needs.{needs}
+use Rattle.walk.proofs.Resume.{left-less}
+use Rattle.topologies.proofs.Turn.{Turn, turn-begun, ended, may-place, stopped, turned}
 use Rattle.topologies.proofs.ends.list_ends.Statement.{statement}
 use Rattle.topologies.proofs.ends.list_ends.Tie as tie
 
@@ -13,54 +14,65 @@ Inv-loop h links words table stack₀ start list₀ at₀ left₀ count₀ stack
 abbrev μ-loop : tie.MeasureT-loop
 μ-loop h links words table stack₀ start list₀ at₀ left₀ count₀ stack list at left count = left
 
+-- what the test `!found` says of `found`
+unnot : {b x : Bool} → not b ≡ x → b ≡ not x
+unnot {b} e = sym (Bool·not-not b) ∙ ap not e
+
 loop-holds : tie.Need-loop-holds Inv-loop μ-loop
-loop-holds c = turn-begun _ _ _ _ _ _ _ (c .before .pre .1)
+loop-holds c = turn-begun _ _ _ _ _ _ (c .before .pre .1)
+
+next-relevant-requires : tie.Need-next-relevant-requires Inv-loop μ-loop
+next-relevant-requires c κs =
+    let g = c .before .loop .inv in
+    (g .held .events-fit, g .held .falling, g .stacked)
 
 same-length : tie.Need-same-length Inv-loop μ-loop
-same-length c = c .before .before .loop .inv .sized
+same-length c = c .before .before .before .before .loop .inv .sized
 
 returns : tie.Need-returns Inv-loop μ-loop
-returns c = asked-all _ _ _ _ _ _ _ _ _ _ _ _ (c .before .before .loop .inv) (c .if1 .taken)
+returns c =
+    let n = c .before .before in
+    ended _ _ _ _ _ _ _ _ _ _ _ _ (n .before .before .loop .inv) _ _ (n .next-relevant .ensures) (unnot (c .if1 .taken))
 
-next-end-requires : tie.Need-next-end-requires Inv-loop μ-loop
-next-end-requires c κs =
-    let g = c .before .before .before .loop .inv in
-    (g .held .events-fit, c .before .before .loop-test .taken, held-probable _ _ _ (g .held), g .stacked)
+topology-of-requires : tie.Need-topology-of-requires Inv-loop μ-loop
+topology-of-requires c κs =
+    let n = c .before .before in
+    let l = n .before .before in
+    (l .loop .inv .held, (l .before .before .pre .0, n .next-relevant .ensures .decided))
 
-place-end-requires : tie.Need-place-end-requires Inv-loop μ-loop
-place-end-requires c κs =
-    let g = c .before .before .before .before .before .loop .inv in
-    let s = c .before .next-end .ensures in
-    (g .held, (c .before .before .before .before .before .before .before .pre .0, (s .decided, may-place _ _ _ _ _ _ _ _ _ _ _ _ g (c .before .before .before .if1 .left) _ _ s)))
+place-requires : tie.Need-place-requires Inv-loop μ-loop
+place-requires c κs =
+    let e = c .before .before in
+    let n = e .before .before in
+    may-place _ _ _ _ _ _ _ _ _ _ _ _ (n .before .before .loop .inv) _ _ (n .next-relevant .ensures) (unnot (e .if1 .left))
 
 same-length-2 : tie.Need-same-length-2 Inv-loop μ-loop
 same-length-2 c =
-    let e = c .before .before .before .before in
-    e .place-end .ensures .sized ∙ e .before .before .before .before .before .before .loop .inv .sized
+    let p = c .before .before .before .before in
+    p .place .ensures .sized ∙ p .before .before .before .before .before .before .before .loop .inv .sized
 
 returns-2 : tie.Need-returns-2 Inv-loop μ-loop
 returns-2 c =
-    let e = c .before .before .before .before in
+    let p = c .before .before .before .before in
+    let t = p .before .before in
+    let e = t .before in
     let n = e .before .before in
-    stopped _ _ _ _ _ _ _ _ _ _ _ _ (n .before .before .before .before .loop .inv) (n .before .before .if1 .left) _ _ (n .next-end .ensures) _ _ (e .place-end .ensures) (c .if2 .taken)
-
-sub-left : tie.Need-sub-left Inv-loop μ-loop
-sub-left c = omega (arith, c .before .before .before .before .before .before .before .before .if1 .left)
+    stopped _ _ _ _ _ _ _ _ _ _ _ _ (n .before .before .loop .inv) _ _ (n .next-relevant .ensures) (unnot (e .if1 .left))
+    _ (t .topology-of .ensures) _ _ (p .place .ensures) (c .if2 .taken)
 
 loop-less : tie.Need-loop-less Inv-loop μ-loop
-loop-less c = omega (arith, c .before .before .before .before .before .before .before .before .if1 .left)
+loop-less c =
+    let e = c .before .before .before .before .before .before .before in
+    left-less _ _ _ _ _ _ _ _ (e .before .before .next-relevant .ensures) (unnot (e .if1 .left))
 
 loop-again : tie.Need-loop-again Inv-loop μ-loop
 loop-again c =
-    let e = c .before .before .before .before in
+    let p = c .before .before .before .before in
+    let t = p .before .before in
+    let e = t .before in
     let n = e .before .before in
-    turned _ _ _ _ _ _ _ _ _ _ _ _ (n .before .before .before .before .loop .inv) (n .before .before .if1 .left) _ _ (n .next-end .ensures) _ _ (e .place-end .ensures) (c .if2 .left)
-
-same-length-3 : tie.Need-same-length-3 Inv-loop μ-loop
-same-length-3 c = c .before .loop .inv .sized
-
-returns-3 : tie.Need-returns-3 Inv-loop μ-loop
-returns-3 c = walked-all _ _ _ _ _ _ _ _ _ _ _ _ (c .before .loop .inv) (c .loop-test .left)
+    turned _ _ _ _ _ _ _ _ _ _ _ _ (n .before .before .loop .inv) _ _ (n .next-relevant .ensures) (unnot (e .if1 .left))
+    _ (t .topology-of .ensures) _ _ (p .place .ensures) (c .if2 .left)
 
 pub list-ends-spec : {M : Type 1} → statement M
 list-ends-spec =
@@ -69,14 +81,12 @@ list-ends-spec =
     Inv-loop
     μ-loop
     loop-holds
+    next-relevant-requires
     same-length
     returns
-    next-end-requires
-    place-end-requires
+    topology-of-requires
+    place-requires
     same-length-2
     returns-2
-    sub-left
     loop-less
-    loop-again
-    same-length-3
-    returns-3)
+    loop-again)
