@@ -1,14 +1,254 @@
-// The test program of what the writer refuses. Each expected value stands beside its vector, taken from document 01 or worked out by hand; a difference is
-// printed, and `trials ended` is the last line. The stored output is that line alone.
-mod unwritten;
+// The test program of what the writer refuses: document 01, "Refused".
+// The output holds a pattern, byte 170, and is left as it was.
+// Each expected value stands beside its vector, taken from document 01 or worked out by hand; a difference is printed, and `trials ended` is the last
+// line. The stored output is that line alone.
+use plan::Header;
+use plan::Writing;
+use vectors::BYTE;
+use vectors::all_bytes;
+use vectors::header;
+use vectors::large_events;
+use vectors::many_links;
+use vectors::same;
 
 fn main() {
-    unwritten::counts();
-    unwritten::threshold_and_cap();
-    unwritten::short_lists();
-    unwritten::short_output();
-    unwritten::ends();
-    unwritten::probabilities();
-    unwritten::sets();
+    counts();
+    threshold_and_cap();
+    short_lists();
+    short_output();
+    short_large_output();
+    no_output();
+    ends();
+    probabilities();
+    sets();
     io::write_all(1, b"trials ended\n");
+}
+
+// Holds the answer of a writing to the number of a refusal, and the output to the pattern.
+fn refused_into(label: &[u8], h: Header, links: &[u8], events: &[u64], out: &mut [u8], want: u64) {
+    match files::write(h, links, events, out) {
+        Writing::Refused(number) => {
+            same(label, number as u64, want);
+        }
+        Writing::Written(_) => {
+            same(label, 0, want);
+        }
+    }
+    all_bytes(label, out, BYTE);
+}
+
+// The same with an output that has room for each of these plans.
+fn refused(label: &[u8], h: Header, links: &[u8], events: &[u64], want: u64) {
+    let mut out = [BYTE; 400];
+    refused_into(label, h, links, events, &mut out, want);
+}
+
+// The triangle's lists, with numbers of its header that are out of range.
+fn numbers(label: &[u8], nodes: u64, links: u64, events: u64, threshold: u64, cap: u64, want: u64) {
+    let h = header(nodes, links, events, threshold, cap);
+    let bytes = b"\x00\x01\x00\x02\x01\x02";
+    let words = [1, 0, 1, 0, 1, 0, 2, 0, 1, 0, 4, 0];
+    refused(label, h, bytes, &words, want);
+}
+
+fn counts() {
+    numbers(b"write no node", 0, 3, 3, 1, 100, 4);
+    numbers(b"write 65 nodes", 65, 3, 3, 1, 100, 4);
+    numbers(b"write 256 + 3 nodes", 259, 3, 3, 1, 100, 4);
+    numbers(b"write 129 links", 3, 129, 3, 1, 100, 4);
+    numbers(b"write 256 + 3 links", 3, 259, 3, 1, 100, 4);
+    numbers(b"write 129 events", 3, 3, 129, 1, 100, 4);
+    numbers(
+        b"write 2^64 - 1 events",
+        3,
+        3,
+        18_446_744_073_709_551_615,
+        1,
+        100,
+        4,
+    );
+    numbers(b"write: 4 before 5", 0, 3, 3, 0, 100, 4);
+}
+
+fn threshold_and_cap() {
+    numbers(b"write threshold 0", 3, 3, 3, 0, 100, 5);
+    numbers(
+        b"write threshold 10^18 + 1",
+        3,
+        3,
+        3,
+        1_000_000_000_000_000_001,
+        100,
+        5,
+    );
+    numbers(b"write: 5 before 6", 3, 3, 3, 0, 0, 5);
+    numbers(b"write cap 0", 3, 3, 3, 1, 0, 6);
+    numbers(b"write cap 1,000,001", 3, 3, 3, 1, 1_000_001, 6);
+    // 4,294,967,296 is 2^32: the low four bytes alone would be a cap of 100
+    numbers(b"write cap 2^32 + 100", 3, 3, 3, 1, 4_294_967_396, 6);
+}
+
+// 12 for a list: 3 links take 6 bytes and 3 events 12 words.
+fn short_lists() {
+    let h = header(3, 3, 3, 1, 100);
+    let links = b"\x00\x01\x00\x02\x01\x02";
+    let events = [1, 0, 1, 0, 1, 0, 2, 0, 1, 0, 4, 0];
+    refused(
+        b"write 3 links of 5 bytes",
+        h,
+        b"\x00\x01\x00\x02\x01",
+        &events,
+        12,
+    );
+    refused(
+        b"write 3 events of 11 words",
+        h,
+        links,
+        &[1, 0, 1, 0, 1, 0, 2, 0, 1, 0, 4],
+        12,
+    );
+    refused(
+        b"write: 6 before 12",
+        header(3, 3, 3, 1, 0),
+        b"\x00",
+        &events,
+        6,
+    );
+    refused(
+        b"write: 12 for the events before 7",
+        h,
+        b"\x01\x00\x00\x02\x01\x02",
+        &[1, 0, 1, 0],
+        12,
+    );
+}
+
+// 12 for the output, which is one byte short: the triangle takes 47 bytes.
+fn short_output() {
+    let mut out = [BYTE; 46];
+    refused_into(
+        b"write the triangle into 46 bytes",
+        header(3, 3, 3, 1, 100),
+        b"\x00\x01\x00\x02\x01\x02",
+        &[1, 0, 1, 0, 1, 0, 2, 0, 1, 0, 4, 0],
+        &mut out,
+        12,
+    );
+}
+
+// The large plan takes 302 bytes.
+fn short_large_output() {
+    let mut out = [BYTE; 301];
+    refused_into(
+        b"write the large plan into 301 bytes",
+        header(64, 128, 2, 1_000_000_000_000_000_000, 1_000_000),
+        &many_links(),
+        &large_events(),
+        &mut out,
+        12,
+    );
+}
+
+// The third event names link 3 of 3.
+fn no_output() {
+    let mut out = [BYTE; 0];
+    refused_into(
+        b"write: 10 before 12 for the output",
+        header(3, 3, 3, 1, 100),
+        b"\x00\x01\x00\x02\x01\x02",
+        &[1, 0, 1, 0, 1, 0, 2, 0, 1, 0, 8, 0],
+        &mut out,
+        10,
+    );
+}
+
+// 7 in the last of three links.
+fn ends() {
+    let h = header(3, 3, 1, 1, 100);
+    let events = [1, 0, 0, 0];
+    refused(
+        b"write a link to N",
+        h,
+        b"\x00\x01\x00\x02\x01\x03",
+        &events,
+        7,
+    );
+    refused(
+        b"write a link from a node to itself",
+        h,
+        b"\x00\x01\x00\x02\x02\x02",
+        &events,
+        7,
+    );
+    refused(
+        b"write a link with the larger end first",
+        h,
+        b"\x00\x01\x00\x02\x02\x01",
+        &events,
+        7,
+    );
+    refused(
+        b"write: 7 before 8",
+        h,
+        b"\x00\x01\x00\x02\x02\x01",
+        &[1_000_000_001, 0, 0, 0],
+        7,
+    );
+}
+
+// Two nodes, one link and two events, of which the first is right: q = 5 and no member.
+fn second(label: &[u8], q: u64, nodes: u64, low: u64, high: u64, want: u64) {
+    refused(
+        label,
+        header(2, 1, 2, 1, 100),
+        b"\x00\x01",
+        &[5, 0, 0, 0, q, nodes, low, high],
+        want,
+    );
+}
+
+fn probabilities() {
+    second(b"write q = 10^9 + 1", 1_000_000_001, 0, 0, 0, 8);
+    second(
+        b"write q = 2^64 - 1",
+        18_446_744_073_709_551_615,
+        0,
+        0,
+        0,
+        8,
+    );
+    // 4,294,967,296 is 2^32: the low four bytes alone would be a probability of 5
+    second(b"write q = 2^32 + 5", 4_294_967_301, 0, 0, 0, 8);
+    second(b"write q = 6 after 5", 6, 0, 0, 0, 9);
+    second(b"write: 8 before 10", 1_000_000_001, 4, 0, 0, 8);
+    second(b"write: 9 before 10", 6, 4, 0, 0, 9);
+}
+
+// 10: N = 2, so that bit 2 of the nodes is past the count, and one link, so that bit 1 of the links is.
+fn sets() {
+    second(b"write node bit 2 of 2 nodes", 5, 4, 0, 0, 10);
+    second(
+        b"write node bit 63 of 2 nodes",
+        5,
+        9_223_372_036_854_775_808,
+        0,
+        0,
+        10,
+    );
+    second(b"write link bit 1 of 1 link", 5, 0, 2, 0, 10);
+    second(b"write link bit 64 of 1 link", 5, 0, 0, 1, 10);
+    refused(
+        b"write link bit 64 of 64 links",
+        header(64, 64, 1, 1, 100),
+        &many_links(),
+        &[5, 0, 0, 1],
+        10,
+    );
+    refused(
+        b"write link bit 127 of 127 links",
+        header(64, 127, 1, 1, 100),
+        &many_links(),
+        &[5, 0, 0, 9_223_372_036_854_775_808],
+        10,
+    );
 }

@@ -3,6 +3,7 @@ use crate::compare::same;
 use crate::compare::same_part;
 use plan::Header;
 use plan::Reading;
+use plan::Writing;
 use plan::put_bytes;
 
 // What a lent list holds before a call.
@@ -86,6 +87,18 @@ pub fn accepted(label: &[u8], answer: Reading, want: Header) {
             same_part(label, b"events", h.events, want.events);
             same_part(label, b"threshold", h.threshold, want.threshold);
             same_part(label, b"cap", h.limit, want.limit);
+        }
+    }
+}
+
+// Holds the answer of a writing to how many bytes it should lay down.
+pub fn written(label: &[u8], answer: Writing, want: u64) {
+    match answer {
+        Writing::Refused(number) => {
+            same(label, number as u64, 0);
+        }
+        Writing::Written(count) => {
+            same(label, count as u64, want);
         }
     }
 }

@@ -18,3 +18,4 @@ pub use data::header;
 pub use data::large_events;
 pub use data::large_file;
 pub use data::many_links;
+pub use data::written;

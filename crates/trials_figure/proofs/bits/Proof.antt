@@ -1,13 +1,8 @@
--- `trials_readings::figures::bits` is safe: a figure that was given has no NaN, so its bits may be taken. Assumes nothing.
+-- `trials_figure::bits` is safe: a figure that was given has no NaN, so its bits may be taken. Assumes nothing.
 use borrow.Author.Needs.{needs}
 use Rattle.readings.specs.FigureLaws.{given-numbers}
-use Rattle.trials_readings.proofs.figures.bits.Statement.{statement}
-use Rattle.trials_readings.proofs.figures.bits.Tie as tie
-use Rattle.trials_readings.proofs.figures.bits.Reads as reads
-use Rattle.trials_readings.proofs.figures.bits.Lts as lts
-use Rattle.readings.proofs.figure.Reads as figure-reads
-use Rattle.trials_readings.proofs.figures.same_bits.Reads as same-bits-reads
-use Rattle.trials_readings.proofs.figures.same_case.Reads as same-case-reads
+use Rattle.trials_figure.proofs.bits.Statement.{statement}
+use Rattle.trials_figure.proofs.bits.Tie as tie
 
 figure-requires : tie.Need-figure-requires
 figure-requires c κs = search needs

@@ -1,4 +1,7 @@
-// Witness: each plan here has one only, or none.
+// The test program of the witness: document 01, "Further readings of a plan".
+// Each plan here has one witness only, or none.
+// Each expected value stands beside its vector, taken from document 01 or worked out by hand; a difference is printed, and `trials ended` is the last
+// line. The stored output is that line alone.
 use plan::Header;
 use readings::Witnessed;
 use vectors::header;
@@ -8,6 +11,14 @@ use vectors::same_part;
 const TENTH: u64 = 100_000_000_000_000_000;
 
 const WHOLE: u64 = 1_000_000_000_000_000_000;
+
+fn main() {
+    marked();
+    denied();
+    high_word();
+    refused();
+    io::write_all(1, b"trials ended\n");
+}
 
 // Holds a witness to its number and to the two words of its failing events.
 fn failing(
@@ -96,7 +107,7 @@ fn parallel() {
 }
 
 // Marked plans 2 and 8 beside them: the link fails, and node 0 does.
-pub fn marked() {
+fn marked() {
     no_link();
     parallel();
     on_link(b"marked plan 2", 100_000_000, 0, 1, TENTH, 100, 0, 1, 0, 1);
@@ -115,7 +126,7 @@ pub fn marked() {
 }
 
 // 14: marked plans 3 (the scenario is dropped), 4 (it comes after the cap), 7 (it disconnects nothing) and 9 (nothing is examined).
-pub fn denied() {
+fn denied() {
     on_link(
         b"marked plan 3",
         100_000_000,
@@ -161,13 +172,13 @@ fn event_64(label: &[u8], cap: u64, number: u64) {
     );
 }
 
-pub fn high_word() {
+fn high_word() {
     event_64(b"event 64", 66, 0);
     event_64(b"event 64 past the cap", 65, 14);
 }
 
 // The lists' refusals come before 13, and 13 before 14.
-pub fn refused() {
+fn refused() {
     on_link(
         b"13 for equal nodes",
         500_000_000,

@@ -1,10 +1,8 @@
--- `trials_readings::witnesses::certain_events` is safe and ends: the index is at most 64. Assumes nothing.
+-- `trials_witness::certain_events` is safe and ends: the index is at most 64. Assumes nothing.
 use Prim.Native.Nat.{_≤_, _-_}
 use borrow.Author.Needs.{needs}
-use Rattle.trials_readings.proofs.witnesses.certain_events.Statement.{statement}
-use Rattle.trials_readings.proofs.witnesses.certain_events.Tie as tie
-use Rattle.trials_readings.proofs.witnesses.certain_events.Reads as reads
-use Rattle.trials_readings.proofs.witnesses.certain_events.Lts as lts
+use Rattle.trials_witness.proofs.certain_events.Statement.{statement}
+use Rattle.trials_witness.proofs.certain_events.Tie as tie
 
 abbrev Inv-loop : tie.InvT-loop
 Inv-loop events₀ i₀ events i = i ≤ 64

@@ -1,103 +1,24 @@
-// The check of a plan file: document 01, "Plan file" and "Refused". A header is 20 bytes: RSG, version 1, nodes, links, events, the threshold
-// in 8 bytes and the cap in 4, here 1 and 100 unless the vector is about them.
+// The test program of the check of a plan file past its header: document 01, "Plan file" and "Refused".
+// A header is 20 bytes: RSG, version 1, nodes, links, events, the threshold in 8 bytes and the cap in 4, here 1 and 100
+// unless the vector is about them.
+// Each expected value stands beside its vector, taken from document 01 or worked out by hand; a difference is printed, and `trials ended` is the last
+// line. The stored output is that line alone.
 use vectors::same;
+
+fn main() {
+    links();
+    events();
+    members();
+    rising_members();
+    lengths();
+    io::write_all(1, b"trials ended\n");
+}
 
 fn number(label: &[u8], plan: &[u8], want: u64) {
     same(label, plan::check(plan) as u64, want);
 }
 
-pub fn header() {
-    number(b"empty", b"", 1);
-    number(
-        b"a header of 19 bytes",
-        b"RSG\x01\x00\x02\x00\x00\x01\x00\x00\x00\x00\x00\x00\x00\x64\x00\x00",
-        1,
-    );
-    number(b"the length before the mark", b"RSH\x01\x00", 1);
-    number(
-        b"mark",
-        b"RSH\x01\x00\x02\x00\x00\x01\x00\x00\x00\x00\x00\x00\x00\x64\x00\x00\x00",
-        2,
-    );
-    number(
-        b"the mark before the version",
-        b"rSG\x02\x00\x02\x00\x00\x01\x00\x00\x00\x00\x00\x00\x00\x64\x00\x00\x00",
-        2,
-    );
-    number(
-        b"version",
-        b"RSG\x01\x01\x02\x00\x00\x01\x00\x00\x00\x00\x00\x00\x00\x64\x00\x00\x00",
-        3,
-    );
-    number(
-        b"two nodes and nothing else",
-        b"RSG\x01\x00\x02\x00\x00\x01\x00\x00\x00\x00\x00\x00\x00\x64\x00\x00\x00",
-        0,
-    );
-}
-
-pub fn counts() {
-    number(
-        b"no node",
-        b"RSG\x01\x00\x00\x00\x00\x01\x00\x00\x00\x00\x00\x00\x00\x64\x00\x00\x00",
-        4,
-    );
-    number(
-        b"65 nodes",
-        b"RSG\x01\x00\x41\x00\x00\x01\x00\x00\x00\x00\x00\x00\x00\x64\x00\x00\x00",
-        4,
-    );
-    number(
-        b"64 nodes",
-        b"RSG\x01\x00\x40\x00\x00\x01\x00\x00\x00\x00\x00\x00\x00\x64\x00\x00\x00",
-        0,
-    );
-    number(
-        b"129 links",
-        b"RSG\x01\x00\x02\x81\x00\x01\x00\x00\x00\x00\x00\x00\x00\x64\x00\x00\x00",
-        4,
-    );
-    number(
-        b"129 events",
-        b"RSG\x01\x00\x02\x00\x81\x01\x00\x00\x00\x00\x00\x00\x00\x64\x00\x00\x00",
-        4,
-    );
-}
-
-pub fn threshold_and_cap() {
-    number(
-        b"threshold 0",
-        b"RSG\x01\x00\x02\x00\x00\x00\x00\x00\x00\x00\x00\x00\x00\x64\x00\x00\x00",
-        5,
-    );
-    number(
-        b"threshold 10^18 + 1",
-        b"RSG\x01\x00\x02\x00\x00\x01\x00\x64\xa7\xb3\xb6\xe0\x0d\x64\x00\x00\x00",
-        5,
-    );
-    number(
-        b"threshold 10^18",
-        b"RSG\x01\x00\x02\x00\x00\x00\x00\x64\xa7\xb3\xb6\xe0\x0d\x64\x00\x00\x00",
-        0,
-    );
-    number(
-        b"cap 0",
-        b"RSG\x01\x00\x02\x00\x00\x01\x00\x00\x00\x00\x00\x00\x00\x00\x00\x00\x00",
-        6,
-    );
-    number(
-        b"cap 1,000,001",
-        b"RSG\x01\x00\x02\x00\x00\x01\x00\x00\x00\x00\x00\x00\x00\x41\x42\x0f\x00",
-        6,
-    );
-    number(
-        b"cap 1,000,000",
-        b"RSG\x01\x00\x02\x00\x00\x01\x00\x00\x00\x00\x00\x00\x00\x40\x42\x0f\x00",
-        0,
-    );
-}
-
-pub fn links() {
+fn links() {
     number(
         b"a link that is cut off",
         b"RSG\x01\x00\x02\x01\x00\x01\x00\x00\x00\x00\x00\x00\x00\x64\x00\x00\x00\x00",
@@ -130,7 +51,7 @@ pub fn links() {
     );
 }
 
-pub fn events() {
+fn events() {
     number(
         b"an event of four bytes",
         b"RSG\x01\x00\x02\x00\x01\x01\x00\x00\x00\x00\x00\x00\x00\x64\x00\x00\x00\x00\x00\x00\x00",
@@ -163,7 +84,7 @@ pub fn events() {
     );
 }
 
-pub fn members() {
+fn members() {
     number(
         b"a member that is cut off",
         b"RSG\x01\x00\x02\x00\x01\x01\x00\x00\x00\x00\x00\x00\x00\x64\x00\x00\x00\x01\x00\x00\x00\x01\x00",
@@ -186,7 +107,7 @@ pub fn members() {
     );
 }
 
-pub fn rising_members() {
+fn rising_members() {
     number(
         b"a member twice",
         b"RSG\x01\x00\x02\x00\x01\x01\x00\x00\x00\x00\x00\x00\x00\x64\x00\x00\x00\x01\x00\x00\x00\x02\x00\x01\x00\x01",
@@ -210,7 +131,7 @@ pub fn rising_members() {
 }
 
 // The triangle of document 01, and plans of all bytes.
-pub fn lengths() {
+fn lengths() {
     number(
         b"the triangle",
         b"RSG\x01\x00\x03\x03\x03\x01\x00\x00\x00\x00\x00\x00\x00\x64\x00\x00\x00\x00\x01\x00\x02\x01\x02\x01\x00\x00\x00\x01\x01\x00\x01\x00\x00\x00\x01\x01\x01\x01\x00\x00\x00\x01\x01\x02",
