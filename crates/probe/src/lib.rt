@@ -1,5 +1,5 @@
-// Exports for the tests in Rust, the benchmark and the text tool `planner`, not part of the product. Each returns the number of the refusal, or 0;
-// where it refuses, every number that it hands out is 0. A list of numbers that is handed out is used only where it has room.
+// Exports for the tests in Rust, the benchmark and the text tool `planner`, not part of the product. Each returns the number of the refusal,
+// or 0; where it refuses, every number that it hands out is 0. A list of numbers that is handed out is used only where it has room.
 // Assumes nothing.
 mod by_records;
 mod further;
