@@ -1,5 +1,5 @@
--- The number and the values that an export hands out for each case of an answer. The number is that of the refusal, or 0; the values are all
--- 0 where the answer is a refusal.
+-- The number and the values that an export hands out for each case of an answer. The number is that of the refusal, or 0; the values are
+-- all 0 where the answer is a refusal.
 -- Assumes nothing.
 use mathlib.Core.Path.{_≡_}
 use mathlib.Core.List.{List, [], _∷_}
