@@ -1,13 +1,12 @@
--- The number and the values that an export hands out for each case of an answer. The number is that of the refusal, or 0; the values are all 0
--- where the answer is a refusal.
+-- The number and the values that an export hands out for each case of an answer. The number is that of the refusal, or 0; the values are
+-- all 0 where the answer is a refusal.
 -- Assumes nothing.
-use mathlib.Core.Path.{_≡_, refl}
+use mathlib.Core.Path.{_≡_}
 use mathlib.Core.List.{List, [], _∷_}
-use Prim.Native.Nat.{ℕ, zero, suc}
+use Prim.Native.Nat.{ℕ}
 use lib.Ieee.{binary64, toBits}
 use Rattle.plan.specs.Plan.{Plan}
-use Rattle.plan.specs.Records.{planOfLists}
-use Rattle.plan.specs.Calls.{readAnswer, headerIn, writeAnswer}
+use Rattle.plan.specs.Calls.{headerIn}
 use Rattle.plan.specs.declared.Header.{Header}
 use Rattle.plan.specs.declared.Reading.{Reading}
 use Rattle.plan.specs.declared.Reading.the-variants as reading
@@ -15,25 +14,19 @@ use Rattle.plan.specs.declared.Writing.{Writing}
 use Rattle.plan.specs.declared.Writing.the-variants as writing
 use Rattle.walk.specs.Walk.{examined}
 use Rattle.walk.specs.declared.Failing.{Failing}
-use Rattle.bounds.specs.Calls.{ranAnswer, totalsIn, pairAnswer, boundsIn}
-use Rattle.bounds.specs.declared.Totals.{Totals}
+use Rattle.bounds.specs.Calls.{totalsIn, boundsIn}
 use Rattle.bounds.specs.declared.Ran.{Ran}
 use Rattle.bounds.specs.declared.Ran.the-variants as ran
-use Rattle.bounds.specs.declared.PairBounds.{PairBounds}
 use Rattle.bounds.specs.declared.Paired.{Paired}
 use Rattle.bounds.specs.declared.Paired.the-variants as paired
-use Rattle.readings.specs.Figure.{figureAnswer}
 use Rattle.readings.specs.Witness.{witnessAnswer, failingIn, Shows}
-use Rattle.readings.specs.Downtime.{downtimeAnswer, secondsIn}
-use Rattle.readings.specs.declared.Shares.{Shares}
+use Rattle.readings.specs.Downtime.{secondsIn}
 use Rattle.readings.specs.declared.Figured.{Figured}
 use Rattle.readings.specs.declared.Figured.the-variants as figured
 use Rattle.readings.specs.declared.Witnessed.{Witnessed}
 use Rattle.readings.specs.declared.Witnessed.the-variants as witnessed
-use Rattle.readings.specs.declared.Seconds.{Seconds}
 use Rattle.readings.specs.declared.Timed.{Timed}
 use Rattle.readings.specs.declared.Timed.the-variants as timed
-use Rattle.topologies.specs.Calls.{listedAnswer}
 use Rattle.topologies.specs.declared.Listed.{Listed}
 use Rattle.topologies.specs.declared.Listed.the-variants as listed
 use Rattle.answers.specs.Laid.{laid}

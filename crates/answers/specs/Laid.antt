@@ -15,7 +15,8 @@ sets-tail : (x : ℕ) (list : List ℕ) (i : ℕ) (numbers : List ℕ) → sets 
 sets-tail x list i [] = refl
 sets-tail x list i (a ∷ numbers) = sets-tail x (set list i a) (suc i) numbers
 
--- law: with no number the list is as it was; a list with no entry stays so; else the first number stands first, and the others are laid down in the tail
+-- law: with no number the list is as it was; a list with no entry stays so; else the first number stands first, and the others are laid
+-- down in the tail
 pub laid-none : (list : List ℕ) → laid [] list ≡ list
 laid-none list = refl
 

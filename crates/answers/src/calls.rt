@@ -8,7 +8,8 @@ use plan::Reading;
 use plan::Writing;
 ghost use mathlib.Core.Path.{_≡_};
 ghost use Rattle.answers.specs.Laid.{laid};
-ghost use Rattle.answers.specs.Answers.{readNumber, headerValues, writtenNumber, sizeValues, ranNumber, totalsValues, pairedNumber, boundsValues};
+ghost use Rattle.answers.specs.Answers.{readNumber, headerValues, writtenNumber, sizeValues};
+ghost use Rattle.answers.specs.Answers.{ranNumber, totalsValues, pairedNumber, boundsValues};
 
 // The five numbers of the plan that was read.
 pub fn give_header(answer: Reading, numbers: &mut [u64]) -> u32

@@ -14,7 +14,8 @@ use Rattle.readings.specs.Downtime.{downtimeAnswer}
 use Rattle.readings.specs.declared.Shares.{Shares}
 use Rattle.readings.specs.declared.Seconds.{Seconds}
 use Rattle.topologies.specs.Calls.{listedAnswer}
-use Rattle.answers.specs.Answers.{readNumber, writtenNumber, ranNumber, pairedNumber, listedNumber, figuredNumber, timedNumber, witnessedNumber}
+use Rattle.answers.specs.Answers.{readNumber, writtenNumber, ranNumber, pairedNumber, listedNumber}
+use Rattle.answers.specs.Answers.{figuredNumber, timedNumber, witnessedNumber}
 
 pub read-back : (n : ℕ) (h : Header) → readNumber (readAnswer n h) ≡ n
 read-back zero h = refl

@@ -1,5 +1,6 @@
-// Exports for the tests in Rust, the benchmark and the text tool `planner`, not part of the product. Each returns the number of the refusal, or 0;
-// where it refuses, every number that it hands out is 0. A list of numbers that is handed out is used only where it has room.
+// Exports for the tests in Rust, the benchmark and the text tool `planner`, not part of the product. Each returns the number of the
+// refusal, or 0; where it refuses, every number that it hands out is 0. A list of numbers that is handed out is used only where it has
+// room.
 // Assumes nothing.
 mod by_records;
 mod further;
@@ -35,7 +36,8 @@ pub extern "C" fn probe_read(
 ) -> u32
     ensures number { λ r. ⌜ r ≡ readRefusal
         (length (now (links .entry))) (length (now (events .entry)) / 4) (now (plan .entry)) ⌝ }
-    ensures numbers { λ r. ⌜ now (numbers .exit) ≡ laid (headerValues (readAnswer r (headerOf (now (plan .entry))))) (now (numbers .entry)) ⌝ }
+    ensures numbers { λ r. ⌜ now (numbers .exit) ≡ laid
+        (headerValues (readAnswer r (headerOf (now (plan .entry))))) (now (numbers .entry)) ⌝ }
     ensures links { λ r. ⌜ now (links .exit) ≡ filled r (linkBytes (planOf (now (plan .entry)) .links)) (now (links .entry)) ⌝ }
     ensures events { λ r. ⌜ now (events .exit) ≡ filled r (eventWords (planOf (now (plan .entry)) .events)) (now (events .entry)) ⌝ }
 {
@@ -67,7 +69,8 @@ pub extern "C" fn probe_write(
     size: &mut [u64],
 ) -> u32
     ensures number { λ r. ⌜ r ≡ writeRefusal (headerWith nodes «links_count» «events_count» threshold limit)
-        (length (now (links .entry))) (length (now (events .entry)) / 4) (now (links .entry)) (now (events .entry)) (length (now (out .entry))) ⌝ }
+        (length (now (links .entry))) (length (now (events .entry)) / 4) (now (links .entry)) (now (events .entry))
+        (length (now (out .entry))) ⌝ }
     ensures out { λ r. ⌜ now (out .exit) ≡ filled r (layout
         (planOfLists (headerWith nodes «links_count» «events_count» threshold limit) (now (links .entry)) (now (events .entry))))
         (now (out .entry)) ⌝ }

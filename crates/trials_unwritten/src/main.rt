@@ -162,38 +162,18 @@ fn no_output() {
     );
 }
 
-// 7 in the last of three links.
+// 7 in the last of three links, from a to b, with an event of probability q.
+fn last_link(label: &[u8], a: u8, b: u8, q: u64) {
+    let links = [0, 1, 0, 2, a, b];
+    let events = [q, 0, 0, 0];
+    refused(label, header(3, 3, 1, 1, 100), &links, &events, 7);
+}
+
 fn ends() {
-    let h = header(3, 3, 1, 1, 100);
-    let events = [1, 0, 0, 0];
-    refused(
-        b"write a link to N",
-        h,
-        b"\x00\x01\x00\x02\x01\x03",
-        &events,
-        7,
-    );
-    refused(
-        b"write a link from a node to itself",
-        h,
-        b"\x00\x01\x00\x02\x02\x02",
-        &events,
-        7,
-    );
-    refused(
-        b"write a link with the larger end first",
-        h,
-        b"\x00\x01\x00\x02\x02\x01",
-        &events,
-        7,
-    );
-    refused(
-        b"write: 7 before 8",
-        h,
-        b"\x00\x01\x00\x02\x02\x01",
-        &[1_000_000_001, 0, 0, 0],
-        7,
-    );
+    last_link(b"write a link to N", 1, 3, 1);
+    last_link(b"write a link from a node to itself", 2, 2, 1);
+    last_link(b"write a link with the larger end first", 2, 1, 1);
+    last_link(b"write: 7 before 8", 2, 1, 1_000_000_001);
 }
 
 // Two nodes, one link and two events, of which the first is right: q = 5 and no member.
@@ -224,6 +204,18 @@ fn probabilities() {
     second(b"write: 9 before 10", 6, 4, 0, 0, 9);
 }
 
+// 64 nodes, and an event whose links 64 to 127 are a set that is past the count of links.
+fn past_the_links(label: &[u8], count: u64, high: u64) {
+    let events = [5, 0, 0, high];
+    refused(
+        label,
+        header(64, count, 1, 1, 100),
+        &many_links(),
+        &events,
+        10,
+    );
+}
+
 // 10: N = 2, so that bit 2 of the nodes is past the count, and one link, so that bit 1 of the links is.
 fn sets() {
     second(b"write node bit 2 of 2 nodes", 5, 4, 0, 0, 10);
@@ -237,18 +229,10 @@ fn sets() {
     );
     second(b"write link bit 1 of 1 link", 5, 0, 2, 0, 10);
     second(b"write link bit 64 of 1 link", 5, 0, 0, 1, 10);
-    refused(
-        b"write link bit 64 of 64 links",
-        header(64, 64, 1, 1, 100),
-        &many_links(),
-        &[5, 0, 0, 1],
-        10,
-    );
-    refused(
+    past_the_links(b"write link bit 64 of 64 links", 64, 1);
+    past_the_links(
         b"write link bit 127 of 127 links",
-        header(64, 127, 1, 1, 100),
-        &many_links(),
-        &[5, 0, 0, 9_223_372_036_854_775_808],
-        10,
+        127,
+        9_223_372_036_854_775_808,
     );
 }

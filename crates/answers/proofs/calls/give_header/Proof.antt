@@ -29,10 +29,9 @@ same-length c = search needs
 returns : tie.Need-returns
 returns c =
     let k = c .before .before .before .before .before in
-    let d = k .before .before .before .before .before .before .before .before .give-three .ensures in
-    let e = rw (k .before .before .before .before .before .before .before .before .before .before .header-in .ensures) at d in
-    let f = rw e at (k .before .before .before .before .put .ensures) in
-    (sym (ap readNumber (c .before .answer .given .1)), rw (rw (k .before .before .before .before .before .before .before .before .before .before .header-in .ensures) at f) at (rw (k .before .before .before .before .before .before .before .before .before .before .header-in .ensures) at (k .put2 .ensures)))
+    let j = k .before .before .before .before .before .before .before .before in
+    let e = rw (j .give-three .ensures) at (k .before .before .before .before .put .ensures) in
+    (sym (ap readNumber (c .before .answer .given .1)), rw (j .before .before .header-in .ensures) at (rw e at (k .put2 .ensures)))
 
 same-length-2 : tie.Need-same-length-2
 same-length-2 c = search needs
@@ -40,10 +39,9 @@ same-length-2 c = search needs
 returns-2 : tie.Need-returns-2
 returns-2 c =
     let k = c .before .before .before .before in
-    let d = k .before .before .before .before .before .before .before .before .give-three .ensures in
-    let e = rw (k .before .before .before .before .before .before .before .before .before .before .header-in .ensures) at d in
-    let f = rw e at (k .before .before .before .before .put .ensures) in
-    (sym (ap readNumber (c .enum-told .given .1)), rw (rw (k .before .before .before .before .before .before .before .before .before .before .header-in .ensures) at f) at (rw (k .before .before .before .before .before .before .before .before .before .before .header-in .ensures) at (k .put2 .ensures)))
+    let j = k .before .before .before .before .before .before .before .before in
+    let e = rw (j .give-three .ensures) at (k .before .before .before .before .put .ensures) in
+    (sym (ap readNumber (c .enum-told .given .1)), rw (j .before .before .header-in .ensures) at (rw e at (k .put2 .ensures)))
 
 pub give-header-spec : {M : Type 1} → statement M
 give-header-spec =
