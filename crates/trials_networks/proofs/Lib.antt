@@ -1,2 +1,0 @@
--- Laws that the proofs of the crate `trials` share.
-pub mod Held
