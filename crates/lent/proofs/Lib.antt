@@ -1,3 +1,4 @@
 -- Laws of lent lists that proofs share.
 pub mod ListLaws
 pub mod CopyLaws
+pub mod Accepted

@@ -1,4 +1,4 @@
-// Lent lists: copying them, and the number with which they are refused, in the writer's order.
+// Lent lists: copying them, the number with which they are refused, in the writer's order, and one way in for every call that takes them: `accept`.
 // Assumes nothing.
 use plan::Header;
 use plan::byte_at;
@@ -9,6 +9,7 @@ ghost use lib.Seq.{sets};
 ghost use Rattle.mass.specs.Split.{certain};
 ghost use Rattle.plan.specs.Lists.{linksOf, eventsOf};
 ghost use Rattle.plan.specs.Records.{linkListRefusal, eventListRefusal, listsRefusal};
+ghost use Rattle.lent.specs.Taken.{listsNumber, Taken};
 
 // Lays the first `count` bytes of a list down from a position on.
 pub fn put_bytes(from: &[u8], to: &mut [u8], at: usize, count: usize)
@@ -42,8 +43,9 @@ pub fn copy_words(from: &[u64], to: &mut [u64], count: usize)
     }
 }
 
-// Takes the first bytes and words of lent lists into the arrays.
-pub fn load(links: &[u8], events: &[u64], bytes: &mut [u8; 256], words: &mut [u64; 512])
+// Takes the first bytes and words of lent lists into the arrays, and says how long the arrays are.
+fn load(links: &[u8], events: &[u64], bytes: &mut [u8; 256], words: &mut [u64; 512])
+    ensures { λ r. ⌜ (length (now (bytes .entry)) ≡ 256) × (length (now (words .entry)) ≡ 512) ⌝ }
     ensures { λ r. ⌜ now (bytes .exit) ≡ sets (now (bytes .entry)) 0 (take (min (length (now (links .entry))) 256) (now (links .entry))) ⌝ }
     ensures { λ r. ⌜ now (words .exit) ≡ sets (now (words .entry)) 0 (take (min (length (now (events .entry))) 512) (now (events .entry))) ⌝ }
 {
@@ -144,4 +146,21 @@ pub fn lists_refusal(
         return ends;
     }
     event_list_refusal(words, h.events, h.nodes, h.links)
+}
+
+// Takes a header and lent lists into the arrays, and answers the number with which they are refused.
+pub fn accept(
+    h: Header,
+    links: &[u8],
+    events: &[u64],
+    bytes: &mut [u8; 256],
+    words: &mut [u64; 512],
+) -> u32
+    ensures number { λ r. ⌜ r ≡ listsNumber h (now (links .entry)) (now (events .entry)) ⌝ }
+    ensures taken { λ r. ⌜ (r ≡ 0 → Taken h (now (links .entry)) (now (events .entry)) (now (bytes .exit)) (now (words .exit))) ⌝ }
+    ensures bytes { λ r. ⌜ now (bytes .exit) ≡ sets (now (bytes .entry)) 0 (take (min (length (now (links .entry))) 256) (now (links .entry))) ⌝ }
+    ensures words { λ r. ⌜ now (words .exit) ≡ sets (now (words .entry)) 0 (take (min (length (now (events .entry))) 512) (now (events .entry))) ⌝ }
+{
+    load(links, events, bytes, words);
+    lists_refusal(h, links.len(), events.len() / 4, bytes, words)
 }

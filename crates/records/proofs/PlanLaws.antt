@@ -1,49 +1,112 @@
--- Laws of a plan that is written from a list of records.
+-- A plan given by a list of records uses no record past the first 128: no plan has more events, and a list of records has room for them or not
+-- whether or not it is longer.
 -- Assumes nothing.
-use mathlib.Core.Path.{_≡_, refl}
-use mathlib.Core.List.{List}
-use Prim.Native.Nat.{ℕ, _+_, _*_, _≤_, min}
+use mathlib.Core.Path.{_≡_, refl, sym, ap, _∙_}
+use mathlib.Core.Bool.{Bool, true, false}
+use mathlib.Core.List.{List, [], _∷_}
+use Prim.Native.Nat.{ℕ, zero, suc, _*_, _/_, _≤_, _<_, min}
 use native.Mathlib.Omega.{arith}
-use lib.ListN.{length, take, drop, length-take}
-use lib.Seq.{sets, sets-eq, take-append-le, take-take}
-use Rattle.mass.specs.Refusal.{first, first-none}
-use Rattle.plan.specs.Records.{planOfLists}
+use borrow.Author.Tests.{ltb-true, ltb-false, lt-ltb, le-ltb}
+use lib.Dec.{ltb}
+use lib.ListN.{length, take, length-take}
+use lib.Seq.{sets, sets-eq, take-at, take-take}
+use Rattle.mass.specs.Refusal.{refuse, first, first-none}
+use Rattle.mass.specs.Split.{certain}
+use Rattle.plan.specs.Plan as plan
+use Rattle.plan.specs.Plan.{Plan}
+use Rattle.plan.specs.Lists.{linksOf, eventsOf}
+use Rattle.plan.specs.Layout.{layout}
+use Rattle.refusals.specs.Tests.{roomTest}
+use Rattle.plan.specs.Records.{planOfLists, listsRefusal, linkListRefusal, eventListRefusal}
+use Rattle.plan.specs.Calls.{filled, writeRefusal, writeAnswer}
 use Rattle.plan.specs.declared.Header.{Header}
 use Rattle.plan.specs.declared.Writing.{Writing}
 use Rattle.refusals.proofs.TestLaws.{Ranges, counts-none, room-none}
-use Rattle.lent.proofs.CopyLaws.{countsAndRooms, same-plan, copied}
-use Rattle.writer.proofs.WriterAnswer.{Outcome, same-outcome}
+use Rattle.lent.specs.Taken.{listsNumber}
+use Rattle.lent.proofs.CopyLaws.{same-plan}
+use Rattle.writer.proofs.WriterAnswer.{Outcome}
 use Rattle.records.specs.Events.{wordsOf}
 use Rattle.records.specs.declared.Event.{Event}
 use Rattle.records.proofs.EventLaws.{length-words, take-words}
 
--- a copy of the first 256 bytes of the links denotes the same plan
-pub copied-links : (h : Header) (links words bytes : List ℕ) (m room : ℕ)
-    → length bytes ≡ 256 → m ≡ min (length links) 256
-    → first (countsAndRooms h (length links) room) ≡ 0
-    → planOfLists h (sets bytes 0 (take m links)) words ≡ planOfLists h links words
-copied-links h links words bytes m room b e z =
-    let one = first-none _ _ z in
-    let four = first-none _ _ (first-none _ _ (first-none _ _ (one .1) .1) .1) in
-    let fit : Ranges (h .nodes) (h .links) (h .events) = counts-none _ _ _ (one .0) in
-    let l : 2 * h .links ≤ length links = room-none _ _ (four .0) in
-    same-plan h _ _ _ _ (copied links bytes m (2 * h .links) (omega arith) (omega arith) (omega arith)) refl
+-- the later tests matter only where the first one does not refuse
+first-same : (a : ℕ) (xs ys : List ℕ) → (a ≡ 0 → first xs ≡ first ys) → first (a ∷ xs) ≡ first (a ∷ ys)
+unfolding first
+first-same zero xs ys h = h refl
+first-same (suc n) xs ys h = refl
 
--- the first 128 records have the words that are used
-pub written-list : (h : Header) (links out left room : List ℕ) (es : List Event) (answer : Writing) → length room ≡ 512
-    → Outcome h (length links) (length es) links (sets room 0 (wordsOf (take 128 es))) out left answer
-    → Outcome h (length links) (length es) links (wordsOf es) out left answer
-written-list h links out left room es answer long =
-    same-outcome h (length links) (length es) links links _ (wordsOf es) out left answer
-    (λ z.
-    let one = first-none _ _ z in
-    let four = first-none _ _ (first-none _ _ (first-none _ _ (one .1) .1) .1) in
-    let fit : Ranges (h .nodes) (h .links) (h .events) = counts-none _ _ _ (one .0) in
-    let v : h .events ≤ length es = room-none _ _ (first-none _ _ (four .1) .0) in
-    same-plan h _ _ _ _ refl (used (h .events) (omega arith) v))
+-- two rooms that have room for the same
+room-same : (a b k : ℕ) → (b < k → a < k) → (k ≤ b → k ≤ a) → roomTest a k ≡ roomTest b k
+room-same a b k l r = ap (λ (t : Bool). refuse t 12) (go (ltb b k) refl)
   where
-    used : (k : ℕ) → k ≤ 128 → k ≤ length es → take (4 * k) (sets room 0 (wordsOf (take 128 es))) ≡ take (4 * k) (wordsOf es)
-    used k few some =
-        let n = length-words (take 128 es) in
-        let m : length (take 128 es) ≡ min 128 (length es) = length-take 128 es in
-        rw (sets-eq (wordsOf (take 128 es)) room 0 (omega (arith, n, m)), take-append-le (4 * k) (wordsOf (take 128 es)) (drop (0 + length (wordsOf (take 128 es))) room) (omega (arith, n, m)), take-words k (take 128 es), take-words k es, take-take k 128 es few)
+    go : (t : Bool) → ltb b k ≡ t → ltb a k ≡ ltb b k
+    go true e = lt-ltb a k (l (ltb-true b k e)) ∙ sym (lt-ltb b k (ltb-true b k e))
+    go false e = le-ltb a k (r (ltb-false b k e)) ∙ sym (le-ltb b k (ltb-false b k e))
+
+-- the words that `flatten` leaves, and the part of them that a call is given
+pub used-words : (es : List Event) (room : List ℕ) → length room ≡ 512
+    → take (4 * min (length es) 128) (sets room 0 (wordsOf (take 128 es))) ≡ wordsOf (take 128 es)
+used-words es room long =
+    let n = length-words (take 128 es) in
+    let m : length (take 128 es) ≡ min 128 (length es) = length-take 128 es in
+    rw (sets-eq (wordsOf (take 128 es)) room 0 (omega (arith, n, m))) (take-at (wordsOf (take 128 es)) _ (4 * min (length es) 128) (omega (arith, n, m)))
+
+-- the words of the first 128 records, and of all, where the list has room for `room` events
+module _ (h : Header) (ks : List ℕ) (es : List Event) (room : ℕ) (is : room ≡ length es) where
+  abbrev few : List ℕ
+  few = wordsOf (take 128 es)
+
+  abbrev all : List ℕ
+  all = wordsOf es
+
+  denote-same : h .events ≤ 128 → h .events ≤ room → planOfLists h ks few ≡ planOfLists h ks all
+  denote-same c r = same-plan h _ _ _ _ refl (take-words (h .events) (take 128 es) ∙ ap wordsOf (take-take (h .events) 128 es c) ∙ sym (take-words (h .events) es))
+
+  -- they are refused with the same number
+  pub lists-same : listsNumber h ks few ≡ listsRefusal h (length ks) room ks all
+  unfolding listsRefusal planOfLists
+  lists-same =
+      first-same _ _ _ (λ c.
+      let fit : Ranges (h .nodes) (h .links) (h .events) = counts-none _ _ _ c in
+      first-same _ _ _ (λ _. first-same _ _ _ (λ _. first-same _ _ _ (λ _.
+      ap (λ (t : ℕ). first (t ∷ linkListRefusal (h .nodes) (linksOf (h .links) ks) ∷ eventListRefusal (h .nodes) (h .links) certain (eventsOf (h .events) few) ∷ []))
+      (room-same (length few / 4) room (h .events) (λ l. omega (arith, n, m)) (λ l. omega (arith, n, m)))
+      ∙ first-same _ _ _ (λ z.
+      ap (λ (v : List plan.Event). first (linkListRefusal (h .nodes) (linksOf (h .links) ks) ∷ eventListRefusal (h .nodes) (h .links) certain v ∷ []))
+      (ap (λ (p : Plan). p .events) (denote-same (fit .events-fit) (room-none _ _ z))))))))
+    where
+      n : length few ≡ 4 * length (take 128 es)
+      n = length-words (take 128 es)
+
+      m : length (take 128 es) ≡ min 128 (length es)
+      m = length-take 128 es
+
+  -- and denote the same plan where they are not refused
+  pub plan-same : listsRefusal h (length ks) room ks all ≡ 0 → planOfLists h ks few ≡ planOfLists h ks all
+  unfolding listsRefusal
+  plan-same e =
+      let c = first-none _ _ e in
+      let r = first-none _ _ (first-none _ _ (first-none _ _ (first-none _ _ (c .1) .1) .1) .1) in
+      let fit : Ranges (h .nodes) (h .links) (h .events) = counts-none _ _ _ (c .0) in
+      denote-same (fit .events-fit) (room-none _ _ (r .0))
+
+  -- so the same is told of them, where a refusal tells nothing of the plan
+  pub told-all : {B : Type 0} (f : ℕ → Plan → B) → ((n : ℕ) (p q : Plan) → f (suc n) p ≡ f (suc n) q)
+      → f (listsNumber h ks few) (planOfLists h ks few) ≡ f (listsRefusal h (length ks) room ks all) (planOfLists h ks all)
+  told-all {B} f silent = ap (λ (n : ℕ). f n (planOfLists h ks few)) lists-same ∙ go (listsRefusal h (length ks) room ks all) plan-same
+    where
+      go : (n : ℕ) → (n ≡ 0 → planOfLists h ks few ≡ planOfLists h ks all) → f n (planOfLists h ks few) ≡ f n (planOfLists h ks all)
+      go zero same = ap (f zero) (same refl)
+      go (suc n) same = silent n _ _
+
+-- a plan written from the words of the first 128 records is that of all of them
+pub written-list : (h : Header) (links out left : List ℕ) (es : List Event) (answer : Writing)
+    → Outcome h (length links) (length (wordsOf (take 128 es)) / 4) links (wordsOf (take 128 es)) out left answer
+    → Outcome h (length links) (length es) links (wordsOf es) out left answer
+unfolding writeRefusal first
+written-list h links out left es answer (a, l) = (
+  a ∙ told-all h links es (length es) refl
+      (λ n p. writeAnswer (first (n ∷ roomTest (length out) (length (layout p)) ∷ [])) (length (layout p))) (λ n p q. refl),
+  l ∙ told-all h links es (length es) refl
+      (λ n p. filled (first (n ∷ roomTest (length out) (length (layout p)) ∷ [])) (layout p) out) (λ n p q. refl),
+)

@@ -4,30 +4,33 @@ use crate::lists::flatten;
 use plan::Header;
 use plan::Writing;
 ghost use mathlib.Core.Path.{_≡_};
-ghost use lib.ListN.{length};
+ghost use Prim.Native.Nat.{_*_, _/_, min};
+ghost use lib.ListN.{length, take};
 ghost use Rattle.plan.specs.Layout.{layout};
 ghost use Rattle.plan.specs.Records.{planOfLists};
 ghost use Rattle.plan.specs.Calls.{filled, writeRefusal, writeAnswer};
 ghost use Rattle.records.specs.Events.{wordsOf};
 
-// Writes a plan whose events stand in an array of words; the lent list of events had room for `event_room` of them.
+// Writes a plan whose events stand in an array of words: the lent list of events has `count` of them, of which the first 128 stand in the array.
 pub fn write_words(
     h: Header,
     links: &[u8],
-    event_room: usize,
+    count: usize,
     words: &[u64; 512],
     out: &mut [u8],
 ) -> Writing
     ensures { λ r. ⌜ r ≡ writeAnswer
-        (writeRefusal h (length (now (links .entry))) «event_room» (now (links .entry)) (now (words .entry)) (length (now (out .entry))))
-        (length (layout (planOfLists h (now (links .entry)) (now (words .entry))))) ⌝ }
+        (writeRefusal h (length (now (links .entry))) (length (take (4 * min count 128) (now (words .entry))) / 4)
+        (now (links .entry)) (take (4 * min count 128) (now (words .entry))) (length (now (out .entry))))
+        (length (layout (planOfLists h (now (links .entry)) (take (4 * min count 128) (now (words .entry)))))) ⌝ }
     ensures { λ r. ⌜ now (out .exit) ≡ filled
-        (writeRefusal h (length (now (links .entry))) «event_room» (now (links .entry)) (now (words .entry)) (length (now (out .entry))))
-        (layout (planOfLists h (now (links .entry)) (now (words .entry)))) (now (out .entry)) ⌝ }
+        (writeRefusal h (length (now (links .entry))) (length (take (4 * min count 128) (now (words .entry))) / 4)
+        (now (links .entry)) (take (4 * min count 128) (now (words .entry))) (length (now (out .entry))))
+        (layout (planOfLists h (now (links .entry)) (take (4 * min count 128) (now (words .entry))))) (now (out .entry)) ⌝ }
 {
-    let mut bytes = [0u8; 256];
-    lent::copy_bytes(links, &mut bytes[..], lent::smaller(links.len(), 256));
-    writer::write_core(h, links.len(), event_room, &bytes, words, out)
+    let used = 4 * lent::smaller(count, 128);
+    let all = &words[..];
+    writer::write(h, links, &all[0..used], out)
 }
 
 // Writes a plan from lent lists: links two bytes each, events a record each.

@@ -1,8 +1,7 @@
 // Writing a plan file from a header and lent lists: document 01, section "Plan file". All tests are made before the first byte is laid down, so
 // that a refusal changes nothing.
 // Assumes nothing.
-use lent::lists_refusal;
-use lent::load;
+use lent::accept;
 use lent::put_bytes;
 use plan::Header;
 use plan::Writing;
@@ -134,36 +133,7 @@ fn put_plan(h: Header, links: &[u8], words: &[u64], out: &mut [u8])
     put_events(out, 20 + count, words, h.events);
 }
 
-// Writes a plan: all tests, then its bytes. The lists stand in the arrays; they had room for `link_room` bytes and `event_room` whole events.
-pub fn write_core(
-    h: Header,
-    link_room: usize,
-    event_room: usize,
-    links: &[u8; 256],
-    words: &[u64; 512],
-    out: &mut [u8],
-) -> Writing
-    ensures { λ r. ⌜ r ≡ writeAnswer
-        (writeRefusal h «link_room» «event_room» (now (links .entry)) (now (words .entry)) (length (now (out .entry))))
-        (length (layout (planOfLists h (now (links .entry)) (now (words .entry))))) ⌝ }
-    ensures { λ r. ⌜ now (out .exit) ≡ filled
-        (writeRefusal h «link_room» «event_room» (now (links .entry)) (now (words .entry)) (length (now (out .entry))))
-        (layout (planOfLists h (now (links .entry)) (now (words .entry)))) (now (out .entry)) ⌝ }
-{
-    let number = lists_refusal(h, link_room, event_room, links, words);
-    if number != 0 {
-        return Writing::Refused(number);
-    }
-    let size = 20 + 2 * (h.links as usize) + events_size(words, h.events);
-    let short = room_test(out.len(), size);
-    if short != 0 {
-        return Writing::Refused(short);
-    }
-    put_plan(h, links, words, out);
-    Writing::Written(size)
-}
-
-// Writes a plan from lent lists: links two bytes each, events four words each.
+// Writes a plan from lent lists: links two bytes each, events four words each. All tests, then its bytes.
 pub fn write(h: Header, links: &[u8], events: &[u64], out: &mut [u8]) -> Writing
     ensures { λ r. ⌜ r ≡ writeAnswer
         (writeRefusal h (length (now (links .entry))) (length (now (events .entry)) / 4) (now (links .entry)) (now (events .entry)) (length (now (out .entry))))
@@ -174,6 +144,15 @@ pub fn write(h: Header, links: &[u8], events: &[u64], out: &mut [u8]) -> Writing
 {
     let mut bytes = [0u8; 256];
     let mut words = [0u64; 512];
-    load(links, events, &mut bytes, &mut words);
-    write_core(h, links.len(), events.len() / 4, &bytes, &words, out)
+    let number = accept(h, links, events, &mut bytes, &mut words);
+    if number != 0 {
+        return Writing::Refused(number);
+    }
+    let size = 20 + 2 * (h.links as usize) + events_size(&words, h.events);
+    let short = room_test(out.len(), size);
+    if short != 0 {
+        return Writing::Refused(short);
+    }
+    put_plan(h, &bytes, &words, out);
+    Writing::Written(size)
 }

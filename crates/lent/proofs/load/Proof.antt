@@ -13,30 +13,28 @@ use Rattle.lent.proofs.smaller.Reads as smaller-reads
 use Rattle.lent.proofs.copy_bytes.Reads as copy-bytes-reads
 use Rattle.lent.proofs.copy_words.Reads as copy-words-reads
 
--- src/calls.rt:29:36
 smaller-requires : tie.Need-smaller-requires
 smaller-requires c κs = search needs
 
--- src/calls.rt:29:5
 copy-bytes-requires : tie.Need-copy-bytes-requires
 copy-bytes-requires c κs = search needs
 
--- src/calls.rt:30:37
 smaller-requires-2 : tie.Need-smaller-requires-2
 smaller-requires-2 c κs = search needs
 
--- src/calls.rt:30:5
 copy-words-requires : tie.Need-copy-words-requires
 copy-words-requires c κs = search needs
 
--- src/calls.rt:25:1
 returns : tie.Need-returns
-returns c = (
-  c .before .before .before .copy-bytes .ensures
-      ∙ ap (λ (k : ℕ). sets (now (c .before .before .before .before .before .before .before .before .args .bytes)) 0 (take k (now (c .before .before .before .before .before .before .before .before .args .links)))) (c .before .before .before .before .smaller .ensures),
-  c .copy-words .ensures
-      ∙ ap (λ (k : ℕ). sets (now (c .before .before .before .before .before .before .before .before .args .words)) 0 (take k (now (c .before .before .before .before .before .before .before .before .args .events)))) (c .before .smaller2 .ensures),
-)
+returns c =
+    let a = c .before .before .before .before .before .before .before .before .args in (
+      search needs,
+      (
+        c .before .before .before .copy-bytes .ensures
+            ∙ ap (λ (k : ℕ). sets (now (a .bytes)) 0 (take k (now (a .links)))) (c .before .before .before .before .smaller .ensures),
+        c .copy-words .ensures ∙ ap (λ (k : ℕ). sets (now (a .words)) 0 (take k (now (a .events)))) (c .before .smaller2 .ensures),
+      ),
+    )
 
 pub load-spec : {M : Type 1} → statement M
 load-spec =

@@ -2,7 +2,7 @@
 use mathlib.Core.Path.{sym, _∙_}
 use borrow.Author.Needs.{needs}
 use borrow.Author.Tests.{eqb-true}
-use Rattle.network_vectors.proofs.Accepted.{links-held}
+use Rattle.lent.proofs.Accepted.{lists-held}
 use Rattle.network_vectors.proofs.held.Statement.{statement}
 use Rattle.network_vectors.proofs.held.Tie as tie
 
@@ -10,7 +10,7 @@ lists-refusal-requires : tie.Need-lists-refusal-requires
 lists-refusal-requires c κs = search needs
 
 returns : tie.Need-returns
-returns c = λ e. links-held _ _ _ _ _ (sym (c .lists-refusal .ensures) ∙ eqb-true _ _ e)
+returns c = λ e. lists-held _ _ _ _ _ (sym (c .lists-refusal .ensures) ∙ eqb-true _ _ e) .links-held
 
 pub held-spec : {M : Type 1} → statement M
 held-spec = tie.close (tie.spec lists-refusal-requires returns)

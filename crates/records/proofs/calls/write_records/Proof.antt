@@ -1,8 +1,8 @@
 -- `records::calls::write_records` meets its contract: a walk of its MIR, by hand. An array of words of its own is lent to `flatten`, which lays the records' words down,
 -- and then to `write_words`, which writes the plan; the output is given up for good to that call.
 -- Assumes nothing.
-use mathlib.Core.Path.{_≡_, refl, subst}
-use Prim.Native.Nat.{ℕ}
+use mathlib.Core.Path.{_≡_, refl, ap, subst, _∙_}
+use Prim.Native.Nat.{ℕ, _*_, _/_, min}
 use mathlib.Core.List.{List, [], _∷_}
 use lib.ListN.{length, take}
 use lib.Seq.{sets}
@@ -58,7 +58,7 @@ use Rattle.records.specs.Events.{wordsOf}
 use Rattle.records.specs.declared.Event.{Event}
 use Rattle.records.proofs.EventRow.{E, words-ty, Words}
 use Rattle.records.proofs.Lending.{zeros, zeros-val, zeros-own, words-lawful, array-lies, words-gone, says2}
-use Rattle.records.proofs.PlanLaws.{written-list}
+use Rattle.records.proofs.PlanLaws.{used-words, written-list}
 use Rattle.records.proofs.calls.write_words as write-words
 use Rattle.records.proofs.calls.write_words.Symbol as write-words-def
 use Rattle.records.proofs.calls.write_words.Symbol.{name as #write-words}
@@ -123,17 +123,24 @@ module _ {M : Type 1} (𝓤 : URA M) (H : Heap 𝓤) (A : Atoms 𝓤) (W : Given
   abbrev flattened : List ℕ
   flattened = sets zeros 0 (wordsOf (take 128 es))
 
-  abbrev number : List ℕ → ℕ
-  number ws = writeRefusal h (length (k .now)) (length es) (k .now) ws (length us)
+  abbrev taken : List ℕ → List ℕ
+  taken ws = take (4 * min (length es) 128) ws
 
-  abbrev answered : List ℕ → Writing
-  answered ws = writeAnswer (number ws) (length (layout (planOfLists h (k .now) ws)))
+  abbrev number : ℕ → List ℕ → ℕ
+  number room ws = writeRefusal h (length (k .now)) room (k .now) ws (length us)
 
-  abbrev out-left : List ℕ → List ℕ
-  out-left ws = filled (number ws) (layout (planOfLists h (k .now) ws)) us
+  abbrev answered : ℕ → List ℕ → Writing
+  answered room ws = writeAnswer (number room ws) (length (layout (planOfLists h (k .now) ws)))
 
-  concluded : (ws : List ℕ) (r : Writing) (left : List ℕ) → ws ≡ flattened → (r ≡ answered ws) × (left ≡ out-left ws) → (r ≡ answered (wordsOf es)) × (left ≡ out-left (wordsOf es))
-  concluded ws r left e said = written-list h (k .now) us left zeros es r refl (subst (λ (l : List ℕ). Outcome h (length (k .now)) (length es) (k .now) l us left r) e said)
+  abbrev out-left : ℕ → List ℕ → List ℕ
+  out-left room ws = filled (number room ws) (layout (planOfLists h (k .now) ws)) us
+
+  concluded : (ws : List ℕ) (r : Writing) (left : List ℕ) → ws ≡ flattened
+      → Outcome h (length (k .now)) (length (taken ws) / 4) (k .now) (taken ws) us left r
+      → (r ≡ answered (length es) (wordsOf es)) × (left ≡ out-left (length es) (wordsOf es))
+  concluded ws r left e said =
+      written-list h (k .now) us left es r
+      (subst (λ (l : List ℕ). Outcome h (length (k .now)) (length l / 4) (k .now) l us left r) (ap taken e ∙ used-words es zeros refl) said)
 
   -- the call of `flatten`
   abbrev to-flatten : ℕ → ℕ → GName → Flatten 𝓤 H A mem″ run .Ghost
@@ -161,7 +168,7 @@ module _ {M : Type 1} (𝓤 : URA M) (H : Heap 𝓤) (A : Atoms 𝓤) (W : Given
       qed W ((‵ (flft κ₀ q₀) ⊛ (‵ (flft (ν ∷ []) fullShare) ⊛ (‵ (flft κ₂ q₂) ⊛ ‵ ftrue)))
       ∷ ‵ (owns (T.the-row ∷ ShrSlice (named 0) κ₀ u8 ∷ usize ∷ ShrRef (named 1) (ν ∷ []) Words ∷ MutSlice (named 2) κ₂ u8 ∷ []) (to-write l ν δ ws .0 .3) (to-write l ν δ ws .0 .4)) ∷ []) ∵ join ! $ frame ! $ done !
 
-  exits : (r : Writing) (u : Val) (left : List ℕ) → length left ≡ length us → (r ≡ answered (wordsOf es)) × (left ≡ out-left (wordsOf es))
+  exits : (r : Writing) (u : Val) (left : List ℕ) → length left ≡ length us → (r ≡ answered (length es) (wordsOf es)) × (left ≡ out-left (length es) (wordsOf es))
       → ent 𝓤 (⋆ 𝓤 H A (‵ (flft κ₀ q₀) ∷ ‵ (flft κ₁ q₁) ∷ ‵ (flft κ₂ q₂) ∷ ‵ OwnH ∷ ‵ OwnK ∷ ‵ OwnV ∷ ‵ (finally u8 γ₂ left) ∷ ‵ (R.the-row .own r (u ∷ [])) ∷ [])) (Post u)
   exits r u left len said =
       qed W (‵ (flft κ₀ q₀) ∷ ‵ (flft κ₁ q₁) ∷ ‵ (flft κ₂ q₂) ∷ ‵ OwnH ∷ ‵ OwnK ∷ ‵ OwnV ∷ ‵ (finally u8 γ₂ left) ∷ ‵ (R.the-row .own r (u ∷ [])) ∷ []) ∵
@@ -207,8 +214,8 @@ module _ {M : Type 1} (𝓤 : URA M) (H : Heap 𝓤) (A : Atoms 𝓤) (W : Given
         use2 W (raw (WriteWords 𝓤 H A mem″ run .pre (to-write l₅ ν′ δ′ (zs .1 .0)))) (asked-write l₅ ν′ δ′ (zs .1 .0)) $
         calls-at ! fm (WriteWords 𝓤 H A mem″ run) known-write (to-write l₅ ν′ δ′ (zs .1 .0)) (and-then ! (load ! (from ! (stop !)) (look ! 31 refl)) (and-then ! (load ! (from ! (stop !)) (look ! 29 refl)) (and-then ! (load ! (from ! (stop !)) (look ! 18 refl)) (and-then ! (load ! (from ! (stop !)) (look ! 16 refl)) (and-then ! (load ! (from ! (stop !)) (look ! 12 refl)) (no-more !)))))) (λ u.
         use1 W (later (some (λ (r : Writing). ((‵ (flft κ₀ q₀) ⊛ (‵ (flft (ν′ ∷ []) fullShare) ⊛ (‵ (flft κ₂ q₂) ⊛ ‵ ftrue))) ⊛ ‵ (R.the-row .own r (u ∷ []))) ⊛ raw (ensured 𝓤 H A write-words.ended (write-words.clauses 𝓤 H A mem″ run) (κ₀, (ν′ ∷ [], (κ₂, tt))) ((to-write l₅ ν′ δ′ (zs .1 .0)) .0 .3) tt r)))) (id⊢ 𝓤 _) $ await ! tt $ pick ! (λ r.
-        split ! $ move ! (1 ∷ []) $ use1 W (some (λ (vs : Unit {0} × (Unit {0} × (Unit {0} × (Unit {0} × (List ℕ × Unit {0}))))). ‵ (lasts write-words.ended (κ₀, (ν′ ∷ [], (κ₂, tt))) ((to-write l₅ ν′ δ′ (zs .1 .0)) .0 .3) vs) ⊛ (raw (fact 𝓤 (r ≡ answered (zs .1 .0))) ⊛ raw (fact 𝓤 (vs .1 .1 .1 .1 .0 ≡ out-left (zs .1 .0)))))) (id⊢ 𝓤 _) $ pick ! (λ vs. split ! $ move ! (1 ∷ []) $
-        split ! $ heard ! (r ≡ answered (zs .1 .0)) (λ e₂. heard ! (vs .1 .1 .1 .1 .0 ≡ out-left (zs .1 .0)) (λ e₃. fsplit ! $ move ! (1 ∷ []) $ fsplit ! $ move ! (1 ∷ []) $ fsplit ! $ move ! (1 ∷ []) $ fsplit ! $
+        split ! $ move ! (1 ∷ []) $ use1 W (some (λ (vs : Unit {0} × (Unit {0} × (Unit {0} × (Unit {0} × (List ℕ × Unit {0}))))). ‵ (lasts write-words.ended (κ₀, (ν′ ∷ [], (κ₂, tt))) ((to-write l₅ ν′ δ′ (zs .1 .0)) .0 .3) vs) ⊛ (raw (fact 𝓤 (r ≡ answered (length (taken (zs .1 .0)) / 4) (taken (zs .1 .0)))) ⊛ raw (fact 𝓤 (vs .1 .1 .1 .1 .0 ≡ out-left (length (taken (zs .1 .0)) / 4) (taken (zs .1 .0))))))) (id⊢ 𝓤 _) $ pick ! (λ vs. split ! $ move ! (1 ∷ []) $
+        split ! $ heard ! (r ≡ answered (length (taken (zs .1 .0)) / 4) (taken (zs .1 .0))) (λ e₂. heard ! (vs .1 .1 .1 .1 .0 ≡ out-left (length (taken (zs .1 .0)) / 4) (taken (zs .1 .0))) (λ e₃. fsplit ! $ move ! (1 ∷ []) $ fsplit ! $ move ! (1 ∷ []) $ fsplit ! $ move ! (1 ∷ []) $ fsplit ! $
         move ! (1 ∷ []) $ fsplit ! $ fsplit ! $ move ! (1 ∷ []) $ feqL ! (λ len. move ! (6 ∷ []) $ split ! $ move ! (1 ∷ []) $ peeks ! R.the-row (Is R.the-row) (shows 𝓤 H A R.the-row) r (u ∷ []) (λ is.
         land ! (from ! (stop !)) (init ! 40 refl (EL.lawful R.the-type R′.the-laws 𝓤 H A W tt .typed r _ is .0)) $ move ! (1 ∷ []) $ split ! $ move ! (1 ∷ []) $ split ! $ move ! (1 ∷ []) $ split ! $ move ! (2 ∷ []) $
         lft-end ! tt $ move ! (0 ∷ 12 ∷ []) $ lent-back ! tt $ use1 W (‵ (froom words-ty l₅ 0)) (words-gone 𝓤 H A W (zs .1 .0) l₅) $ returns ! (look ! 42 refl) $ forget ! 42 refl $ forget ! 40 refl $ forget ! 38 refl $

@@ -1,0 +1,2 @@
+-- What the contracts of the crate `lent` cite.
+pub mod Taken

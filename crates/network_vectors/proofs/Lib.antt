@@ -1,2 +1,0 @@
--- Laws that the proofs of the crate `network_vectors` share.
-pub mod Accepted
