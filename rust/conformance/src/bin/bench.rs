@@ -1,4 +1,5 @@
-//! The benchmark: the proved run beside the tuned Rust program, on the three plans of `examples/`.
+//! The benchmark: the proved run beside the tuned Rust program, on three plans of `examples/` and on the GEANT core with a
+//! lower threshold; then the proved witness beside the proved run.
 //!
 //! Each plan is run once by both to compare their answers, then five times by each in turn, or as often as an
 //! argument says. The best time of each counts: processor time of this thread, so that other work on the machine
@@ -6,7 +7,7 @@
 
 use account::Lent;
 use conformance::proved::MOST_PAIRS;
-use conformance::{probe, proved};
+use conformance::{probe, proved, readings};
 use plans::examples::{folder, BENCHMARK};
 use plans::Lists;
 
@@ -82,21 +83,45 @@ fn rounds() -> usize {
     argument.map_or(5, |text| text.parse().expect("the number of rounds"))
 }
 
+/// Compares the answers of the two programs on a plan, and prints the best time of each.
+fn compare(name: &str, lists: &Lists, rounds: usize) {
+    let lent = lists.lent();
+    let (proved, tuned) = (timed(run_proved, &lent), timed(run_tuned, &lent));
+    let same = (proved.0, proved.1, proved.2) == (tuned.0, tuned.1, tuned.2);
+    assert!(same, "{name}: the two programs differ");
+    let (mut proved_best, mut tuned_best) = (f64::MAX, f64::MAX);
+    for _ in 0..rounds {
+        proved_best = proved_best.min(timed(run_proved, &lent).3);
+        tuned_best = tuned_best.min(timed(run_tuned, &lent).3);
+    }
+    let ratio = proved_best / tuned_best;
+    println!("{name}: proved {proved_best:.2}, Rust {tuned_best:.2}, ratio {ratio:.2}");
+}
+
+/// A witness that is not found takes the whole walk: its best time beside that of the run.
+fn compare_witness(name: &str, lists: &Lists, v: u64, w: u64, rounds: usize) {
+    let lent = lists.lent();
+    let (mut run_best, mut witness_best) = (f64::MAX, f64::MAX);
+    for _ in 0..rounds {
+        run_best = run_best.min(timed(run_proved, &lent).3);
+        let start = processor_time();
+        let (refusal, _) = readings::witness(&lent, v, w);
+        witness_best = witness_best.min(processor_time() - start);
+        assert_eq!(refusal, 14, "{name}: a set of events cuts the pair {v}, {w}");
+    }
+    let ratio = witness_best / run_best;
+    println!("{name}, no witness for {v}, {w}: {witness_best:.2}, the run {run_best:.2}, ratio {ratio:.2}");
+}
+
 fn main() {
     let rounds = rounds();
     println!("best of {rounds} alternating runs, milliseconds of processor time");
     for name in BENCHMARK {
-        let lists = lists_of(name);
-        let lent = lists.lent();
-        let (proved, tuned) = (timed(run_proved, &lent), timed(run_tuned, &lent));
-        let same = (proved.0, proved.1, proved.2) == (tuned.0, tuned.1, tuned.2);
-        assert!(same, "{name}: the two programs differ");
-        let (mut proved_best, mut tuned_best) = (f64::MAX, f64::MAX);
-        for _ in 0..rounds {
-            proved_best = proved_best.min(timed(run_proved, &lent).3);
-            tuned_best = tuned_best.min(timed(run_tuned, &lent).3);
-        }
-        let ratio = proved_best / tuned_best;
-        println!("{name}: proved {proved_best:.2}, Rust {tuned_best:.2}, ratio {ratio:.2}");
+        compare(name, &lists_of(name), rounds);
     }
+    let mut geant = lists_of("geant-core.plan");
+    geant.header.threshold = 1_000_000;
+    geant.header.cap = 1_000_000;
+    compare("geant-core.plan at t = 10^6", &geant, rounds);
+    compare_witness(BENCHMARK[1], &lists_of(BENCHMARK[1]), 2, 3, rounds);
 }
