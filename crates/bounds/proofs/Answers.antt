@@ -1,35 +1,30 @@
 -- The answers of the run and of one pair, and what they leave in the lists, from what the walk gave.
 -- Assumes nothing.
 use mathlib.Core.Path.{_≡_, refl, sym, ap, subst₂, _∙_}
-use mathlib.Core.List.{List, [], _∷_, _++_, map}
-use Prim.Native.Nat.{ℕ, zero, suc, _+_, _-_, _*_, _/_, _^_, _<_, _≤_, min}
+use mathlib.Core.List.{List, map}
+use Prim.Native.Nat.{ℕ, zero, suc, _+_, _-_, _<_, _≤_}
 use native.Mathlib.Numerals.{add-one}
 use native.Mathlib.Omega.{arith}
 use borrow.Author.Tests.{leb-false}
 use lib.Dec.{leb}
-use lib.ListN.{length, getD, take, drop, length-map, List·getD-append}
-use lib.Seq.{sets, sets-eq, take-length, length-take-le}
-use Rattle.mass.specs.Refusal.{refuse-none, first, first-none, first-skip, first-stop}
+use lib.ListN.{length, getD, take, List·getD-append}
+use lib.Seq.{sets, sets-eq}
+use Rattle.mass.specs.Refusal.{refuse-none, first-none}
 use Rattle.mass.specs.Split.{whole}
 use Rattle.plan.specs.Plan.{Plan}
-use Rattle.refusals.specs.Tests.{roomTest}
-use Rattle.plan.specs.Records.{planRefusal, planOfLists, listsRefusal}
-use Rattle.plan.specs.Calls.{filled}
+use Rattle.plan.specs.Records.{planRefusal, listsRefusal}
 use Rattle.plan.specs.declared.Header.{Header}
-use Rattle.refusals.proofs.TestLaws.{or-none, room-none}
-use Rattle.refusals.proofs.OrderLaws.{stop, skip}
-use Rattle.layout.proofs.ListTheorems.{lists-denote}
+use Rattle.refusals.proofs.TestLaws.{or-none}
 use Rattle.walk.specs.Walk.{massExamined, count}
 use Rattle.walk.specs.Laws.{massExamined-le}
 use Rattle.walk.specs.Valid.{plan-probable}
 use Rattle.sums.specs.Bounds.{upper-lower, demand3-valid}
-use Rattle.pairs.specs.Pairs.{row, rows, table, start, place, pairCount, pairTest}
 use Rattle.pairs.specs.Giving.{Giving}
+use Rattle.pairs.specs.Pairs.{table, start, place, pairCount, pairTest}
 use Rattle.pairs.proofs.PairLaws.{table-is, table-at, table-long, map-table, table-same, place-is, place-lt, pairs-most}
 use Rattle.bounds.specs.Bounds.{cuts, lowerOf, upperOf, lowerList, upperList, Encloses, EnclosesAll}
-use Rattle.bounds.specs.Calls.{runRefusal, ranAnswer, totalsOf, totalsIn, pairRefusal, pairAnswer, boundsOf, boundsIn, Summed}
+use Rattle.bounds.specs.Calls.{ranAnswer, pairRefusal, pairAnswer, boundsOf, Summed}
 use Rattle.bounds.specs.declared.Totals.{Totals}
-use Rattle.bounds.specs.declared.Ran.{Ran}
 use Rattle.bounds.specs.declared.Ran.the-variants as ran
 use Rattle.bounds.specs.declared.PairBounds.{PairBounds}
 use Rattle.bounds.specs.declared.Paired.the-variants as paired
@@ -46,43 +41,13 @@ pair-refused (suc number) bounds n = refl
 pub ran-refuses : (number refusal : ℕ) (totals : Totals) → number ≡ refusal → (number ≡ 0 → ⊥) → ran.Refused number ≡ ranAnswer refusal totals
 ran-refuses number refusal totals e n = ran-refused number totals n ∙ ap (λ (x : ℕ). ranAnswer x totals) e
 
-pub ran-done : (refusal : ℕ) (t totals : Totals) → refusal ≡ 0 → t ≡ totals → ran.Done t ≡ ranAnswer refusal totals
-ran-done refusal t totals e same = ap ran.Done same ∙ ap (λ (x : ℕ). ranAnswer x totals) (sym e)
-
 pub pair-refuses : (number refusal : ℕ) (bounds : PairBounds) → number ≡ refusal → (number ≡ 0 → ⊥) → paired.Refused number ≡ pairAnswer refusal bounds
 pair-refuses number refusal bounds e n = pair-refused number bounds n ∙ ap (λ (x : ℕ). pairAnswer x bounds) e
 
-pub pair-done : (refusal : ℕ) (r bounds : PairBounds) → refusal ≡ 0 → r ≡ bounds → paired.Done r ≡ pairAnswer refusal bounds
-pair-done refusal r bounds e same = ap paired.Done same ∙ ap (λ (x : ℕ). pairAnswer x bounds) (sym e)
-
-module _ (h : Header) (linkRoom eventRoom : ℕ) (links words : List ℕ) where
-  -- what an accepted run says
-  pub run-none : (lowerRoom upperRoom : ℕ) → runRefusal h linkRoom eventRoom links words lowerRoom upperRoom ≡ 0
-      → (listsRefusal h linkRoom eventRoom links words ≡ 0) × (pairCount (h .nodes) ≤ lowerRoom) × (pairCount (h .nodes) ≤ upperRoom)
-  unfolding runRefusal
-  run-none lowerRoom upperRoom e =
-      let l = first-none _ _ e in
-      let a = first-none _ _ (l .1) in
-      (l .0, room-none lowerRoom (pairCount (h .nodes)) (a .0), room-none upperRoom (pairCount (h .nodes)) (first-none _ _ (a .1) .0))
-
-  pub pair-lists-stop : (v w number : ℕ) → number ≡ listsRefusal h linkRoom eventRoom links words → (number ≡ 0 → ⊥)
-      → number ≡ pairRefusal h linkRoom eventRoom links words v w
-  unfolding pairRefusal
-  pair-lists-stop v w number e n = stop _ e n
-
-  pub pair-test-stop : (v w lists number : ℕ) → lists ≡ listsRefusal h linkRoom eventRoom links words → lists ≡ 0
-      → number ≡ pairTest (h .nodes) v w → (number ≡ 0 → ⊥) → number ≡ pairRefusal h linkRoom eventRoom links words v w
-  unfolding pairRefusal
-  pair-test-stop v w lists number e z f n = skip _ e z (stop _ f n)
-
-  pub pair-accepted : (v w : ℕ) → listsRefusal h linkRoom eventRoom links words ≡ 0 → pairTest (h .nodes) v w ≡ 0
-      → pairRefusal h linkRoom eventRoom links words v w ≡ 0
-  unfolding pairRefusal first
-  pair-accepted v w e f = rw (e, f)
-
-  pub pair-none : (v w : ℕ) → pairRefusal h linkRoom eventRoom links words v w ≡ 0 → listsRefusal h linkRoom eventRoom links words ≡ 0
-  unfolding pairRefusal
-  pair-none v w e = first-none _ _ e .0
+pub pair-none : (h : Header) (linkRoom eventRoom : ℕ) (links words : List ℕ) (v w : ℕ)
+    → pairRefusal h linkRoom eventRoom links words v w ≡ 0 → listsRefusal h linkRoom eventRoom links words ≡ 0
+unfolding pairRefusal
+pair-none h linkRoom eventRoom links words v w e = first-none _ _ e .0
 
 pub pair-inside : (nodes v w : ℕ) → pairTest nodes v w ≡ 0 → (v < w) × (w < nodes)
 pair-inside nodes v w e =

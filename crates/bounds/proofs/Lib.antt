@@ -2,7 +2,6 @@
 pub mod Examine
 pub mod Turn
 pub mod Root
-pub mod Accepted
 pub mod Zeros
 pub mod Answers
 pub mod Outcome

@@ -1,23 +1,24 @@
--- From the run on copies of the lent lists to the run on the lists.
+-- The answers of the run and of one pair on lent lists, from what the walk of the arrays gave.
 -- Assumes nothing.
 use mathlib.Core.Path.{_≡_, refl, sym, ap, subst, _∙_}
 use mathlib.Core.List.{List, [], _∷_, map}
-use Prim.Native.Nat.{ℕ, zero, suc, _+_, _-_, _/_, _<_, _≤_, min}
-use native.Mathlib.Omega.{arith}
+use Prim.Native.Nat.{ℕ, zero, suc, _+_, _-_, _≤_}
 use lib.ListN.{length, getD, take}
 use lib.Seq.{sets}
-use Rattle.mass.specs.Refusal.{first}
+use Rattle.mass.specs.Refusal.{first, first-none}
 use Rattle.mass.specs.Split.{whole}
+use Rattle.refusals.specs.Tests.{roomTest}
+use Rattle.refusals.proofs.OrderLaws.{stop, skip, last}
+use Rattle.refusals.proofs.TestLaws.{room-none}
 use Rattle.plan.specs.Plan.{Plan}
-use Rattle.plan.specs.Records.{planRefusal, planOfLists, listsRefusal}
+use Rattle.plan.specs.Records.{planOfLists}
 use Rattle.plan.specs.Calls.{filled}
 use Rattle.plan.specs.declared.Header.{Header}
-use Rattle.lent.proofs.CopyLaws.{byteCopy, wordCopy, copies-refused, copies-denote}
-use Rattle.layout.proofs.ListTheorems.{lists-denote}
-use Rattle.writer.proofs.WriterAnswer.{lists-counted}
+use Rattle.lent.specs.Taken.{Taken, listsNumber}
 use Rattle.walk.specs.Walk.{massExamined, count}
-use Rattle.pairs.specs.Pairs.{pairCount}
 use Rattle.pairs.specs.Giving.{Giving}
+use Rattle.pairs.specs.Pairs.{pairCount, pairTest, place}
+use Rattle.pairs.proofs.PairLaws.{pairs-most}
 use Rattle.bounds.specs.Bounds.{lowerList, upperList, Encloses, EnclosesAll}
 use Rattle.bounds.specs.Calls.{runRefusal, runNumber, ranAnswer, totalsOf, totalsIn, pairRefusal, pairNumber, pairAnswer, boundsOf, boundsIn, Summed}
 use Rattle.bounds.specs.declared.Totals.{Totals}
@@ -25,145 +26,160 @@ use Rattle.bounds.specs.declared.Ran.{Ran}
 use Rattle.bounds.specs.declared.Ran.the-variants as ran
 use Rattle.bounds.specs.declared.PairBounds.{PairBounds}
 use Rattle.bounds.specs.declared.Paired.{Paired}
-use Rattle.bounds.proofs.Answers.{run-none, pair-none, giving, lower-laid, upper-laid, all-enclosed, enclosed}
-
--- what is told of a number and of what it comes with is the same where the number is, and what it comes with too if the number is 0
-module _ {A B : Type 0} (answer : ℕ → A → B) (silent : (n : ℕ) (t u : A) → answer (suc n) t ≡ answer (suc n) u) where
-  told-same : (a b : ℕ) (t u : A) → a ≡ b → (b ≡ 0 → t ≡ u) → answer a t ≡ answer b u
-  told-same a b t u e same = ap (λ (x : ℕ). answer x t) e ∙ go b same
-    where
-      go : (n : ℕ) → (n ≡ 0 → t ≡ u) → answer n t ≡ answer n u
-      go zero h = ap (answer zero) (h refl)
-      go (suc n) h = silent n t u
-
--- a refusal's number is not 0
-refused-number : (number n : ℕ) (totals : Totals) → ran.Refused n ≡ ranAnswer number totals → number ≡ 0 → ⊥
-refused-number zero n totals e z = let never : _≡_ {A = ℕ} 0 1 = cc in omega arith
-refused-number (suc number) n totals e z = omega arith
-
-done-number : (number : ℕ) (t totals : Totals) → ran.Done t ≡ ranAnswer number totals → (number ≡ 0) × (t ≡ totals)
-done-number zero t totals e = (refl, cc)
-done-number (suc number) t totals e = absurd (let never : _≡_ {A = ℕ} 0 1 = cc in omega arith)
+use Rattle.bounds.specs.declared.Paired.the-variants as paired
+use Rattle.bounds.proofs.Answers.{ran-refuses, pair-refuses, pair-inside, giving, pair-bounds, lower-laid, upper-laid, all-enclosed, enclosed}
 
 filled-kept : (number : ℕ) (news list : List ℕ) → (number ≡ 0 → ⊥) → list ≡ filled number news list
 filled-kept zero news list n = absurd (n refl)
 filled-kept (suc number) news list n = refl
 
-module _ (h : Header) (links events bytes wide : List ℕ) (b : length bytes ≡ 256) (w : length wide ≡ 512) where
-  abbrev copy : Plan
-  copy = planOfLists h (byteCopy h links events bytes wide b w) (wordCopy h links events bytes wide b w)
+-- the walk of the arrays that accepted lists were taken into gave the totals and the sums of the lists' plan
+module _ (h : Header) (links events bytes words : List ℕ) (t : Taken h links events bytes words) (totals : Totals) (sums : List ℕ)
+    (is : totals ≡ totalsOf (planOfLists h bytes words)) (s : Summed (planOfLists h bytes words) (h .nodes) sums) where
+  totals-are : totals ≡ totalsOf (planOfLists h links events)
+  totals-are = is ∙ ap totalsOf (t .denoted)
 
+  mass-is : totals .mass ≡ massExamined (planOfLists h links events)
+  mass-is = ap (λ (x : Totals). x .mass) totals-are
+
+  summed : Summed (planOfLists h links events) (h .nodes) sums
+  summed = subst (λ (q : Plan). Summed q (h .nodes) sums) (t .denoted) s
+
+  pub may-give : (lower upper : List ℕ) → pairCount (h .nodes) ≤ length lower → pairCount (h .nodes) ≤ length upper
+      → Giving (h .nodes) (totals .mass) sums lower upper
+  may-give lower upper l u =
+      giving (planOfLists h links events) (t .valid) (h .nodes) (totals .mass) sums lower upper summed mass-is (t .held .links-held .nodes-fit) l u
+
+  pub may-give-own : Giving (h .nodes) (totals .mass) sums sums sums
+  may-give-own =
+      let most : pairCount (h .nodes) ≤ length sums = rw (s .sized) (pairs-most (h .nodes) (t .held .links-held .nodes-fit)) in
+      may-give sums sums most most
+
+-- ---- the run
+
+module _ (h : Header) (links events lower upper : List ℕ) where
   abbrev p : Plan
   p = planOfLists h links events
 
-  module _ (lower upper : List ℕ) where
-    abbrev copyNumber : ℕ
-    copyNumber =
-        runRefusal h (length links) (length events / 4)
-        (byteCopy h links events bytes wide b w) (wordCopy h links events bytes wide b w) (length lower) (length upper)
+  abbrev number : ℕ
+  number = runNumber h links events lower upper
 
-    abbrev number : ℕ
-    number = runNumber h links events lower upper
+  -- 12 for the two lists of bounds
+  abbrev rooms : ℕ
+  rooms = first (roomTest (length lower) (pairCount (h .nodes)) ∷ roomTest (length upper) (pairCount (h .nodes)) ∷ [])
 
-    same-number : copyNumber ≡ number
+  -- an answer, with what it leaves in the lists of bounds
+  abbrev pub RunTold : Ran → List ℕ → List ℕ → Type 0
+  RunTold r lower′ upper′ =
+      (r ≡ ranAnswer number (totalsOf p))
+      × ((lower′ ≡ filled number (lowerList p) lower)
+      × ((upper′ ≡ filled number (upperList p) upper)
+      × (number ≡ 0 → EnclosesAll p lower′ upper′ (totalsIn r .count))))
+
+  refused : (n : ℕ) → n ≡ number → (n ≡ 0 → ⊥) → RunTold (ran.Refused n) lower upper
+  refused n e some =
+      let no-zero : number ≡ 0 → ⊥ = λ z. some (e ∙ z) in (
+        ran-refuses n number (totalsOf p) e some,
+        (filled-kept number (lowerList p) lower no-zero, (filled-kept number (upperList p) upper no-zero, λ z. absurd (no-zero z))),
+      )
+
+  pub lists-refuse : (n : ℕ) → n ≡ listsNumber h links events → (n ≡ 0 → ⊥) → RunTold (ran.Refused n) lower upper
+  unfolding runRefusal
+  lists-refuse n e some = refused n (stop _ e some) some
+
+  pub rooms-refuse : (lists n : ℕ) → lists ≡ listsNumber h links events → lists ≡ 0 → n ≡ rooms → (n ≡ 0 → ⊥) → RunTold (ran.Refused n) lower upper
+  unfolding runRefusal
+  rooms-refuse lists n e z f some = refused n (skip _ e z f) some
+
+  pub rooms-fit : rooms ≡ 0 → (pairCount (h .nodes) ≤ length lower) × (pairCount (h .nodes) ≤ length upper)
+  rooms-fit z = let a = first-none _ _ z in (room-none _ _ (a .0), room-none _ _ (first-none _ _ (a .1) .0))
+
+  module _ (bytes words : List ℕ) (t : Taken h links events bytes words) (totals : Totals) (sums : List ℕ)
+      (is : totals ≡ totalsOf (planOfLists h bytes words)) (s : Summed (planOfLists h bytes words) (h .nodes) sums)
+      (accepted : listsNumber h links events ≡ 0) (fits : rooms ≡ 0) (lower′ upper′ : List ℕ)
+      (l : lower′ ≡ sets lower 0 (take (pairCount (h .nodes)) sums))
+      (u : upper′ ≡ sets upper 0 (map (λ x. (whole - totals .mass) + x) (take (pairCount (h .nodes)) sums))) where
+    zero-number : number ≡ 0
     unfolding runRefusal
-    same-number = rw (copies-refused h links events bytes wide b w)
+    zero-number = sym (skip _ refl accepted (sym fits))
 
-    accepted : number ≡ 0 → listsRefusal h (length links) (length events / 4) links events ≡ 0
-    accepted z = run-none h (length links) (length events / 4) links events (length lower) (length upper) z .0
+    few : h .nodes ≤ 64
+    few = t .held .links-held .nodes-fit
 
-    same-plan : number ≡ 0 → copy ≡ p
-    same-plan z = copies-denote h links events bytes wide b w (accepted z)
+    sums-are : Summed p (h .nodes) sums
+    sums-are = summed h links events bytes words t totals sums is s
 
-    pub run-answer : (r : Ran) → r ≡ ranAnswer copyNumber (totalsOf copy) → r ≡ ranAnswer number (totalsOf p)
-    run-answer r e = e ∙ told-same ranAnswer (λ n t u. refl) _ _ _ _ same-number (λ z. ap totalsOf (same-plan z))
+    lower-is : lower′ ≡ sets lower 0 (lowerList p)
+    unfolding planOfLists
+    lower-is = l ∙ lower-laid p (t .valid) sums lower upper sums-are few (rooms-fit fits .0) (rooms-fit fits .1)
 
-    -- a refused run leaves the lists as they were
-    pub run-refused : (r : Ran) (n : ℕ) → r ≡ ran.Refused n → r ≡ ranAnswer copyNumber (totalsOf copy)
-        → (lower ≡ filled number (lowerList p) lower)
-        × (upper ≡ filled number (upperList p) upper)
-        × (number ≡ 0 → EnclosesAll p lower upper (totalsIn r .count))
-    run-refused r n f e =
-        let no-zero : number ≡ 0 → ⊥ = refused-number number n (totalsOf p) (sym f ∙ run-answer r e) in
-        (filled-kept number (lowerList p) lower no-zero, filled-kept number (upperList p) upper no-zero, λ z. absurd (no-zero z))
+    upper-is : upper′ ≡ sets upper 0 (upperList p)
+    unfolding planOfLists
+    upper-is =
+        u ∙ upper-laid p (t .valid) sums lower upper sums-are few (rooms-fit fits .0) (rooms-fit fits .1) (totals .mass)
+        (mass-is h links events bytes words t totals sums is s)
 
-    module _ (r : Ran) (t : Totals) (f : r ≡ ran.Done t) (e : r ≡ ranAnswer copyNumber (totalsOf copy))
-        (sums : List ℕ) (s : copyNumber ≡ 0 → Summed copy (h .nodes) sums) where
-      zero-number : number ≡ 0
-      zero-number = done-number number t (totalsOf p) (sym f ∙ run-answer r e) .0
+    enclosed-all : EnclosesAll p (sets lower 0 (lowerList p)) (sets upper 0 (upperList p)) (count p)
+    unfolding planOfLists
+    enclosed-all = all-enclosed p (t .valid) sums lower upper sums-are few (rooms-fit fits .0) (rooms-fit fits .1)
 
-      totals-are : t ≡ totalsOf p
-      totals-are = done-number number t (totalsOf p) (sym f ∙ run-answer r e) .1
-
-      valid : planRefusal p ≡ 0
-      valid = lists-denote h (length links) (length events / 4) links events (accepted zero-number)
-
-      few : h .nodes ≤ 64
-      few = lists-counted h (length links) (length events / 4) links events (accepted zero-number) .nodes-fit
-
-      summed : Summed p (h .nodes) sums
-      summed = subst (λ (q : Plan). Summed q (h .nodes) sums) (same-plan zero-number) (s (same-number ∙ zero-number))
-
-      mass-is : t .mass ≡ massExamined p
-      mass-is = ap (λ (x : Totals). x .mass) totals-are
-
-      rooms : (pairCount (h .nodes) ≤ length lower) × (pairCount (h .nodes) ≤ length upper)
-      rooms = let n = run-none h (length links) (length events / 4) links events (length lower) (length upper) zero-number in (n .1, n .2)
-
-      pub may-give : Giving (h .nodes) (t .mass) sums lower upper
-      may-give = giving p valid (h .nodes) (t .mass) sums lower upper summed mass-is few (rooms .0) (rooms .1)
-
-      module _ (lower′ upper′ : List ℕ)
-          (l : lower′ ≡ sets lower 0 (take (pairCount (h .nodes)) sums))
-          (u : upper′ ≡ sets upper 0 (map (λ x. (whole - t .mass) + x) (take (pairCount (h .nodes)) sums))) where
-        lower-is : lower′ ≡ sets lower 0 (lowerList p)
-        unfolding planOfLists
-        lower-is = l ∙ lower-laid p valid sums lower upper summed few (rooms .0) (rooms .1)
-
-        upper-is : upper′ ≡ sets upper 0 (upperList p)
-        unfolding planOfLists
-        upper-is = u ∙ upper-laid p valid sums lower upper summed few (rooms .0) (rooms .1) (t .mass) mass-is
-
-        enclosed-all : EnclosesAll p (sets lower 0 (lowerList p)) (sets upper 0 (upperList p)) (count p)
-        unfolding planOfLists
-        enclosed-all = all-enclosed p valid sums lower upper summed few (rooms .0) (rooms .1)
-
-        pub run-done : (ran.Done t ≡ ranAnswer number (totalsOf p))
-            × (lower′ ≡ filled number (lowerList p) lower)
-            × (upper′ ≡ filled number (upperList p) upper)
-            × (number ≡ 0 → EnclosesAll p lower′ upper′ (t .count))
-        run-done = (
-          sym f ∙ run-answer r e,
-          rw zero-number lower-is,
-          rw zero-number upper-is,
-          λ z.
-              subst (λ (c : ℕ). EnclosesAll p lower′ upper′ c) (ap (λ (x : Totals). x .count) (sym totals-are))
-              (rw (lower-is, upper-is) enclosed-all),
+    pub run-done : RunTold (ran.Done totals) lower′ upper′
+    run-done =
+        let same = totals-are h links events bytes words t totals sums is s in (
+          rw zero-number (ap ran.Done same),
+          (
+            rw zero-number lower-is,
+            (
+              rw zero-number upper-is,
+              λ z.
+                  subst (λ (c : ℕ). EnclosesAll p lower′ upper′ c) (ap (λ (x : Totals). x .count) (sym same))
+                  (rw (lower-is, upper-is) enclosed-all),
+            ),
+          ),
         )
 
-  -- ---- one pair
+-- ---- one pair
 
-  module _ (v x : ℕ) where
-    abbrev copyPairNumber : ℕ
-    copyPairNumber =
-        pairRefusal h (length links) (length events / 4) (byteCopy h links events bytes wide b w) (wordCopy h links events bytes wide b w) v x
+module _ (h : Header) (links events : List ℕ) (v w : ℕ) where
+  abbrev plan : Plan
+  plan = planOfLists h links events
 
-    same-pair-number : copyPairNumber ≡ pairNumber h links events v x
+  abbrev pairRefused : ℕ
+  pairRefused = pairNumber h links events v w
+
+  abbrev pub PairTold : Paired → Type 0
+  PairTold r =
+      (r ≡ pairAnswer pairRefused (boundsOf plan v w))
+      × (pairRefused ≡ 0 → Encloses plan v w (boundsIn r .lower) (boundsIn r .upper) (count plan))
+
+  not-paired : (n : ℕ) → n ≡ pairRefused → (n ≡ 0 → ⊥) → PairTold (paired.Refused n)
+  not-paired n e some = (pair-refuses n pairRefused (boundsOf plan v w) e some, λ z. absurd (some (e ∙ z)))
+
+  pub lists-refuse-pair : (n : ℕ) → n ≡ listsNumber h links events → (n ≡ 0 → ⊥) → PairTold (paired.Refused n)
+  unfolding pairRefusal
+  lists-refuse-pair n e some = not-paired n (stop _ e some) some
+
+  pub pair-wrong : (lists n : ℕ) → lists ≡ listsNumber h links events → lists ≡ 0 → n ≡ pairTest (h .nodes) v w → (n ≡ 0 → ⊥)
+      → PairTold (paired.Refused n)
+  unfolding pairRefusal
+  pair-wrong lists n e z f some = not-paired n (skip _ e z (stop _ f some)) some
+
+  module _ (bytes words : List ℕ) (t : Taken h links events bytes words) (totals : Totals) (sums : List ℕ)
+      (is : totals ≡ totalsOf (planOfLists h bytes words)) (s : Summed (planOfLists h bytes words) (h .nodes) sums)
+      (accepted : listsNumber h links events ≡ 0) (right : pairTest (h .nodes) v w ≡ 0) (r : PairBounds)
+      (at : (r .lower ≡ getD sums (place (h .nodes) v w) 0) × (r .upper ≡ (whole - totals .mass) + getD sums (place (h .nodes) v w) 0)) where
+    pair-zero : pairRefused ≡ 0
     unfolding pairRefusal
-    same-pair-number = rw (copies-refused h links events bytes wide b w)
+    pair-zero = sym (skip _ refl accepted (last (sym right)))
 
-    pair-lists : pairNumber h links events v x ≡ 0 → listsRefusal h (length links) (length events / 4) links events ≡ 0
-    pair-lists z = pair-none h (length links) (length events / 4) links events v x z
+    bounds-are : r ≡ boundsOf plan v w
+    bounds-are =
+        let i = pair-inside (h .nodes) v w right in
+        pair-bounds plan (t .valid) (h .nodes) (totals .mass) sums r (summed h links events bytes words t totals sums is s)
+        (mass-is h links events bytes words t totals sums is s) v w (i .0) (i .1) at
 
-    pub pair-told : (r : Paired) → r ≡ pairAnswer copyPairNumber (boundsOf copy v x) → r ≡ pairAnswer (pairNumber h links events v x) (boundsOf p v x)
-    pair-told r e =
-        e
-        ∙ told-same pairAnswer (λ n t u. refl) _ _ _ _ same-pair-number
-        (λ z. ap (λ (q : Plan). boundsOf q v x) (copies-denote h links events bytes wide b w (pair-lists z)))
-
-    pub pair-enclosed : (r : Paired) → r ≡ pairAnswer copyPairNumber (boundsOf copy v x) → pairNumber h links events v x ≡ 0
-        → Encloses p v x (boundsIn r .lower) (boundsIn r .upper) (count p)
-    pair-enclosed r e z =
-        let is : boundsIn r ≡ boundsOf p v x = ap boundsIn (pair-told r e ∙ ap (λ (n : ℕ). pairAnswer n (boundsOf p v x)) z) in
-        subst (λ (q : PairBounds). Encloses p v x (q .lower) (q .upper) (count p)) (sym is)
-        (enclosed p (lists-denote h (length links) (length events / 4) links events (pair-lists z)) v x)
+    pub pair-done : PairTold (paired.Done r)
+    pair-done = (
+      rw pair-zero (ap paired.Done bounds-are),
+      λ z. subst (λ (b : PairBounds). Encloses plan v w (b .lower) (b .upper) (count plan)) (sym bounds-are) (enclosed plan (t .valid) v w),
+    )

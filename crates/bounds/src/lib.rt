@@ -5,9 +5,7 @@ mod ends;
 mod whole;
 
 pub use calls::pair;
-pub use calls::pair_core;
 pub use calls::run;
-pub use calls::run_core;
 pub use ends::go_on;
 pub use whole::walk_all;
 

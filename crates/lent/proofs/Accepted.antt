@@ -1,6 +1,6 @@
 -- What lists that no test refuses hold.
 -- Assumes nothing.
-use mathlib.Core.Path.{_≡_, sym, subst, _∙_}
+use mathlib.Core.Path.{_≡_, _∙_}
 use mathlib.Core.Bool.{_||_}
 use mathlib.Core.List.{List, [], _∷_}
 use Prim.Native.Nat.{ℕ, zero, suc, _/_, _<_, _≤_}
@@ -10,10 +10,10 @@ use lib.Dec.{leb, ltb}
 use lib.ListN.{length}
 use Rattle.mass.specs.Refusal.{first-none, refuse-none}
 use Rattle.mass.specs.Split.{certain}
-use Rattle.plan.specs.Plan.{Plan, Link}
+use Rattle.plan.specs.Plan.{Link}
 use Rattle.refusals.specs.Tests.{endsTest, limitTest}
 use Rattle.plan.specs.Lists.{linksOf, eventsOf}
-use Rattle.plan.specs.Records.{linkListRefusal, planRefusal, planOfLists, listsRefusal}
+use Rattle.plan.specs.Records.{linkListRefusal, planOfLists, listsRefusal}
 use Rattle.plan.specs.Held.{EndsBelow, Falling, Held, plan-falling}
 use Rattle.plan.specs.declared.Header.{Header}
 use Rattle.refusals.proofs.TestLaws.{Ranges, counts-none, or-none}

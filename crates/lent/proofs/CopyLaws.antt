@@ -51,66 +51,18 @@ same-plan h links links′ words words′ e f =
     rw (l, v)
 
 -- the first entries of a copy are those of its source
-pub copied : (from to : List ℕ) (count used : ℕ) → count ≤ length from → count ≤ length to → used ≤ count
+copied : (from to : List ℕ) (count used : ℕ) → count ≤ length from → count ≤ length to → used ≤ count
     → take used (sets to 0 (take count from)) ≡ take used from
 copied from to count used h l u =
     let n : length (take count from) ≡ count = length-take-le count from h in
     rw (sets-eq (take count from) to 0 (omega arith)) (take-append-le used (take count from) _ (omega arith) ∙ take-take used count from u)
 
--- later tests do not matter where an earlier one refuses
-pub first-stays : (tests later : List ℕ) → (first tests ≡ 0 → ⊥) → first (tests ++ later) ≡ first tests
+-- later tests matter only where no earlier one refuses
+first-later : (tests a b : List ℕ) → (first tests ≡ 0 → a ≡ b) → first (tests ++ a) ≡ first (tests ++ b)
 unfolding first
-first-stays [] later n = absurd (n refl)
-first-stays (zero ∷ tests) later n = first-stays tests later n
-first-stays (suc number ∷ tests) later n = refl
-
--- the tests that come before those of the lists' entries
-abbrev pub countsAndRooms : Header → ℕ → ℕ → List ℕ
-countsAndRooms h linkRoom eventRoom =
-    countsTest (h .nodes) (h .links) (h .events)
-    ∷ thresholdTest (h .threshold)
-    ∷ limitTest (h .limit)
-    ∷ roomTest linkRoom (2 * h .links)
-    ∷ roomTest eventRoom (h .events)
-    ∷ []
-
--- copies of the first 256 bytes and 512 words denote the same plan
-pub copies-plan : (h : Header) (links words bytes wide : List ℕ) (m n : ℕ)
-    → length bytes ≡ 256 → length wide ≡ 512 → m ≡ min (length links) 256 → n ≡ min (length words) 512
-    → first (countsAndRooms h (length links) (length words / 4)) ≡ 0
-    → planOfLists h (sets bytes 0 (take m links)) (sets wide 0 (take n words)) ≡ planOfLists h links words
-copies-plan h links words bytes wide m n b w e f z =
-    let one = first-none _ _ z in
-    let four′ = first-none _ _ (first-none _ _ (first-none _ _ (one .1) .1) .1) in
-    let fit : Ranges (h .nodes) (h .links) (h .events) = counts-none _ _ _ (one .0) in
-    let l : 2 * h .links ≤ length links = room-none _ _ (four′ .0) in
-    let v : h .events ≤ length words / 4 = room-none _ _ (first-none _ _ (four′ .1) .0) in
-    same-plan h _ _ _ _
-    (copied links bytes m (2 * h .links) (omega arith) (omega arith) (omega arith))
-    (copied words wide n (4 * h .events) (omega arith) (omega arith) (omega arith))
-
--- ---- the tests of the lists
-
--- the lists' tests as a function of the plan that the lists denote
-abbrev planTests : Header → ℕ → ℕ → Plan → ℕ
-planTests h linkRoom eventRoom p =
-    first
-    (countsAndRooms h linkRoom eventRoom
-    ++ (linkListRefusal (h .nodes) (p .links) ∷ eventListRefusal (h .nodes) (h .links) certain (p .events) ∷ []))
-
-tests-of : (h : Header) (linkRoom eventRoom : ℕ) (links words : List ℕ)
-    → listsRefusal h linkRoom eventRoom links words ≡ planTests h linkRoom eventRoom (planOfLists h links words)
-unfolding listsRefusal planOfLists
-tests-of h linkRoom eventRoom links words = refl
-
-tests-same : (h : Header) (linkRoom eventRoom : ℕ) (p q : Plan) (number : ℕ) → first (countsAndRooms h linkRoom eventRoom) ≡ number
-    → (number ≡ 0 → p ≡ q) → planTests h linkRoom eventRoom p ≡ planTests h linkRoom eventRoom q
-tests-same h linkRoom eventRoom p q zero e same = ap (planTests h linkRoom eventRoom) (same refl)
-tests-same h linkRoom eventRoom p q (suc number) e same =
-    first-stays (countsAndRooms h linkRoom eventRoom) _ refused ∙ sym (first-stays (countsAndRooms h linkRoom eventRoom) _ refused)
-  where
-    refused : first (countsAndRooms h linkRoom eventRoom) ≡ 0 → ⊥
-    refused z = let never : suc number ≡ 0 = sym e ∙ z in omega arith
+first-later [] a b same = ap first (same refl)
+first-later (zero ∷ tests) a b same = first-later tests a b same
+first-later (suc number ∷ tests) a b same = refl
 
 -- the first tests refuse nothing where none does
 first-front : (tests later : List ℕ) → first (tests ++ later) ≡ 0 → first tests ≡ 0
@@ -119,12 +71,7 @@ first-front [] later e = refl
 first-front (zero ∷ tests) later e = first-front tests later e
 first-front (suc number ∷ tests) later e = e
 
-counts-first : (h : Header) (linkRoom eventRoom : ℕ) (links words : List ℕ) → listsRefusal h linkRoom eventRoom links words ≡ 0
-    → first (countsAndRooms h linkRoom eventRoom) ≡ 0
-counts-first h linkRoom eventRoom links words e =
-    first-front (countsAndRooms h linkRoom eventRoom) _ (sym (tests-of h linkRoom eventRoom links words) ∙ e)
-
--- copies of the first 256 bytes and 512 words are refused as the lists are
+-- copies of the first 256 bytes and 512 words
 module _ (h : Header) (links words bytes wide : List ℕ) (b : length bytes ≡ 256) (w : length wide ≡ 512) where
   abbrev pub byteCopy : List ℕ
   byteCopy = sets bytes 0 (take (min (length links) 256) links)
@@ -132,12 +79,36 @@ module _ (h : Header) (links words bytes wide : List ℕ) (b : length bytes ≡ 
   abbrev pub wordCopy : List ℕ
   wordCopy = sets wide 0 (take (min (length words) 512) words)
 
+  -- the tests that come before those of the lists' entries
+  abbrev countsAndRooms : List ℕ
+  countsAndRooms =
+      countsTest (h .nodes) (h .links) (h .events)
+      ∷ thresholdTest (h .threshold)
+      ∷ limitTest (h .limit)
+      ∷ roomTest (length links) (2 * h .links)
+      ∷ roomTest (length words / 4) (h .events)
+      ∷ []
+
+  same-lists : first countsAndRooms ≡ 0 → planOfLists h byteCopy wordCopy ≡ planOfLists h links words
+  same-lists z =
+      let one = first-none _ _ z in
+      let four′ = first-none _ _ (first-none _ _ (first-none _ _ (one .1) .1) .1) in
+      let fit : Ranges (h .nodes) (h .links) (h .events) = counts-none _ _ _ (one .0) in
+      let l : 2 * h .links ≤ length links = room-none _ _ (four′ .0) in
+      let v : h .events ≤ length words / 4 = room-none _ _ (first-none _ _ (four′ .1) .0) in
+      same-plan h _ _ _ _
+      (copied links bytes (min (length links) 256) (2 * h .links) (omega arith) (omega arith) (omega arith))
+      (copied words wide (min (length words) 512) (4 * h .events) (omega arith) (omega arith) (omega arith))
+
+  -- they are refused as the lists are
   pub copies-refused : listsRefusal h (length links) (length words / 4) byteCopy wordCopy ≡ listsRefusal h (length links) (length words / 4) links words
+  unfolding listsRefusal planOfLists
   copies-refused =
-      tests-of h (length links) (length words / 4) byteCopy wordCopy
-      ∙ tests-same h (length links) (length words / 4) _ _ _ refl (copies-plan h links words bytes wide _ _ b w refl refl)
-      ∙ sym (tests-of h (length links) (length words / 4) links words)
+      first-later countsAndRooms _ _
+      (λ z.
+      ap (λ (p : Plan). linkListRefusal (h .nodes) (p .links) ∷ eventListRefusal (h .nodes) (h .links) certain (p .events) ∷ []) (same-lists z))
 
   -- and denote the same plan where they are accepted
   pub copies-denote : listsRefusal h (length links) (length words / 4) links words ≡ 0 → planOfLists h byteCopy wordCopy ≡ planOfLists h links words
-  copies-denote e = copies-plan h links words bytes wide _ _ b w refl refl (counts-first h (length links) (length words / 4) links words e)
+  unfolding listsRefusal
+  copies-denote e = same-lists (first-front countsAndRooms _ e)

@@ -1,22 +1,19 @@
 -- Laws of lent lists: runs of stores, the first entries of a list, and the refusals of a list of links or events, entry by entry.
 -- Assumes nothing.
 use mathlib.Core.Path.{_≡_, refl, sym, ap, _∙_}
-use mathlib.Core.Bool.{Bool, true, false, _||_}
 use mathlib.Core.List.{List, [], _∷_, _++_}
 use Prim.Native.Nat.{ℕ, zero, suc, _+_, _-_, _≤_, _<_}
 use native.Mathlib.Nat.{add-zero}
 use native.Mathlib.Numerals.{add-one}
 use native.Mathlib.Omega.{arith}
-use borrow.Author.Tests.{ltb-false}
-use lib.Dec.{ltb}
 use lib.ListN.{length, getD, take, drop, set}
 use lib.Seq.{sets, take-suc, length-take-le, getD-drop, drop-drop}
-use Rattle.mass.specs.Refusal.{first, first-skip, first-stop, refuse-none}
+use Rattle.mass.specs.Refusal.{first, first-skip, first-stop}
 use Rattle.mass.specs.Split.{probabilityTest}
 use Rattle.sets.specs.Sets.{joined}
 use Rattle.plan.specs.Plan.{Link, Event}
 use Rattle.plan.specs.Lists.{linksOf, eventsOf}
-use Rattle.refusals.specs.Tests.{countsTest, roomTest, endsTest, orderTest, setsTest}
+use Rattle.refusals.specs.Tests.{endsTest, orderTest, setsTest}
 use Rattle.plan.specs.Records.{linkListRefusal, eventListRefusal}
 
 -- storing a, then b after it

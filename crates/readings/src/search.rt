@@ -4,7 +4,7 @@ use network::Failed;
 use plan::Header;
 use walk::Failing;
 ghost use mathlib.Core.Path.{_≡_};
-ghost use Prim.Native.Nat.{_/_, _^_, _<_};
+ghost use Prim.Native.Nat.{_^_, _<_};
 ghost use Rattle.sets.specs.Sets.{joined};
 ghost use Rattle.plan.specs.Records.{planOfLists};
 ghost use Rattle.walk.specs.Scenario.{scenarioOf};
@@ -12,7 +12,7 @@ ghost use Rattle.walk.specs.Walk.{examined};
 ghost use Rattle.network.specs.Table.{LinksAt};
 ghost use Rattle.bounds.specs.Bounds.{cuts};
 ghost use Rattle.plan.specs.Held.{Held};
-ghost use Rattle.readings.specs.Witness.{reached, witnessRefusal, witnessNumber, witnessAnswer, failingIn, Shows, Answers, Searched, Seeking};
+ghost use Rattle.readings.specs.Witness.{reached, witnessNumber, witnessAnswer, failingIn, Shows, Answers, Searched, Seeking};
 
 // Whether the topology of a scenario, by its failing events, disconnects the pair.
 fn cut_by(
@@ -95,31 +95,6 @@ fn search_all(h: Header, links: &[u8; 256], words: &[u64; 512], v: usize, w: usi
     search_on(h, links, words, &table, &mut stack, at, v, w, h.limit)
 }
 
-// The witness on arrays: the lists stand in the arrays, and had room for `link_room` bytes and `event_room` whole events.
-fn witness_core(
-    h: Header,
-    link_room: usize,
-    event_room: usize,
-    links: &[u8; 256],
-    words: &[u64; 512],
-    v: u64,
-    w: u64,
-) -> Witnessed
-    ensures { λ r. ⌜ Answers (planOfLists h (now (links .entry)) (now (words .entry))) v w
-        (examined (planOfLists h (now (links .entry)) (now (words .entry))))
-        (witnessRefusal h «link_room» «event_room» (now (links .entry)) (now (words .entry)) v w) r ⌝ }
-{
-    let lists = lent::lists_refusal(h, link_room, event_room, links, words);
-    if lists != 0 {
-        return Witnessed::Refused(lists);
-    }
-    let wrong = pairs::pair_test(h.nodes, v, w);
-    if wrong != 0 {
-        return Witnessed::Refused(wrong);
-    }
-    search_all(h, links, words, v as usize, w as usize)
-}
-
 // A witness: one examined scenario that disconnects the pair, as the set of its failing events. Which one is left free.
 pub fn witness(h: Header, links: &[u8], events: &[u64], v: u64, w: u64) -> Witnessed
     ensures answer { λ r. ⌜ r ≡ witnessAnswer (witnessNumber h (now (links .entry)) (now (events .entry)) v w) (failingIn r) ⌝ }
@@ -129,6 +104,13 @@ pub fn witness(h: Header, links: &[u8], events: &[u64], v: u64, w: u64) -> Witne
 {
     let mut bytes = [0u8; 256];
     let mut words = [0u64; 512];
-    lent::load(links, events, &mut bytes, &mut words);
-    witness_core(h, links.len(), events.len() / 4, &bytes, &words, v, w)
+    let lists = lent::accept(h, links, events, &mut bytes, &mut words);
+    if lists != 0 {
+        return Witnessed::Refused(lists);
+    }
+    let wrong = pairs::pair_test(h.nodes, v, w);
+    if wrong != 0 {
+        return Witnessed::Refused(wrong);
+    }
+    search_all(h, &bytes, &words, v as usize, w as usize)
 }

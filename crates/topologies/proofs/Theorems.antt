@@ -1,25 +1,24 @@
 -- What the call writes: where it is accepted, the entries that stand in the lent list sum to E, and give the bounds of the run.
 -- Assumes nothing.
-use mathlib.Core.Path.{_≡_, refl, sym, ap, _∙_}
+use mathlib.Core.Path.{_≡_, refl, ap, _∙_}
 use mathlib.Core.List.{List, [], _∷_, _++_}
 use Prim.Native.Nat.{ℕ, _+_, _*_, _/_, _≤_}
 use native.Mathlib.Nat.{zero-add}
 use native.Mathlib.Omega.{arith}
 use lib.ListN.{length, drop}
-use lib.Seq.{sets, sets-eq}
-use Rattle.mass.specs.Refusal.{first, first-none}
+use lib.Seq.{sets-eq}
+use Rattle.mass.specs.Refusal.{first-none}
 use Rattle.mass.specs.Split.{whole}
 use Rattle.plan.specs.Plan.{Plan}
-use Rattle.plan.specs.Lists.{linksOf}
 use Rattle.plan.specs.Records.{listsRefusal, planOfLists}
 use Rattle.plan.specs.declared.Header.{Header}
 use Rattle.layout.proofs.ListTheorems.{length-links-of}
-use Rattle.writer.proofs.WriterAnswer.{lists-counted}
+use Rattle.lent.proofs.Accepted.{lists-counted, lists-held}
 use Rattle.plan.specs.Held.{Probabilities}
-use Rattle.walk.specs.Valid.{lists-probable}
+use Rattle.walk.specs.Valid.{held-probable}
 use Rattle.walk.specs.Walk.{firstEnds, massExamined}
 use Rattle.bounds.specs.Bounds.{lowerOf, upperOf}
-use Rattle.topologies.specs.Listing.{Entry, massesIn, Listing, topologyAfter, listingOf}
+use Rattle.topologies.specs.Listing.{Entry, massesIn, topologyAfter, listingOf}
 use Rattle.topologies.specs.ListingLaws.{Different, different-placed, never-over}
 use Rattle.topologies.specs.ListBounds.{lowerFrom, list-sums, list-lower, list-upper}
 use Rattle.topologies.specs.Words.{entryWords, entriesOf}
@@ -92,7 +91,7 @@ module _ (h : Header) (links events list : List ℕ) (accepted : topologiesNumbe
 
   probable : Probabilities (p .events)
   unfolding planOfLists
-  probable = lists-probable h (length links) (length events / 4) links events lists-fine
+  probable = held-probable h links events (lists-held h (length links) (length events / 4) links events lists-fine)
 
   -- THEOREM: their masses sum to E
   pub written-sums : massesIn written ≡ massExamined p

@@ -28,7 +28,7 @@ fn pair_in(h: Header, room: usize, links: &[u8; 256], words: &[u64; 512], v: u64
     if short != 0 {
         return Paired::Refused(short);
     }
-    bounds::pair_core(h, 256, 128, links, words, v, w)
+    bounds::pair(h, links, words, v, w)
 }
 
 // The bounds of one pair of a plan file, where the buffer has `room` bytes.

@@ -7,11 +7,6 @@ use lib.ListN.{take}
 use lib.Seq.{sets}
 use Rattle.lent.proofs.load.Statement.{statement}
 use Rattle.lent.proofs.load.Tie as tie
-use Rattle.lent.proofs.load.Reads as reads
-use Rattle.lent.proofs.load.Lts as lts
-use Rattle.lent.proofs.smaller.Reads as smaller-reads
-use Rattle.lent.proofs.copy_bytes.Reads as copy-bytes-reads
-use Rattle.lent.proofs.copy_words.Reads as copy-words-reads
 
 smaller-requires : tie.Need-smaller-requires
 smaller-requires c κs = search needs

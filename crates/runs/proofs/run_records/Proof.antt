@@ -62,7 +62,8 @@ use Rattle.records.proofs.flatten as flatten
 use Rattle.records.proofs.flatten.Symbol as flatten-def
 use Rattle.records.proofs.flatten.Symbol.{name as #flatten}
 use Rattle.records.proofs.flatten.Met as flatten-thm
-use Rattle.runs.proofs.RunLaws.{Outcome, used-words, run-concluded}
+use Rattle.records.proofs.PlanLaws.{used-words}
+use Rattle.runs.proofs.RunLaws.{Outcome, run-concluded}
 use Rattle.runs.proofs.run_words as run-words
 use Rattle.runs.proofs.run_words.Symbol as run-words-def
 use Rattle.runs.proofs.run_words.Symbol.{name as #run-words}

@@ -1,131 +1,103 @@
--- `bounds::calls::run` meets its contract: the copies denote what the lent lists denote. Assumes nothing.
-use mathlib.Core.Path.{_≡_, refl, subst₂}
+-- `bounds::calls::run` meets its contract: at each `return` the tests that led there decide the answer. Assumes nothing.
+use mathlib.Core.Path.{_≡_, sym, _∙_}
 use mathlib.Core.List.{List}
-use Prim.Native.Nat.{ℕ, _/_}
-use lib.ListN.{length}
-use Rattle.plan.specs.Records.{planOfLists}
-use Rattle.bounds.specs.Calls.{runRefusal, ranAnswer, totalsOf, Summed}
+use Prim.Native.Nat.{ℕ}
+use Rattle.lent.specs.Taken.{Taken, listsNumber}
 use Rattle.bounds.proofs.Zeros.{cleared}
-use Rattle.bounds.proofs.Outcome.{run-answer, run-refused, may-give, run-done}
+use Rattle.bounds.proofs.Outcome.{lists-refuse, rooms-refuse, rooms-fit, may-give, run-done}
 use borrow.Author.Needs.{needs}
 use Rattle.bounds.proofs.calls.run.Statement.{statement}
 use Rattle.bounds.proofs.calls.run.Tie as tie
-use Rattle.bounds.proofs.calls.run.Reads as reads
-use Rattle.bounds.proofs.calls.run.Lts as lts
-use Rattle.pairs.proofs.give_bounds.Reads as give-bounds-reads
-use Rattle.bounds.proofs.calls.run_core.Reads as run-core-reads
-use Rattle.lent.proofs.load.Reads as load-reads
 
--- src/calls.rt:122:5
-load-requires : tie.Need-load-requires
-load-requires c κs = search needs
+-- the entry, seen from the first branch; that branch from the second; the second from the walk
+abbrev entry : tie.Else1 → tie.Start
+entry c = c .before .before .before .before .before .before .before .before
 
--- src/calls.rt:123:9
-run-core-requires : tie.Need-run-core-requires
-run-core-requires c κs = cleared
+abbrev first : tie.Else2 → tie.Else1
+first c = c .before .before
 
--- src/calls.rt:133:19
-enum-known-answer : tie.Need-enum-known-answer
-enum-known-answer c = search needs
+abbrev second : tie.After-walk-all → tie.Else2
+second c = c .before .before .before .before
 
--- src/calls.rt:134:9
-enum-told : tie.Need-enum-told
-enum-told c = search needs
+-- the arrays that the lists were taken into
+abbrev bytes : tie.Else1 → List ℕ
+bytes c = c .before .accept .last .1 .1 .1 .0
 
--- src/calls.rt:134:9
+abbrev words : tie.Else1 → List ℕ
+words c = c .before .accept .last .1 .1 .1 .1 .0
+
+accepted : (c : tie.Else1) → (let a = entry c .args in listsNumber (a .h) (a .links .now) (a .events .now) ≡ 0)
+accepted c = sym (c .before .accept .ensures .0) ∙ c .if1 .left
+
+taken : (c : tie.Else1) → (let a = entry c .args in Taken (a .h) (a .links .now) (a .events .now) (bytes c) (words c))
+taken c = c .before .accept .ensures .1 .0 (c .if1 .left)
+
+accept-requires : tie.Need-accept-requires
+accept-requires c κs = search needs
+
 returns : tie.Need-returns
 returns c =
-    let a = c .before .before .before .before .before .before .before .before .before .before .before .before .before .args in
-    let l = c .before .before .before .before .before .before .load .ensures in
-    let core = c .before .before .run-core in
-    let e =
-    subst₂
-    (λ (x y : List ℕ).
-    core .result
-    ≡ ranAnswer
-    (runRefusal (a .h) (length (a .links .now)) (length (a .events .now) / 4) x y (length (a .lower .now)) (length (a .upper .now)))
-    (totalsOf (planOfLists (a .h) x y)))
-    (l .0)
-    (l .1)
-    (core .ensures .0) in
-    let r =
-    run-refused (a .h) (a .links .now) (a .events .now) _ _ refl refl (a .lower .now) (a .upper .now) _ _ (c .enum-told .given .1) e in
-    (run-answer (a .h) (a .links .now) (a .events .now) _ _ refl refl (a .lower .now) (a .upper .now) _ e, (r .0, (r .1, r .2)))
+    let a = c .before .before .before .before .before .before .before .before .args in
+    lists-refuse (a .h) (a .links .now) (a .events .now) (a .lower .now) (a .upper .now) _ (c .before .accept .ensures .0) (c .if1 .taken)
 
--- src/calls.rt:136:5
+bounds-test-requires : tie.Need-bounds-test-requires
+bounds-test-requires c κs = taken c .held .links-held .nodes-fit
+
+returns-2 : tie.Need-returns-2
+returns-2 c =
+    let f = c .before .before in
+    let a = entry f .args in
+    rooms-refuse (a .h) (a .links .now) (a .events .now) (a .lower .now) (a .upper .now) _ _ (f .before .accept .ensures .0) (f .if1 .left)
+    (c .before .bounds-test .ensures)
+    (c .if2 .taken)
+
+walk-all-requires : tie.Need-walk-all-requires
+walk-all-requires c κs = let t = taken (first (c .before .before .before)) in (t .held, (t .limited, cleared))
+
 give-bounds-requires : tie.Need-give-bounds-requires
 give-bounds-requires c κs =
-    let a = c .before .before .before .before .before .before .before .before .before .before .before .before .before .before .before .before .before .args in
-    let l = c .before .before .before .before .before .before .before .before .before .before .load .ensures in
-    let core = c .before .before .before .before .before .before .run-core in
-    let e =
-    subst₂
-    (λ (x y : List ℕ).
-    core .result
-    ≡ ranAnswer
-    (runRefusal (a .h) (length (a .links .now)) (length (a .events .now) / 4) x y (length (a .lower .now)) (length (a .upper .now)))
-    (totalsOf (planOfLists (a .h) x y)))
-    (l .0)
-    (l .1)
-    (core .ensures .0) in
-    let s =
-    subst₂
-    (λ (x y : List ℕ).
-    runRefusal (a .h) (length (a .links .now)) (length (a .events .now) / 4) x y (length (a .lower .now)) (length (a .upper .now)) ≡ 0
-    → Summed (planOfLists (a .h) x y) (a .h .nodes) (core .last .1 .1 .1 .1 .1 .1 .1 .0))
-    (l .0)
-    (l .1)
-    (core .ensures .1) in
-    may-give (a .h) (a .links .now) (a .events .now) _ _ refl refl (a .lower .now) (a .upper .now) _ _ (c .before .before .before .before .answer .given .1) e _ s
+    let k = c .before .before .before in
+    let e = second k in
+    let a = entry (first e) .args in
+    let fit = rooms-fit (a .h) (a .links .now) (a .events .now) (a .lower .now) (a .upper .now) (sym (e .before .bounds-test .ensures) ∙ e .if2 .left) in
+    may-give (a .h) (a .links .now) (a .events .now) (bytes (first e)) (words (first e)) (taken (first e)) _ _ (k .walk-all .ensures .0) (k .walk-all .ensures .1)
+    (a .lower .now)
+    (a .upper .now)
+    (fit .0)
+    (fit .1)
 
--- src/calls.rt:106:1
 same-length : tie.Need-same-length
 same-length c = search needs
 
--- src/calls.rt:106:1
 same-length-2 : tie.Need-same-length-2
 same-length-2 c = search needs
 
--- src/calls.rt:106:1
-returns-2 : tie.Need-returns-2
-returns-2 c =
-    let a = c .before .before .before .before .before .before .before .before .before .before .before .before .before .before .before .before .before .before .before .before .before .before .args in
-    let l = c .before .before .before .before .before .before .before .before .before .before .before .before .before .before .before .load .ensures in
-    let core = c .before .before .before .before .before .before .before .before .before .before .before .run-core in
-    let e =
-    subst₂
-    (λ (x y : List ℕ).
-    core .result
-    ≡ ranAnswer
-    (runRefusal (a .h) (length (a .links .now)) (length (a .events .now) / 4) x y (length (a .lower .now)) (length (a .upper .now)))
-    (totalsOf (planOfLists (a .h) x y)))
-    (l .0)
-    (l .1)
-    (core .ensures .0) in
-    let s =
-    subst₂
-    (λ (x y : List ℕ).
-    runRefusal (a .h) (length (a .links .now)) (length (a .events .now) / 4) x y (length (a .lower .now)) (length (a .upper .now)) ≡ 0
-    → Summed (planOfLists (a .h) x y) (a .h .nodes) (core .last .1 .1 .1 .1 .1 .1 .1 .0))
-    (l .0)
-    (l .1)
-    (core .ensures .1) in
-    let r =
-    run-done (a .h) (a .links .now) (a .events .now) _ _ refl refl (a .lower .now) (a .upper .now) _ _ (c .before .before .before .before .before .before .before .before .before .answer .given .1) e _ s _ _
-    (c .before .before .before .before .give-bounds .ensures .0)
-    (c .before .before .before .before .give-bounds .ensures .1) in
-    (r .0, (r .1, (r .2, r .3)))
+returns-3 : tie.Need-returns-3
+returns-3 c =
+    let give = c .before .before .before .before in
+    let k = give .before .before .before .before in
+    let e = second k in
+    let a = entry (first e) .args in
+    run-done (a .h) (a .links .now) (a .events .now) (a .lower .now) (a .upper .now) (bytes (first e)) (words (first e)) (taken (first e)) _ _
+    (k .walk-all .ensures .0)
+    (k .walk-all .ensures .1)
+    (accepted (first e))
+    (sym (e .before .bounds-test .ensures) ∙ e .if2 .left)
+    _
+    _
+    (give .give-bounds .ensures .0)
+    (give .give-bounds .ensures .1)
 
 pub run-spec : {M : Type 1} → statement M
 run-spec =
     tie.close
     (tie.spec
-    load-requires
-    run-core-requires
-    enum-known-answer
-    enum-told
+    accept-requires
     returns
+    bounds-test-requires
+    returns-2
+    walk-all-requires
     give-bounds-requires
     same-length
     same-length-2
-    returns-2)
+    returns-3)

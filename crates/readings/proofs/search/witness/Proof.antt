@@ -1,40 +1,77 @@
--- `readings::search::witness` meets its contract: the copies denote what the lent lists denote. Assumes nothing.
+-- `readings::search::witness` meets its contract: at each `return` the tests that led there decide the answer. Assumes nothing.
 use borrow.Author.Needs.{needs}
-use mathlib.Core.Path.{refl, subst₂}
+use mathlib.Core.Path.{sym, _∙_}
 use mathlib.Core.List.{List}
-use Prim.Native.Nat.{ℕ, _/_}
-use lib.ListN.{length}
-use Rattle.plan.specs.Records.{planOfLists}
-use Rattle.walk.specs.Walk.{examined}
-use Rattle.readings.specs.Witness.{witnessRefusal, Answers}
-use Rattle.readings.proofs.Shown.{told}
+use Prim.Native.Nat.{ℕ}
+use native.Mathlib.Omega.{arith}
+use Rattle.lent.specs.Taken.{Taken}
+use Rattle.bounds.proofs.Answers.{pair-inside}
+use Rattle.readings.proofs.Shown.{lists-refused, pair-refused, searched}
 use Rattle.readings.proofs.search.witness.Statement.{statement}
 use Rattle.readings.proofs.search.witness.Tie as tie
-use Rattle.readings.proofs.search.witness.Reads as reads
-use Rattle.readings.proofs.search.witness.Lts as lts
-use Rattle.lent.proofs.load.Reads as load-reads
-use Rattle.readings.proofs.search.witness_core.Reads as witness-core-reads
 
-load-requires : tie.Need-load-requires
-load-requires c κs = search needs
+-- the entry, seen from the first branch; that branch from the second
+abbrev entry : tie.Else1 → tie.Start
+entry c = c .before .before .before .before .before .before
 
-witness-core-requires : tie.Need-witness-core-requires
-witness-core-requires c κs = search needs
+abbrev first : tie.Else2 → tie.Else1
+first c = c .before .before
+
+-- the arrays that the lists were taken into
+abbrev bytes : tie.Else1 → List ℕ
+bytes c = c .before .accept .last .1 .1 .1 .0
+
+abbrev words : tie.Else1 → List ℕ
+words c = c .before .accept .last .1 .1 .1 .1 .0
+
+taken : (c : tie.Else1) → (let a = entry c .args in Taken (a .h) (a .links .now) (a .events .now) (bytes c) (words c))
+taken c = c .before .accept .ensures .1 .0 (c .if1 .left)
+
+accept-requires : tie.Need-accept-requires
+accept-requires c κs = search needs
 
 returns : tie.Need-returns
 returns c =
-    let a = c .before .before .before .before .before .before .before .before .args in
-    let l = c .before .before .before .load .ensures in
-    let e =
-    subst₂
-    (λ (x y : List ℕ).
-    Answers (planOfLists (a .h) x y) (a .v) (a .w) (examined (planOfLists (a .h) x y))
-    (witnessRefusal (a .h) (length (a .links .now)) (length (a .events .now) / 4) x y (a .v) (a .w))
-    (c .witness-core .result))
-    (l .0)
-    (l .1)
-    (c .witness-core .ensures) in
-    told (a .h) (a .links .now) (a .events .now) _ _ refl refl (a .v) (a .w) _ e
+    let a = c .before .before .before .before .before .before .args in
+    lists-refused (a .h) (a .links .now) (a .events .now) (a .v) (a .w) _ (c .before .accept .ensures .0) (c .if1 .taken)
+
+pair-test-requires : tie.Need-pair-test-requires
+pair-test-requires c κs = search needs
+
+returns-2 : tie.Need-returns-2
+returns-2 c =
+    let f = c .before .before in
+    let a = entry f .args in
+    pair-refused (a .h) (a .links .now) (a .events .now) (a .v) (a .w) _ _ (f .before .accept .ensures .0) (f .if1 .left)
+    (c .before .pair-test .ensures)
+    (c .if2 .taken)
+
+search-all-requires : tie.Need-search-all-requires
+search-all-requires c κs =
+    let e = c .before .before in
+    let a = entry (first e) .args in
+    let i = pair-inside (a .h .nodes) (a .v) (a .w) (sym (e .before .pair-test .ensures) ∙ e .if2 .left) in
+    let held = taken (first e) .held in
+    let few = held .links-held .nodes-fit in
+    (held, (omega (arith, i .0, i .1, few), omega (arith, i .1, few)))
+
+returns-3 : tie.Need-returns-3
+returns-3 c =
+    let e = c .before .before .before in
+    let a = entry (first e) .args in
+    searched (a .h) (a .links .now) (a .events .now) (a .v) (a .w) (bytes (first e)) (words (first e)) (taken (first e))
+    (sym (first e .before .accept .ensures .0) ∙ first e .if1 .left)
+    (sym (e .before .pair-test .ensures) ∙ e .if2 .left)
+    _
+    (c .search-all .ensures)
 
 pub witness-spec : {M : Type 1} → statement M
-witness-spec = tie.close (tie.spec load-requires witness-core-requires returns)
+witness-spec =
+    tie.close
+    (tie.spec
+    accept-requires
+    returns
+    pair-test-requires
+    returns-2
+    search-all-requires
+    returns-3)

@@ -1,9 +1,10 @@
 -- `wellember::host::pair_in` meets its contract: 12, then the pair's own number. Assumes nothing.
-use mathlib.Core.Path.{sym, ap, _∙_}
-use Prim.Native.Nat.{ℕ}
+use mathlib.Core.Path.{_≡_, sym, ap, ap₂, _∙_}
+use Prim.Native.Nat.{ℕ, _/_}
+use lib.ListN.{length}
 use Rattle.plan.specs.Records.{planOfLists}
 use Rattle.refusals.proofs.OrderLaws.{stop}
-use Rattle.bounds.specs.Calls.{pairAnswer, boundsOf}
+use Rattle.bounds.specs.Calls.{pairRefusal, pairAnswer, boundsOf}
 use Rattle.bounds.proofs.Answers.{pair-refuses}
 use Rattle.wellember.proofs.HostLaws.{room-passed}
 use borrow.Author.Needs.{needs}
@@ -16,15 +17,17 @@ room-test-requires c κs = search needs
 returns : tie.Need-returns
 returns c = pair-refuses _ _ _ (stop _ (c .before .room-test .ensures) (c .if1 .taken)) (c .if1 .taken)
 
-pair-core-requires : tie.Need-pair-core-requires
-pair-core-requires c κs = search needs
+pair-requires : tie.Need-pair-requires
+pair-requires c κs = search needs
 
 returns-2 : tie.Need-returns-2
 returns-2 c =
-    let a = c .before .before .before .args in
-    let z = sym (c .before .before .room-test .ensures) ∙ c .before .if1 .left in
-    c .pair-core .ensures
+    let a = c .before .before .before .before .before .args in
+    let z = sym (c .before .before .before .before .room-test .ensures) ∙ c .before .before .before .if1 .left in
+    let rooms : (length (a .links .now) ≡ 256) × (length (a .words .now) / 4 ≡ 128) = search needs in
+    c .pair .ensures .0
+    ∙ ap₂ (λ (l e : ℕ). pairAnswer (pairRefusal (a .h) l e (a .links .now) (a .words .now) (a .v) (a .w)) (boundsOf (planOfLists (a .h) (a .links .now) (a .words .now)) (a .v) (a .w))) (rooms .0) (rooms .1)
     ∙ ap (λ (n : ℕ). pairAnswer n (boundsOf (planOfLists (a .h) (a .links .now) (a .words .now)) (a .v) (a .w))) (room-passed (a .room) _ z)
 
 pub pair-in-spec : {M : Type 1} → statement M
-pair-in-spec = tie.close (tie.spec room-test-requires returns pair-core-requires returns-2)
+pair-in-spec = tie.close (tie.spec room-test-requires returns pair-requires returns-2)
