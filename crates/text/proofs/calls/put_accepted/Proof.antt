@@ -5,7 +5,7 @@ use Rattle.layout.proofs.ListTheorems.{lists-denote}
 use Rattle.pairs.proofs.PairLaws.{pairs-most}
 use Rattle.bounds.specs.declared.Totals.{Totals}
 use Rattle.lent.proofs.Accepted.{lists-held, limit-most}
-use Rattle.bounds.proofs.Raised.{cleared}
+use Rattle.bounds.proofs.Zeros.{cleared}
 use Rattle.bounds.proofs.Answers.{giving}
 use Rattle.text.proofs.TextLaws.{sums-text, fits-as, laid-as}
 use borrow.Author.Needs.{needs}
