@@ -31,7 +31,7 @@ module _ (h : Header) (links words stack lower : List ℕ) (here : Tally) (left 
     (stack′ : List ℕ) (step : Step) (s : Handed (h .events) (h .threshold) words (here .at) stack left stack′ step) where
   -- no relevant scenario is left
   none : (f : Scenario → ℕ → ℕ) → step .found ≡ false → sumEnds f (take left (coming h words (here .at) stack)) ≡ 0
-  none = sum-none (h .events) (h .threshold) words (here .at) stack left stack′ step s
+  none = sum-none _ _ _ _ _ _ _ _ s
 
   pub stopped : step .found ≡ false
       → Tallied h links words stack lower here left stack′ lower (record { at = step .at; number = here .number; mass = here .mass })
@@ -41,7 +41,7 @@ module _ (h : Header) (links words stack lower : List ℕ) (here : Tally) (left 
         masses = omega (arith, none (λ s m. m) e);
         entries = λ v w l k. omega (arith, none (λ s m. m * digit (cuts (planOfLists h links words) v w s)) e);
         below = ready .below;
-        rest = sym (drop-none (h .events) (h .threshold) words (here .at) stack left stack′ step s e);
+        rest = sym (drop-none _ _ _ _ _ _ _ _ s e);
         stacked = s .held;
         sized = ready .sized;
       }
@@ -50,10 +50,10 @@ module _ (h : Header) (links words stack lower : List ℕ) (here : Tally) (left 
   module _ (e : step .found ≡ true) where
     one : (f : Scenario → ℕ → ℕ) → sumEnds f (take left (coming h words (here .at) stack))
         ≡ f (scenarioOf (h .events) (joined (step .low) (step .high))) (step .mass) + sumEnds f (take (step .left) (coming h words (step .at) stack′))
-    one f = sum-found (h .events) (h .threshold) words (here .at) stack left stack′ step s f e
+    one f = sum-found _ _ _ _ _ _ _ _ s f e
 
     pub less : step .left < left
-    less = left-less (h .events) (h .threshold) words (here .at) stack left stack′ step s e
+    less = left-less _ _ _ _ _ _ _ _ s e
 
     pub mass-fits : here .mass + step .mass ≤ whole
     mass-fits = omega (arith, ready .fits, one (λ s m. m))
@@ -88,7 +88,7 @@ module _ (h : Header) (links words stack lower : List ℕ) (here : Tally) (left 
             entries =
                 λ v w l k. omega (arith, t .entries v w l k, x .each v w l k, one (λ s m. m * digit (cuts (planOfLists h links words) v w s)));
             below = t .below;
-            rest = t .rest ∙ sym (drop-found (h .events) (h .threshold) words (here .at) stack left stack′ step s e);
+            rest = t .rest ∙ sym (drop-found _ _ _ _ _ _ _ _ s e);
             stacked = t .stacked;
             sized = t .sized;
           }
