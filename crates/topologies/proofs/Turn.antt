@@ -22,11 +22,13 @@ use Rattle.walk.specs.Steps.{Handed}
 use Rattle.walk.specs.Valid.{held-probable}
 use Rattle.walk.specs.declared.Step.{Step}
 use Rattle.walk.proofs.Loops.{begun-stack, begun-whole, root-entry, value-found, value-none, sum-found}
-use Rattle.topologies.specs.Listing.{massesIn, added, Listing, listing, fitted, placed, placedAll, topologyAfter, listingOf}
+use Rattle.entries.specs.Entries.{massesIn, added, Listing, listing, fitted}
+use Rattle.topologies.specs.Listing.{placed, placedAll, topologyAfter, listingOf}
 use Rattle.topologies.specs.ListingLaws.{refused-stays, masses-placed}
-use Rattle.topologies.specs.Words.{entriesOf, nextEnds, Placing, Gave, Ready}
-use Rattle.topologies.specs.declared.Topology.{Topology}
-use Rattle.topologies.specs.declared.Placed.{Placed}
+use Rattle.entries.specs.Words.{entriesOf, Placing, Gave}
+use Rattle.topologies.specs.Turns.{nextEnds, Ready}
+use Rattle.entries.specs.declared.Topology.{Topology}
+use Rattle.entries.specs.declared.Placed.{Placed}
 
 -- ---- one scenario's topology placed, then the others
 

@@ -11,8 +11,9 @@ use lib.ListN.{length}
 use Rattle.sets.specs.Bools.{and-left, and-right, and-both, clash}
 use Rattle.walk.specs.Scenario.{Scenario}
 use Rattle.walk.specs.Ends.{End, dropped, relevant, sumEnds, valueOf}
-use Rattle.topologies.specs.Listing.{Entry, entry, massesIn, same, added, Listing, listing, fitted, placed, placedAll}
-use Rattle.topologies.specs.declared.Topology.{Topology}
+use Rattle.entries.specs.Entries.{Entry, entry, massesIn, same, added, Listing, listing, fitted}
+use Rattle.topologies.specs.Listing.{placed, placedAll}
+use Rattle.entries.specs.declared.Topology.{Topology}
 
 -- law: topologies that pass the test are equal
 pub same-equal : (a t : Topology) → same a t ≡ true → a ≡ t
