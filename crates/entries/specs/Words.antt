@@ -1,4 +1,5 @@
--- The entries of a topology list in memory, four words each: nodes, links 0 to 63, links 64 to 127, mass. What placing one asks and promises.
+-- The entries of a topology list in memory, four words each: nodes, links 0 to 63, links 64 to 127, mass. What a search for one and
+-- placing a mass ask and promise.
 -- Assumes nothing.
 use mathlib.Core.Path.{_≡_}
 use mathlib.Core.Bool.{true, false}

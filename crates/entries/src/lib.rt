@@ -1,4 +1,5 @@
-// The entries of a topology list, four words each: nodes, links 0 to 63, links 64 to 127, mass. Document 01, section "Further readings of a plan".
+// The entries of a topology list, four words each: nodes, links 0 to 63, links 64 to 127, mass.
+// Document 01, section "Further readings of a plan".
 // Assumes nothing.
 ghost use mathlib.Core.Path.{_≡_};
 ghost use mathlib.Core.List.{[], _∷_};
