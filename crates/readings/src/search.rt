@@ -12,7 +12,8 @@ ghost use Rattle.walk.specs.Walk.{examined};
 ghost use Rattle.network.specs.Table.{LinksAt};
 ghost use Rattle.bounds.specs.Bounds.{cuts};
 ghost use Rattle.plan.specs.Held.{Held};
-ghost use Rattle.readings.specs.Witness.{reached, witnessNumber, witnessAnswer, failingIn, Shows, Answers, Searched, Seeking};
+ghost use Rattle.readings.specs.Witness.{reached, Seeking, Searched};
+ghost use Rattle.readings.specs.Witness.{witnessNumber, witnessAnswer, failingIn, Shows, Answers};
 
 // Whether the topology of a scenario, by its failing events, disconnects the pair.
 fn cut_by(

@@ -13,13 +13,14 @@ use Rattle.plan.specs.Calls.{filled}
 use Rattle.plan.specs.declared.Header.{Header}
 use Rattle.refusals.proofs.OrderLaws.{stop, skip}
 use Rattle.lent.specs.Taken.{Taken, listsNumber}
-use Rattle.topologies.specs.Listing.{Listing, listingOf}
-use Rattle.topologies.specs.Words.{entryWords, Gave}
+use Rattle.entries.specs.Entries.{Listing}
+use Rattle.topologies.specs.Listing.{listingOf}
+use Rattle.entries.specs.Words.{entryWords, Gave}
 use Rattle.topologies.specs.Calls.{listingIn, topologiesRefusal, topologiesNumber, listedAnswer, listAfter}
-use Rattle.topologies.specs.declared.Placed.{Placed}
+use Rattle.entries.specs.declared.Placed.{Placed}
 use Rattle.topologies.specs.declared.Listed.{Listed}
 use Rattle.topologies.specs.declared.Listed.the-variants as listed
-use Rattle.topologies.proofs.EntryLaws.{entries-length, words-of}
+use Rattle.entries.proofs.EntryLaws.{entries-length, words-of}
 
 -- the words hold the entries from the start, and stay as they were past the last one
 laid-down : (out : Listing) (words words′ : List ℕ) (q : Placed) → Gave out 0 words words′ q → words′ ≡ sets words 0 (entryWords (out .entries))

@@ -18,12 +18,13 @@ use Rattle.plan.specs.Held.{Probabilities}
 use Rattle.walk.specs.Valid.{held-probable}
 use Rattle.walk.specs.Walk.{firstEnds, massExamined}
 use Rattle.bounds.specs.Bounds.{lowerOf, upperOf}
-use Rattle.topologies.specs.Listing.{Entry, massesIn, topologyAfter, listingOf}
+use Rattle.entries.specs.Entries.{Entry, massesIn, Listing}
+use Rattle.topologies.specs.Listing.{topologyAfter, listingOf}
 use Rattle.topologies.specs.ListingLaws.{Different, different-placed, never-over}
 use Rattle.topologies.specs.ListBounds.{lowerFrom, list-sums, list-lower, list-upper}
-use Rattle.topologies.specs.Words.{entryWords, entriesOf}
+use Rattle.entries.specs.Words.{entryWords, entriesOf}
 use Rattle.topologies.specs.Calls.{listingIn, topologiesRefusal, topologiesNumber, listedAnswer, countIn, listAfter}
-use Rattle.topologies.proofs.EntryLaws.{entry-words-length}
+use Rattle.entries.proofs.EntryLaws.{entry-words-length}
 
 -- the entries are found again in their words
 entries-of-words : (es : List Entry) (r : List ℕ) → entriesOf (length es) (entryWords es ++ r) ≡ es

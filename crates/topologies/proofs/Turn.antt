@@ -22,11 +22,13 @@ use Rattle.walk.specs.Steps.{Handed}
 use Rattle.walk.specs.Valid.{held-probable}
 use Rattle.walk.specs.declared.Step.{Step}
 use Rattle.walk.proofs.Resume.{begun-stack, begun-whole, root-entry, value-found, value-none, sum-found}
-use Rattle.topologies.specs.Listing.{massesIn, added, Listing, listing, fitted, placed, placedAll, topologyAfter, listingOf}
+use Rattle.entries.specs.Entries.{massesIn, added, Listing, listing, fitted}
+use Rattle.topologies.specs.Listing.{placed, placedAll, topologyAfter, listingOf}
 use Rattle.topologies.specs.ListingLaws.{refused-stays, masses-placed}
-use Rattle.topologies.specs.Words.{entriesOf, nextEnds, Placing, Gave, Ready}
-use Rattle.topologies.specs.declared.Topology.{Topology}
-use Rattle.topologies.specs.declared.Placed.{Placed}
+use Rattle.entries.specs.Words.{entriesOf, Placing, Gave}
+use Rattle.topologies.specs.Turns.{nextEnds, Ready}
+use Rattle.entries.specs.declared.Topology.{Topology}
+use Rattle.entries.specs.declared.Placed.{Placed}
 
 -- ---- one scenario's topology placed, then the others
 
@@ -43,7 +45,8 @@ module _ (T : Scenario → Topology) (count : ℕ) (list list₁ : List ℕ) (q 
   -- no entry was left for it: what is given is given for all
   full-given : (q .number ≡ 0 → ⊥) → Gave (placedAll (length list / 4) T out later) count list list₁ q
   full-given full =
-      subst (λ (l : Listing). Gave l count list list₁ q) (sym (refused-stays (length list / 4) T out later (λ z. full (given .number ∙ z)))) given
+      subst (λ (l : Listing). Gave l count list list₁ q)
+      (sym (refused-stays (length list / 4) T out later (λ z. full (given .number ∙ z)))) given
 
   -- what is given for the others, after it, is given for all
   then-given : q .number ≡ 0 → (list₂ : List ℕ) (q₂ : Placed)
@@ -79,12 +82,16 @@ module _ (T : Scenario → Topology) (count : ℕ) (list list₁ : List ℕ) (q 
 
 -- ---- the loop: what is given for the ends that are left is given for the whole
 
-pub record Turn (h : Header) (links words : List ℕ) (at₀ : ℕ) (stack₀ list₀ : List ℕ) (k : ℕ) (stack list : List ℕ) (at left count : ℕ) : Type 0 where
+pub record Turn (h : Header) (links words : List ℕ) (at₀ : ℕ) (stack₀ list₀ : List ℕ) (k : ℕ)
+    (stack list : List ℕ) (at left count : ℕ) : Type 0 where
   pub gives : (list′ : List ℕ) (q : Placed)
       → Gave
-      (placedAll (length list / 4) (topologyAfter (planOfLists h links words)) (listing (entriesOf count list) 0) (nextEnds h words at stack left))
+      (placedAll (length list / 4) (topologyAfter (planOfLists h links words)) (listing (entriesOf count list) 0)
+      (nextEnds h words at stack left))
       count list list′ q
-      → Gave (placedAll (length list₀ / 4) (topologyAfter (planOfLists h links words)) (listing [] 0) (nextEnds h words at₀ stack₀ k)) 0 list₀ list′ q
+      → Gave
+      (placedAll (length list₀ / 4) (topologyAfter (planOfLists h links words)) (listing [] 0) (nextEnds h words at₀ stack₀ k))
+      0 list₀ list′ q
   pub room : 4 * count ≤ length list
   pub sized : length list ≡ length list₀
   pub held : Held h links words
@@ -128,7 +135,8 @@ module _ (h : Header) (links words : List ℕ) (at₀ : ℕ) (stack₀ list₀ :
   ended e =
       g .gives list _
       (subst (λ (l : Listing). Gave l count list list (record { count = count; number = 0 }))
-      (sym (value-none (h .events) (h .threshold) words at stack left stack′ r s left-to-place (λ l. refl) e)) (none-given count list (g .room)))
+      (sym (value-none (h .events) (h .threshold) words at stack left stack′ r s left-to-place (λ l. refl) e))
+      (none-given count list (g .room)))
 
   module _ (e : r .found ≡ true) where
     masses : sumEnds (λ s m. m) (nextEnds h words at stack left) ≡ r .mass + sumEnds (λ s m. m) later
@@ -140,11 +148,13 @@ module _ (h : Header) (links words : List ℕ) (at₀ : ℕ) (stack₀ list₀ :
 
     -- its topology is placed
     module _ (t : Topology) (is : t ≡ T here) (list′ : List ℕ) (q : Placed)
-        (placing : Gave (fitted (length list / 4) (entriesOf count list) (added t (r .mass) (entriesOf count list))) count list list′ q) where
+        (placing : Gave (fitted (length list / 4) (entriesOf count list) (added t (r .mass) (entriesOf count list)))
+        count list list′ q) where
       given : Gave (placed (length list / 4) T (listing (entriesOf count list) 0) (relevant here (r .mass))) count list list′ q
       given =
           subst
-          (λ (x : Topology). Gave (fitted (length list / 4) (entriesOf count list) (added x (r .mass) (entriesOf count list))) count list list′ q)
+          (λ (x : Topology).
+          Gave (fitted (length list / 4) (entriesOf count list) (added x (r .mass) (entriesOf count list))) count list list′ q)
           is placing
 
       from-first : (list″ : List ℕ) (q′ : Placed)
@@ -171,7 +181,7 @@ module _ (h : Header) (links words : List ℕ) (at₀ : ℕ) (stack₀ list₀ :
                   g .fits,
                   masses,
                   ap massesIn (given .entries),
-                  masses-placed (length list / 4) T (entriesOf count list) (relevant here (r .mass)),
+                  masses-placed (length list / 4) T (entriesOf count list) here (r .mass),
                 );
           }
 

@@ -19,7 +19,7 @@ use Rattle.walk.specs.Scenario.{scenarioOf, number-scenario}
 use Rattle.bounds.specs.Bounds.{intact}
 use Rattle.topologies.specs.Listing.{topologyIn, topologyAfter}
 use Rattle.topologies.specs.SetLaws.{set-is}
-use Rattle.topologies.specs.declared.Topology.{Topology}
+use Rattle.entries.specs.declared.Topology.{Topology}
 
 -- sets with the working nodes and links as elements
 topology-is : (net : Network) (nodes low high : ℕ) → nodes < 2 ^ 64 → low < 2 ^ 64 → high < 2 ^ 64

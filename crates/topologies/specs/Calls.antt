@@ -8,8 +8,9 @@ use Rattle.mass.specs.Refusal.{first}
 use Rattle.plan.specs.Records.{listsRefusal, planOfLists}
 use Rattle.plan.specs.Calls.{filled}
 use Rattle.plan.specs.declared.Header.{Header}
-use Rattle.topologies.specs.Listing.{Listing, listingOf}
-use Rattle.topologies.specs.Words.{entryWords}
+use Rattle.entries.specs.Entries.{Listing}
+use Rattle.topologies.specs.Listing.{listingOf}
+use Rattle.entries.specs.Words.{entryWords}
 use Rattle.topologies.specs.declared.Listed.{Listed}
 use Rattle.topologies.specs.declared.Listed.the-variants as listed
 

@@ -10,10 +10,11 @@ use Rattle.network.specs.Outage.{unionOf}
 use Rattle.network.specs.Topology.{nodeWorks, linkWorks, joins, adjacent}
 use Rattle.topology.specs.Paths.{via, disconnected}
 use Rattle.walk.specs.Ends.{ends}
-use Rattle.topologies.specs.Listing.{setOf, topologyIn, entry, same, listing, listingOf}
+use Rattle.entries.specs.Entries.{entry, same, listing}
+use Rattle.topologies.specs.Listing.{setOf, topologyIn, listingOf}
 use Rattle.topologies.specs.ListBounds.{lowerFrom}
-use Rattle.topologies.specs.Words.{entryWords}
-use Rattle.topologies.specs.declared.Topology.{Topology}
+use Rattle.entries.specs.Words.{entryWords}
+use Rattle.entries.specs.declared.Topology.{Topology}
 
 abbrev event : ℕ → ℕ → Event
 event nodes links = record { probability = 500000000; nodes = nodes; links = links }

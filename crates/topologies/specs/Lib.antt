@@ -4,6 +4,6 @@ pub mod SetLaws
 pub mod ListingLaws
 pub mod RoomLaws
 pub mod ListBounds
-pub mod Words
+pub mod Turns
 pub mod Calls
 pub mod Examples

@@ -24,10 +24,11 @@ use Rattle.walk.specs.Ends.{End, dropped, relevant, sumEnds}
 use Rattle.walk.specs.Walk.{firstEnds, massExamined}
 use Rattle.sums.specs.Bounds.{upper-lower}
 use Rattle.bounds.specs.Bounds.{topologyOf, cuts, lowerOf, upperOf}
-use Rattle.topologies.specs.Listing.{setOf, topologyIn, Entry, massesIn, listing, topologyAfter, listingOf}
+use Rattle.entries.specs.Entries.{Entry, massesIn, listing}
+use Rattle.topologies.specs.Listing.{setOf, topologyIn, topologyAfter, listingOf}
 use Rattle.topologies.specs.SetLaws.{set-lt, set-bit}
 use Rattle.topologies.specs.ListingLaws.{sumEntries, masses-are, sum-placed}
-use Rattle.topologies.specs.declared.Topology.{Topology}
+use Rattle.entries.specs.declared.Topology.{Topology}
 
 -- what is down in a topology of three words: the nodes and the links that are not among the working ones
 abbrev pub downIn : Topology → Outage

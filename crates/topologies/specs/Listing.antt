@@ -1,10 +1,8 @@
 -- The topology list: document 01, section "Further readings of a plan".
 -- Assumes nothing.
-use mathlib.Core.Bool.{Bool, true, false, cond, _&&_}
+use mathlib.Core.Bool.{Bool}
 use mathlib.Core.List.{List, [], _∷_}
 use Prim.Native.Nat.{ℕ, zero, suc, _+_, _*_, _^_}
-use lib.Dec.{eqb, ltb}
-use lib.ListN.{length}
 use Rattle.plan.specs.Plan.{Plan}
 use Rattle.network.specs.Topology.{Network, nodeWorks, linkWorks}
 use Rattle.walk.specs.Scenario.{Scenario}
@@ -12,7 +10,8 @@ use Rattle.sets.specs.Sets.{digit}
 use Rattle.walk.specs.Ends.{End, dropped, relevant}
 use Rattle.walk.specs.Walk.{firstEnds}
 use Rattle.bounds.specs.Bounds.{topologyOf}
-use Rattle.topologies.specs.declared.Topology.{Topology}
+use Rattle.entries.specs.Entries.{added, Listing, listing, fitted}
+use Rattle.entries.specs.declared.Topology.{Topology}
 
 -- the set of the elements below k that pass a test
 unfoldable pub setOf : (ℕ → Bool) → ℕ → ℕ
@@ -27,41 +26,6 @@ topologyIn net =
       low = setOf (linkWorks net) 64;
       high = setOf (λ i. linkWorks net (64 + i)) 64;
     }
-
--- an entry of the list: a topology and the mass of the scenarios that have it
-pub record Entry : Type 0 where
-  pub topology : Topology
-  pub mass : ℕ
-
-abbrev pub entry : Topology → ℕ → Entry
-entry topology mass = record { topology = topology; mass = mass }
-
--- the sum of the masses of a list's entries
-abbrev pub massesIn : List Entry → ℕ
-massesIn [] = 0
-massesIn (e ∷ entries) = e .mass + massesIn entries
-
--- whether two topologies are equal
-unfoldable pub same : Topology → Topology → Bool
-same a b = eqb (a .nodes) (b .nodes) && (eqb (a .low) (b .low) && eqb (a .high) (b .high))
-
--- "for each different effective topology, by first appearance, equal ones added up": a mass goes to the entry of its topology, or to a new one
--- after the last
-abbrev pub added : Topology → ℕ → List Entry → List Entry
-added t m [] = entry t m ∷ []
-added t m (e ∷ entries) = cond (same (e .topology) t) (entry (e .topology) (e .mass + m) ∷ entries) (e ∷ added t m entries)
-
--- the list so far: its entries, and 15 once a topology found no entry left, else 0
-pub record Listing : Type 0 where
-  pub entries : List Entry
-  pub number : ℕ
-
-abbrev pub listing : List Entry → ℕ → Listing
-listing entries number = record { entries = entries; number = number }
-
--- the new entries where `room` entries hold them; else the old ones, and 15
-abbrev pub fitted : ℕ → List Entry → List Entry → Listing
-fitted room old new = cond (ltb room (length new)) (listing old 15) (listing new 0)
 
 -- one end of the walk, by its scenario's topology: a dropped one changes nothing, and nothing changes after 15
 abbrev pub placed : ℕ → (Scenario → Topology) → Listing → End → Listing

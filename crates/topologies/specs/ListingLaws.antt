@@ -10,9 +10,10 @@ use lib.Dec.{eqb, ltb}
 use lib.ListN.{length}
 use Rattle.sets.specs.Bools.{and-left, and-right, and-both, clash}
 use Rattle.walk.specs.Scenario.{Scenario}
-use Rattle.walk.specs.Ends.{End, dropped, relevant, sumEnds, valueOf}
-use Rattle.topologies.specs.Listing.{Entry, entry, massesIn, same, added, Listing, listing, fitted, placed, placedAll}
-use Rattle.topologies.specs.declared.Topology.{Topology}
+use Rattle.walk.specs.Ends.{End, dropped, relevant, sumEnds}
+use Rattle.entries.specs.Entries.{Entry, entry, massesIn, same, added, Listing, listing, fitted}
+use Rattle.topologies.specs.Listing.{placed, placedAll}
+use Rattle.entries.specs.declared.Topology.{Topology}
 
 -- law: topologies that pass the test are equal
 pub same-equal : (a t : Topology) → same a t ≡ true → a ≡ t
@@ -96,11 +97,10 @@ module _ (room : ℕ) (topology : Scenario → Topology) where
           let is : out ≡ listing (out .entries) (suc number) = λ i. record { entries = out .entries; number = e i } in
           ap (λ (l : Listing). placedAll room topology l list) is ∙ full-stays (out .entries) number list ∙ sym is
 
-  -- law: one end adds at most its mass
-  pub masses-placed : (entries : List Entry) (end : End)
-      → massesIn (placed room topology (listing entries 0) end .entries) ≤ massesIn entries + valueOf (λ s m. m) end
-  masses-placed entries dropped = omega arith
-  masses-placed entries (relevant s m) = go (ltb room (length (added (topology s) m entries)))
+  -- law: one scenario adds at most its mass
+  pub masses-placed : (entries : List Entry) (s : Scenario) (m : ℕ)
+      → massesIn (placed room topology (listing entries 0) (relevant s m) .entries) ≤ massesIn entries + m
+  masses-placed entries s m = go (ltb room (length (added (topology s) m entries)))
     where
       go : (b : Bool) → massesIn (cond b (listing entries 15) (listing (added (topology s) m entries) 0) .entries) ≤ massesIn entries + m
       go true = omega arith

@@ -14,9 +14,10 @@ use Rattle.plan.specs.Plan.{Plan}
 use Rattle.walk.specs.Scenario.{Scenario}
 use Rattle.walk.specs.Ends.{End, dropped, relevant}
 use Rattle.walk.specs.Walk.{firstEnds}
-use Rattle.topologies.specs.Listing.{Entry, entry, same, added, Listing, listing, placedAll, topologyAfter, listingOf}
+use Rattle.entries.specs.Entries.{Entry, entry, same, added, Listing, listing}
+use Rattle.topologies.specs.Listing.{placedAll, topologyAfter, listingOf}
 use Rattle.topologies.specs.ListingLaws.{full-stays}
-use Rattle.topologies.specs.declared.Topology.{Topology}
+use Rattle.entries.specs.declared.Topology.{Topology}
 
 -- the entries of the ends in turn, with room for any number of them
 abbrev pub addedAll : (Scenario → Topology) → List Entry → List End → List Entry

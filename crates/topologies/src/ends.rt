@@ -1,7 +1,7 @@
 // The loop of the topology list over the ends of the walk.
-use crate::Placed;
-use crate::Topology;
-use crate::entries::place;
+use entries::Placed;
+use entries::Topology;
+use entries::place;
 use network::Failed;
 use plan::Header;
 ghost use mathlib.Core.Path.{_≡_};
@@ -13,8 +13,10 @@ ghost use Rattle.plan.specs.Records.{planOfLists};
 ghost use Rattle.network.specs.Table.{LinksAt};
 ghost use Rattle.walk.specs.Scenario.{scenarioOf};
 ghost use Rattle.plan.specs.Held.{Held};
-ghost use Rattle.topologies.specs.Listing.{listing, placedAll, topologyAfter, listingOf};
-ghost use Rattle.topologies.specs.Words.{nextEnds, Gave, Ready};
+ghost use Rattle.entries.specs.Entries.{listing};
+ghost use Rattle.topologies.specs.Listing.{placedAll, topologyAfter, listingOf};
+ghost use Rattle.entries.specs.Words.{Gave};
+ghost use Rattle.topologies.specs.Turns.{nextEnds, Ready};
 
 // The effective topology of a scenario, by its failing events.
 fn topology_of(

@@ -8,12 +8,12 @@ use native.Mathlib.Omega.{arith}
 use lib.ListN.{length, getD, set, length-set, length-append}
 use lib.Seq.{sets, length-sets}
 use Rattle.mass.specs.Split.{whole}
-use Rattle.topologies.specs.Listing.{Entry, entry, same, added, Listing, listing, fitted}
-use Rattle.topologies.specs.Words.{topologyAt, massAt, entryAt, entriesOf, Found, Placing, Gave}
-use Rattle.topologies.specs.declared.Topology.{Topology}
-use Rattle.topologies.specs.declared.Placed.{Placed}
-use Rattle.topologies.proofs.SameLaws.{none, added-at, added-new, mass-part, fits-room, no-room}
-use Rattle.topologies.proofs.EntryLaws.{entries-length, entry-at, raised-entries, raised-others, laid-entries, laid-others}
+use Rattle.entries.specs.Entries.{Entry, entry, same, added, Listing, listing, fitted}
+use Rattle.entries.specs.Words.{topologyAt, massAt, entryAt, entriesOf, Found, Placing, Gave}
+use Rattle.entries.specs.declared.Topology.{Topology}
+use Rattle.entries.specs.declared.Placed.{Placed}
+use Rattle.entries.proofs.SameLaws.{none, added-at, added-new, mass-part, fits-room, no-room}
+use Rattle.entries.proofs.EntryLaws.{entries-length, entry-at, raised-entries, raised-others, laid-entries, laid-others}
 
 module _ (count m : ℕ) (words : List ℕ) (t : Topology) (i : ℕ) (p : Placing count m words) (f : Found t count words i) where
   abbrev es : List Entry

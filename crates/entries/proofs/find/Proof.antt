@@ -1,14 +1,14 @@
--- `topologies::entries::find` meets its contract: none of the first i entries has the topology. Assumes nothing.
+-- `entries::find` meets its contract: none of the first i entries has the topology. Assumes nothing.
 use mathlib.Core.Path.{_≡_, sym, _∙_}
 use mathlib.Core.Bool.{false}
 use Prim.Native.Nat.{ℕ, _-_, _≤_, _<_}
 use native.Mathlib.Omega.{arith}
 use borrow.Author.Needs.{needs}
-use Rattle.topologies.specs.Listing.{same}
-use Rattle.topologies.specs.Words.{topologyAt}
-use Rattle.topologies.proofs.EntryLaws.{one-more}
-use Rattle.topologies.proofs.entries.find.Statement.{statement}
-use Rattle.topologies.proofs.entries.find.Tie as tie
+use Rattle.entries.specs.Entries.{same}
+use Rattle.entries.specs.Words.{topologyAt}
+use Rattle.entries.proofs.EntryLaws.{one-more}
+use Rattle.entries.proofs.find.Statement.{statement}
+use Rattle.entries.proofs.find.Tie as tie
 
 abbrev Inv-loop : tie.InvT-loop
 Inv-loop list count t i₀ i = (i ≤ count) × ((j : ℕ) → j < i → same (topologyAt list j) t ≡ false)

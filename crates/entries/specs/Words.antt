@@ -1,19 +1,15 @@
--- The topology list in memory, four words to an entry: nodes, links 0 to 63, links 64 to 127, mass. What the steps ask and promise.
+-- The entries of a topology list in memory, four words each: nodes, links 0 to 63, links 64 to 127, mass. What a search for one and
+-- placing a mass ask and promise.
 -- Assumes nothing.
 use mathlib.Core.Path.{_≡_}
 use mathlib.Core.Bool.{true, false}
 use mathlib.Core.List.{List, [], _∷_}
 use Prim.Native.Nat.{ℕ, zero, suc, _+_, _*_, _<_, _≤_}
-use lib.ListN.{length, getD, take, drop}
+use lib.ListN.{length, getD, drop}
 use Rattle.mass.specs.Split.{whole}
-use Rattle.plan.specs.Plan.{Plan}
-use Rattle.plan.specs.declared.Header.{Header}
-use Rattle.walk.specs.Ends.{End, sumEnds}
-use Rattle.walk.specs.Stack.{toCome, Stack}
-use Rattle.plan.specs.Held.{Held}
-use Rattle.topologies.specs.Listing.{Entry, entry, massesIn, same, Listing}
-use Rattle.topologies.specs.declared.Topology.{Topology}
-use Rattle.topologies.specs.declared.Placed.{Placed}
+use Rattle.entries.specs.Entries.{Entry, entry, massesIn, same, Listing}
+use Rattle.entries.specs.declared.Topology.{Topology}
+use Rattle.entries.specs.declared.Placed.{Placed}
 
 -- the words of a list of entries
 unfoldable pub entryWords : List Entry → List ℕ
@@ -54,13 +50,3 @@ pub record Gave (list : Listing) (count : ℕ) (words words′ : List ℕ) (r : 
   pub room : 4 * r .count ≤ length words′
   pub others : drop (4 * r .count) words′ ≡ drop (4 * r .count) words
   pub sized : length words′ ≡ length words
-
--- the next k ends of a walk
-abbrev pub nextEnds : Header → List ℕ → ℕ → List ℕ → ℕ → List End
-nextEnds h words at stack k = take k (toCome (h .events) (h .threshold) words at stack)
-
--- what the loop over the ends asks: a stack that denotes the ends to come, whose masses have room in one whole
-pub record Ready (h : Header) (links words : List ℕ) (at : ℕ) (stack : List ℕ) : Type 0 where
-  pub held : Held h links words
-  pub stacked : Stack (h .events) at stack
-  pub light : sumEnds (λ s m. m) (nextEnds h words at stack (h .limit)) ≤ whole

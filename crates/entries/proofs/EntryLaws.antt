@@ -8,10 +8,10 @@ use native.Mathlib.Omega.{arith}
 use native.Mathlib.Nat.{add-zero}
 use lib.ListN.{length, getD, take, drop, set, length-set, length-append, List·getD-append}
 use lib.Seq.{sets, sets-eq, ext-getD, getD-drop, getD-take, getD-at, getD-append-add, getD-set-same, getD-set-other, drop-set-lt, drop-append-add, length-take-le}
-use Rattle.topologies.specs.Listing.{Entry, entry}
-use Rattle.topologies.specs.Words.{entryWords, topologyAt, massAt, entryAt, entriesOf}
-use Rattle.topologies.specs.declared.Topology.{Topology}
-use Rattle.topologies.proofs.SameLaws.{none}
+use Rattle.entries.specs.Entries.{Entry, entry}
+use Rattle.entries.specs.Words.{entryWords, topologyAt, massAt, entryAt, entriesOf}
+use Rattle.entries.specs.declared.Topology.{Topology}
+use Rattle.entries.proofs.SameLaws.{none}
 
 four : (k : ℕ) → 4 * suc k ≡ suc (suc (suc (suc (4 * k))))
 four k = omega arith

@@ -1,13 +1,26 @@
-// The entries of the list, four words each: nodes, links 0 to 63, links 64 to 127, mass.
-use crate::Placed;
-use crate::Topology;
+// The entries of a topology list, four words each: nodes, links 0 to 63, links 64 to 127, mass.
+// Document 01, section "Further readings of a plan".
+// Assumes nothing.
 ghost use mathlib.Core.Path.{_≡_};
 ghost use mathlib.Core.List.{[], _∷_};
 ghost use Prim.Native.Nat.{_+_, _*_, _/_, _^_, _<_, _≤_};
 ghost use lib.ListN.{length, set};
 ghost use lib.Seq.{sets};
-ghost use Rattle.topologies.specs.Listing.{same, added, fitted};
-ghost use Rattle.topologies.specs.Words.{topologyAt, massAt, entriesOf, Found, Placing, Gave};
+ghost use Rattle.entries.specs.Entries.{same, added, fitted};
+ghost use Rattle.entries.specs.Words.{topologyAt, massAt, entriesOf, Found, Placing, Gave};
+
+// An effective topology: the working nodes, the working links 0 to 63 and the working links 64 to 127.
+pub struct Topology {
+    pub nodes: u64,
+    pub low: u64,
+    pub high: u64,
+}
+
+// How many entries the list has, and 15 where a topology found no entry left, else 0.
+pub struct Placed {
+    pub count: usize,
+    pub number: u32,
+}
 
 // Whether entry i has the topology.
 fn is_at(list: &[u64], i: usize, t: Topology) -> bool

@@ -1,8 +1,8 @@
--- `topologies::entries::is_at` meets its contract. Assumes nothing.
+-- `entries::is_at` meets its contract. Assumes nothing.
 use borrow.Author.Needs.{needs}
-use Rattle.topologies.proofs.SameLaws.{nodes-differ, low-differs, by-high}
-use Rattle.topologies.proofs.entries.is_at.Statement.{statement}
-use Rattle.topologies.proofs.entries.is_at.Tie as tie
+use Rattle.entries.proofs.SameLaws.{nodes-differ, low-differs, by-high}
+use Rattle.entries.proofs.is_at.Statement.{statement}
+use Rattle.entries.proofs.is_at.Tie as tie
 
 mul-at : tie.Need-mul-at
 mul-at c = search needs

@@ -1,11 +1,11 @@
--- `topologies::entries::put` meets its contract: four stores are four words laid down. Assumes nothing.
+-- `entries::put` meets its contract: four stores are four words laid down. Assumes nothing.
 use borrow.Author.Needs.{needs}
 use native.Mathlib.Numerals.{add-one, add-two, add-three}
 use Prim.Native.Nat.{_*_}
 use native.Mathlib.Omega.{arith}
 use lib.ListN.{length-set}
-use Rattle.topologies.proofs.entries.put.Statement.{statement}
-use Rattle.topologies.proofs.entries.put.Tie as tie
+use Rattle.entries.proofs.put.Statement.{statement}
+use Rattle.entries.proofs.put.Tie as tie
 
 mul-at : tie.Need-mul-at
 mul-at c = search needs

@@ -8,8 +8,8 @@ use native.Mathlib.Omega.{arith}
 use borrow.Author.Tests.{ne-eqb, eq-eqb, lt-ltb, le-ltb}
 use lib.Dec.{eqb, ltb}
 use lib.ListN.{length, getD, set, length-set, length-append}
-use Rattle.topologies.specs.Listing.{Entry, entry, massesIn, same, added, Listing, listing, fitted}
-use Rattle.topologies.specs.declared.Topology.{Topology}
+use Rattle.entries.specs.Entries.{Entry, entry, massesIn, same, added, Listing, listing, fitted}
+use Rattle.entries.specs.declared.Topology.{Topology}
 
 -- what the three tests of a topology say
 pub nodes-differ : (a t : Topology) → (a .nodes ≡ t .nodes → ⊥) → false ≡ same a t

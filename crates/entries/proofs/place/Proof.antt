@@ -1,9 +1,9 @@
--- `topologies::entries::place` meets its contract, each of the three ways. Assumes nothing.
+-- `entries::place` meets its contract, each of the three ways. Assumes nothing.
 use native.Mathlib.Omega.{arith}
 use borrow.Author.Needs.{needs}
-use Rattle.topologies.proofs.PlaceLaws.{mass-fits, placed-known, placed-full, has-space, placed-new}
-use Rattle.topologies.proofs.entries.place.Statement.{statement}
-use Rattle.topologies.proofs.entries.place.Tie as tie
+use Rattle.entries.proofs.PlaceLaws.{mass-fits, placed-known, placed-full, has-space, placed-new}
+use Rattle.entries.proofs.place.Statement.{statement}
+use Rattle.entries.proofs.place.Tie as tie
 
 find-requires : tie.Need-find-requires
 find-requires c κs = search needs

@@ -1,0 +1,3 @@
+-- What the contracts of the crate `entries` cite.
+pub mod Entries
+pub mod Words
