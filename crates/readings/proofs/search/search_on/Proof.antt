@@ -1,7 +1,7 @@
 -- `readings::search::search_on` meets its contract: the invariant is `Seek`, the measure the ends left. Assumes nothing.
+use mathlib.Core.Path.{sym, _∙_}
 use borrow.Author.Needs.{needs}
-use mathlib.Core.Path.{_≡_, sym, ap, _∙_}
-use mathlib.Core.Bool.{Bool, not, Bool·not-not}
+use borrow.Author.Tests.{not-true, not-false}
 use Rattle.walk.proofs.Resume.{left-less}
 use Rattle.readings.proofs.Seek.{Seek, ended, found-here, turned}
 use Rattle.readings.proofs.search.search_on.Statement.{statement}
@@ -12,10 +12,6 @@ Inv-loop h links words table stack₀ start v w k at₀ left₀ stack at left = 
 
 abbrev μ-loop : tie.MeasureT-loop
 μ-loop h links words table stack₀ start v w k at₀ left₀ stack at left = left
-
--- what the test `!found` says of `found`
-unnot : {b x : Bool} → not b ≡ x → b ≡ not x
-unnot {b} e = sym (Bool·not-not b) ∙ ap not e
 
 loop-holds : tie.Need-loop-holds Inv-loop μ-loop
 loop-holds c = record { seeking = c .pre .1; answers = λ r a. a }
@@ -28,7 +24,7 @@ next-relevant-requires c κs =
 returns : tie.Need-returns Inv-loop μ-loop
 returns c =
     let n = c .before .before in
-    ended _ _ _ _ _ _ _ _ _ _ _ (n .before .before .loop .inv) _ _ (n .next-relevant .ensures) (unnot (c .if1 .taken))
+    ended _ _ _ _ _ _ _ _ _ _ _ (n .before .before .loop .inv) _ _ (n .next-relevant .ensures) (not-true _ (c .if1 .taken))
 
 cut-by-requires : tie.Need-cut-by-requires Inv-loop μ-loop
 cut-by-requires c κs =
@@ -40,19 +36,19 @@ returns-2 : tie.Need-returns-2 Inv-loop μ-loop
 returns-2 c =
     let e = c .before .before in
     let n = e .before .before in
-    found-here _ _ _ _ _ _ _ _ _ _ _ (n .before .before .loop .inv) _ _ (n .next-relevant .ensures) (unnot (e .if1 .left))
+    found-here _ _ _ _ _ _ _ _ _ _ _ (n .before .before .loop .inv) _ _ (n .next-relevant .ensures) (not-false _ (e .if1 .left))
     (sym (c .before .cut-by .ensures) ∙ c .if2 .taken)
 
 loop-less : tie.Need-loop-less Inv-loop μ-loop
 loop-less c =
     let e = c .before .before in
-    left-less _ _ _ _ _ _ _ _ (e .before .before .next-relevant .ensures) (unnot (e .if1 .left))
+    left-less _ _ _ _ _ _ _ _ (e .before .before .next-relevant .ensures) (not-false _ (e .if1 .left))
 
 loop-again : tie.Need-loop-again Inv-loop μ-loop
 loop-again c =
     let e = c .before .before in
     let n = e .before .before in
-    turned _ _ _ _ _ _ _ _ _ _ _ (n .before .before .loop .inv) _ _ (n .next-relevant .ensures) (unnot (e .if1 .left))
+    turned _ _ _ _ _ _ _ _ _ _ _ (n .before .before .loop .inv) _ _ (n .next-relevant .ensures) (not-false _ (e .if1 .left))
     (sym (c .before .cut-by .ensures) ∙ c .if2 .left)
 
 pub search-on-spec : {M : Type 1} → statement M

@@ -1,7 +1,7 @@
 -- `topologies::ends::list_ends` meets its contract: the invariant is `Turn`, the measure the ends left. Assumes nothing.
-use mathlib.Core.Path.{_≡_, sym, ap, _∙_}
-use mathlib.Core.Bool.{Bool, not, Bool·not-not}
+use mathlib.Core.Path.{_∙_}
 use borrow.Author.Needs.{needs}
+use borrow.Author.Tests.{not-true, not-false}
 use Rattle.walk.proofs.Resume.{left-less}
 use Rattle.topologies.proofs.Turn.{Turn, turn-begun, ended, may-place, stopped, turned}
 use Rattle.topologies.proofs.ends.list_ends.Statement.{statement}
@@ -13,10 +13,6 @@ Inv-loop h links words table stack₀ start list₀ at₀ left₀ count₀ stack
 
 abbrev μ-loop : tie.MeasureT-loop
 μ-loop h links words table stack₀ start list₀ at₀ left₀ count₀ stack list at left count = left
-
--- what the test `!found` says of `found`
-unnot : {b x : Bool} → not b ≡ x → b ≡ not x
-unnot {b} e = sym (Bool·not-not b) ∙ ap not e
 
 loop-holds : tie.Need-loop-holds Inv-loop μ-loop
 loop-holds c = turn-begun _ _ _ _ _ _ (c .before .pre .1)
@@ -32,7 +28,7 @@ same-length c = c .before .before .before .before .loop .inv .sized
 returns : tie.Need-returns Inv-loop μ-loop
 returns c =
     let n = c .before .before in
-    ended _ _ _ _ _ _ _ _ _ _ _ _ (n .before .before .loop .inv) _ _ (n .next-relevant .ensures) (unnot (c .if1 .taken))
+    ended _ _ _ _ _ _ _ _ _ _ _ _ (n .before .before .loop .inv) _ _ (n .next-relevant .ensures) (not-true _ (c .if1 .taken))
 
 topology-of-requires : tie.Need-topology-of-requires Inv-loop μ-loop
 topology-of-requires c κs =
@@ -44,7 +40,7 @@ place-requires : tie.Need-place-requires Inv-loop μ-loop
 place-requires c κs =
     let e = c .before .before in
     let n = e .before .before in
-    may-place _ _ _ _ _ _ _ _ _ _ _ _ (n .before .before .loop .inv) _ _ (n .next-relevant .ensures) (unnot (e .if1 .left))
+    may-place _ _ _ _ _ _ _ _ _ _ _ _ (n .before .before .loop .inv) _ _ (n .next-relevant .ensures) (not-false _ (e .if1 .left))
 
 same-length-2 : tie.Need-same-length-2 Inv-loop μ-loop
 same-length-2 c =
@@ -57,13 +53,13 @@ returns-2 c =
     let t = p .before .before in
     let e = t .before in
     let n = e .before .before in
-    stopped _ _ _ _ _ _ _ _ _ _ _ _ (n .before .before .loop .inv) _ _ (n .next-relevant .ensures) (unnot (e .if1 .left))
+    stopped _ _ _ _ _ _ _ _ _ _ _ _ (n .before .before .loop .inv) _ _ (n .next-relevant .ensures) (not-false _ (e .if1 .left))
     _ (t .topology-of .ensures) _ _ (p .place .ensures) (c .if2 .taken)
 
 loop-less : tie.Need-loop-less Inv-loop μ-loop
 loop-less c =
     let e = c .before .before .before .before .before .before .before in
-    left-less _ _ _ _ _ _ _ _ (e .before .before .next-relevant .ensures) (unnot (e .if1 .left))
+    left-less _ _ _ _ _ _ _ _ (e .before .before .next-relevant .ensures) (not-false _ (e .if1 .left))
 
 loop-again : tie.Need-loop-again Inv-loop μ-loop
 loop-again c =
@@ -71,7 +67,7 @@ loop-again c =
     let t = p .before .before in
     let e = t .before in
     let n = e .before .before in
-    turned _ _ _ _ _ _ _ _ _ _ _ _ (n .before .before .loop .inv) _ _ (n .next-relevant .ensures) (unnot (e .if1 .left))
+    turned _ _ _ _ _ _ _ _ _ _ _ _ (n .before .before .loop .inv) _ _ (n .next-relevant .ensures) (not-false _ (e .if1 .left))
     _ (t .topology-of .ensures) _ _ (p .place .ensures) (c .if2 .left)
 
 pub list-ends-spec : {M : Type 1} → statement M
