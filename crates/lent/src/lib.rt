@@ -64,7 +64,7 @@ pub fn smaller(a: usize, b: usize) -> usize
 }
 
 // Each link, 7.
-pub fn link_list_refusal(links: &[u8], count: u64, nodes: u64) -> u32
+fn link_list_refusal(links: &[u8], count: u64, nodes: u64) -> u32
     requires { ⌜ (count ≤ 128) × (2 * count ≤ length (now links)) ⌝ }
     ensures { λ r. ⌜ r ≡ linkListRefusal nodes (linksOf count (now (links .entry))) ⌝ }
 {
@@ -82,7 +82,7 @@ pub fn link_list_refusal(links: &[u8], count: u64, nodes: u64) -> u32
 }
 
 // Each event, 8, 9, 10.
-pub fn event_list_refusal(words: &[u64], count: u64, nodes: u64, links: u64) -> u32
+fn event_list_refusal(words: &[u64], count: u64, nodes: u64, links: u64) -> u32
     requires { ⌜ ((count ≤ 128) × (4 * count ≤ length (now words))) × ((nodes ≤ 64) × (links ≤ 128)) ⌝ }
     ensures { λ r. ⌜ r ≡ eventListRefusal nodes links certain (eventsOf count (now (words .entry))) ⌝ }
 {

@@ -116,7 +116,7 @@ pub fn order_test(before: u64, q: u64) -> u32
 }
 
 // How many elements a kind of member has.
-pub fn count_of_kind(nodes: u64, links: u64, kind: u64) -> u64
+fn count_of_kind(nodes: u64, links: u64, kind: u64) -> u64
     ensures { λ r. ⌜ r ≡ countOfKind nodes links kind ⌝ }
 {
     if kind == 0 {
@@ -145,7 +145,7 @@ pub fn member_test(nodes: u64, links: u64, least: u64, kind: u64, number: u64) -
 }
 
 // Whether a set has an element that is `count` or more.
-pub fn reaches(count: u64, set: u64) -> bool
+fn reaches(count: u64, set: u64) -> bool
     requires { ⌜ count ≤ 64 ⌝ }
     ensures { λ r. ⌜ r ≡ leb (2 ^ count) set ⌝ }
 {
@@ -156,7 +156,7 @@ pub fn reaches(count: u64, set: u64) -> bool
 }
 
 // Whether a set of two words has an element that is `count` or more.
-pub fn reaches_wide(count: u64, low: u64, high: u64) -> bool
+fn reaches_wide(count: u64, low: u64, high: u64) -> bool
     requires { ⌜ count ≤ 128 ⌝ }
     ensures { λ r. ⌜ r ≡ leb (2 ^ count) (joined low high) ⌝ }
 {

@@ -7,8 +7,8 @@ use native.Mathlib.Omega.{arith}
 use native.Mathlib.Nat.{one-mul, zero-mul}
 use lib.Dec.{eqb, ltb}
 use lib.Pow.{shl-exact}
-use Rattle.sets.specs.Sets.{bit, joined, digit}
-use Rattle.sets.specs.Laws.{bit-none, bit-pow, bit-first, bit-joined-low, bit-joined-high}
+use Rattle.sets.specs.Sets.{bit, digit}
+use Rattle.sets.specs.Laws.{bit-none, bit-pow, bit-first}
 
 digit-of : (x : ℕ) → x < 2 → x ≡ digit (eqb x 1)
 digit-of zero h = refl
@@ -19,15 +19,6 @@ digit-of (suc (suc x)) h = absurd (omega arith)
 pub digit-is : (s i : ℕ) → s / 2 ^ i % 2 ≡ digit (bit s i)
 unfolding bit
 digit-is s i = digit-of (s / 2 ^ i % 2) (omega arith)
-
-module _ (low high i : ℕ) (fits : low < 2 ^ 64) where
-  pub digit-low : i < 64 → digit (bit low i) ≡ digit (bit (joined low high) i)
-  digit-low h = ap digit (sym (bit-joined-low 64 low high i fits h))
-
-  pub digit-high : 64 ≤ i → digit (bit high (i - 64)) ≡ digit (bit (joined low high) i)
-  digit-high h =
-      let back : 64 + (i - 64) ≡ i = omega arith in
-      ap digit (sym (bit-joined-high 64 low high (i - 64) fits) ∙ ap (bit (joined low high)) back)
 
 -- a word shifted left within 64 bits
 only-cases : (on i j : ℕ) → on < 2 → bit (on * 2 ^ i) j ≡ (eqb on 1 && eqb j i)

@@ -5,15 +5,7 @@ ghost use mathlib.Core.Bool.{true, false, not, _&&_, _||_};
 ghost use Prim.Native.Nat.{ℕ, _<_, _≤_};
 ghost use lib.Dec.{eqb, ltb};
 ghost use lib.Count.{trailingZeros};
-ghost use Rattle.sets.specs.Sets.{bit, joined, digit};
-
-// Whether i is an element of the set.
-pub fn has(set: u64, i: u32) -> bool
-    requires { ⌜ i < 64 ⌝ }
-    ensures { λ r. ⌜ r ≡ bit set i ⌝ }
-{
-    (set >> i) % 2 == 1
-}
+ghost use Rattle.sets.specs.Sets.{bit, digit};
 
 // The digit of element i, below 64, in a set of one word.
 pub fn at(set: u64, i: usize) -> u64
@@ -21,17 +13,6 @@ pub fn at(set: u64, i: usize) -> u64
     ensures { λ r. ⌜ r ≡ digit (bit set i) ⌝ }
 {
     (set >> i) % 2
-}
-
-// The digit of element i, below 128, in a set of two words.
-pub fn at_of_two(low: u64, high: u64, i: usize) -> u64
-    requires { ⌜ i < 128 ⌝ }
-    ensures { λ r. ⌜ r ≡ digit (bit (joined low high) i) ⌝ }
-{
-    if i < 64 {
-        return at(low, i);
-    }
-    at(high, i - 64)
 }
 
 // The set of the one element i, or the empty set, by the digit `on`.

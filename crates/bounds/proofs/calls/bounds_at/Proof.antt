@@ -11,39 +11,30 @@ use Rattle.bounds.proofs.calls.bounds_at.Reads as reads
 use Rattle.bounds.proofs.calls.bounds_at.Lts as lts
 use Rattle.pairs.proofs.start_of.Reads as start-of-reads
 
--- src/calls.rt:146:14
 start-of-requires : tie.Need-start-of-requires
 start-of-requires c κs = (c .pre .0 .few, omega (arith, c .pre .1))
 
--- src/calls.rt:146:37
 add-at : tie.Need-add-at
 add-at c = omega (arith, c .before .pre .0 .few, c .before .pre .1)
 
--- src/calls.rt:146:32
 sub-at : tie.Need-sub-at
 sub-at c = omega (arith, c .before .pre .1)
 
--- src/calls.rt:146:14
 add-at-2 : tie.Need-add-at-2
 add-at-2 c = omega (arith, inside _ _ _ (c .before .pre .0 .few) (c .before .pre .1) _ (c .start-of .ensures))
 
--- src/calls.rt:147:17
 mul-lower : tie.Need-mul-lower
 mul-lower c = omega (arith, inside _ _ _ (c .before .pre .0 .few) (c .before .pre .1) _ (c .start-of .ensures))
 
--- src/calls.rt:147:17
 element-copy-out-lower : tie.Need-element-copy-out-lower
 element-copy-out-lower c = omega (arith, inside _ _ _ (c .before .pre .0 .few) (c .before .pre .1) _ (c .start-of .ensures))
 
--- src/calls.rt:150:17
 sub-t13 : tie.Need-sub-t13
 sub-t13 c = c .before .before .before .pre .0 .light
 
--- src/calls.rt:150:16
 add-t15 : tie.Need-add-t15
 add-t15 c = omega (arith, c .before .before .before .pre .0 .below (c .before .before .start-of .result + (c .before .before .before .args .w - (c .before .before .before .args .v + 1))))
 
--- src/calls.rt:141:1
 returns : tie.Need-returns
 returns c =
     let a = c .before .before .before .args in
