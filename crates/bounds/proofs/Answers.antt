@@ -9,16 +9,17 @@ use borrow.Author.Tests.{leb-false}
 use lib.Dec.{leb}
 use lib.ListN.{length, getD, take, List·getD-append}
 use lib.Seq.{sets, sets-eq}
-use Rattle.mass.specs.Refusal.{refuse-none, first-none}
+use Rattle.mass.proofs.RefusalLaws.{refuse-none, first-none}
 use Rattle.mass.specs.Split.{whole}
 use Rattle.plan.specs.Plan.{Plan}
 use Rattle.plan.specs.Records.{planRefusal, listsRefusal}
 use Rattle.plan.specs.declared.Header.{Header}
 use Rattle.refusals.proofs.TestLaws.{or-none}
 use Rattle.walk.specs.Walk.{massExamined, count}
-use Rattle.walk.specs.Laws.{massExamined-le}
-use Rattle.walk.specs.Valid.{plan-probable}
-use Rattle.sums.specs.Bounds.{upper-lower, demand3-valid}
+use Rattle.walk.proofs.Laws.{massExamined-le}
+use Rattle.walk.proofs.Valid.{plan-probable}
+use Rattle.sums.proofs.BoundsLaws.{upper-lower}
+use Rattle.sums.proofs.Theorems.{demand3-valid}
 use Rattle.pairs.specs.Giving.{Giving}
 use Rattle.pairs.specs.Pairs.{table, start, place, pairCount, pairTest}
 use Rattle.pairs.proofs.PairLaws.{table-is, table-at, table-long, map-table, table-same, place-is, place-lt, pairs-most}

@@ -12,20 +12,21 @@ use borrow.Author.Tests.{ltb-true}
 use lib.Dec.{ltb}
 use lib.ListN.{getD}
 use Rattle.sets.specs.Sets.{bit, joined, digit}
-use Rattle.sets.specs.Bools.{and-left, which, clash}
+use Rattle.sets.proofs.Bools.{and-left, which, clash}
 use Rattle.plan.specs.Lists.{linksOf, eventsOf}
 use Rattle.plan.specs.Records.{planOfLists}
 use Rattle.plan.specs.declared.Header.{Header}
 use Rattle.network.specs.Outage.{Outage, outageOf}
 use Rattle.network.specs.Topology.{Network, networkOf, nodeWorks, adjacent}
 use Rattle.topology.specs.Paths.{disconnected}
-use Rattle.topology.specs.Chains.{chain-map}
-use Rattle.topology.specs.Connection.{connected-is}
-use Rattle.topology.specs.Laws.{path-leads}
+use Rattle.topology.proofs.Chains.{chain-map}
+use Rattle.topology.proofs.Connection.{connected-is}
+use Rattle.topology.proofs.Laws.{path-leads}
 use Rattle.network.specs.Code.{outage, networkIn}
 use Rattle.network.specs.declared.Failed.{Failed}
 use Rattle.topology.proofs.Shown.{nodes-shown, joining, step-link, link-step}
-use Rattle.walk.specs.Scenario.{scenarioOf, number-scenario}
+use Rattle.walk.specs.Scenario.{scenarioOf}
+use Rattle.walk.proofs.ScenarioLaws.{number-scenario}
 use Rattle.walk.specs.declared.Step.{Step}
 use Rattle.pairs.specs.Pairs.{place, pairCount}
 use Rattle.pairs.proofs.PairLaws.{unplace}

@@ -5,7 +5,8 @@ use mathlib.Core.List.{List, [], _∷_, map}
 use Prim.Native.Nat.{ℕ, zero, suc, _+_, _-_, _≤_}
 use lib.ListN.{length, getD, take}
 use lib.Seq.{sets}
-use Rattle.mass.specs.Refusal.{first, first-none}
+use Rattle.mass.specs.Refusal.{first}
+use Rattle.mass.proofs.RefusalLaws.{first-none}
 use Rattle.mass.specs.Split.{whole}
 use Rattle.refusals.specs.Tests.{roomTest}
 use Rattle.refusals.proofs.OrderLaws.{stop, skip, last}
@@ -20,14 +21,16 @@ use Rattle.pairs.specs.Giving.{Giving}
 use Rattle.pairs.specs.Pairs.{pairCount, pairTest, place}
 use Rattle.pairs.proofs.PairLaws.{pairs-most}
 use Rattle.bounds.specs.Bounds.{lowerList, upperList, Encloses, EnclosesAll}
-use Rattle.bounds.specs.Calls.{runRefusal, runNumber, ranAnswer, totalsOf, totalsIn, pairRefusal, pairNumber, pairAnswer, boundsOf, boundsIn, Summed}
+use Rattle.bounds.specs.Calls.{runRefusal, runNumber, ranAnswer, totalsOf, totalsIn, pairRefusal, pairNumber, pairAnswer, boundsOf}
+use Rattle.bounds.specs.Calls.{boundsIn, Summed}
 use Rattle.bounds.specs.declared.Totals.{Totals}
 use Rattle.bounds.specs.declared.Ran.{Ran}
 use Rattle.bounds.specs.declared.Ran.the-variants as ran
 use Rattle.bounds.specs.declared.PairBounds.{PairBounds}
 use Rattle.bounds.specs.declared.Paired.{Paired}
 use Rattle.bounds.specs.declared.Paired.the-variants as paired
-use Rattle.bounds.proofs.Answers.{ran-refuses, pair-refuses, pair-inside, giving, pair-bounds, lower-laid, upper-laid, all-enclosed, enclosed}
+use Rattle.bounds.proofs.Answers.{ran-refuses, pair-refuses, pair-inside, giving, pair-bounds, lower-laid, upper-laid, all-enclosed}
+use Rattle.bounds.proofs.Answers.{enclosed}
 
 filled-kept : (number : ℕ) (news list : List ℕ) → (number ≡ 0 → ⊥) → list ≡ filled number news list
 filled-kept zero news list n = absurd (n refl)

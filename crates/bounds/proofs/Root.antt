@@ -14,10 +14,11 @@ use Rattle.plan.specs.Records.{planOfLists}
 use Rattle.plan.specs.Held.{Held}
 use Rattle.plan.specs.declared.Header.{Header}
 use Rattle.walk.specs.Ends.{sumEnds, weighed}
-use Rattle.walk.specs.Laws.{masses-le}
-use Rattle.walk.specs.Walk.{planEnds, firstEnds, count-sum}
+use Rattle.walk.proofs.Laws.{masses-le}
+use Rattle.walk.specs.Walk.{planEnds, firstEnds}
+use Rattle.walk.proofs.EndsLaws.{count-sum}
 use Rattle.walk.specs.Stack.{Begun}
-use Rattle.walk.specs.Valid.{held-probable}
+use Rattle.walk.proofs.Valid.{held-probable}
 use Rattle.walk.proofs.Resume.{begun-stack, begun-whole, root-entry, complete-at}
 use Rattle.pairs.specs.Pairs.{place}
 use Rattle.bounds.specs.Bounds.{cuts}

@@ -9,7 +9,7 @@ use native.Mathlib.Omega.{arith}
 use borrow.Author.Tests.{ltb-false}
 use lib.ListN.{length, take, drop, length-drop, drop-of-length-le}
 use lib.Seq.{sets, sets-eq, take-at, take-all, drop-length, length-sets}
-use Rattle.mass.specs.Refusal.{first-none, refuse-none}
+use Rattle.mass.proofs.RefusalLaws.{first-none, refuse-none}
 use Rattle.plan.specs.File.{eventSize, refusal, eventsAt, linksIn, eventsIn, planOf}
 use Rattle.plan.specs.Calls.{filled, headerOf, readRefusal, readAnswer, headerIn}
 use Rattle.plan.specs.Lists.{linksOf, linkBytes, eventWords}

@@ -1,25 +1,24 @@
 -- Events, from records to bytes and back.
 -- Assumes nothing.
 use mathlib.Core.Path.{_≡_, refl, sym, ap, _∙_}
-use mathlib.Core.List.{List, [], _∷_, _++_, append-assoc}
-use Prim.Native.Nat.{ℕ, zero, suc, _+_, _-_, _*_, _^_, _<_, _≤_}
-use native.Mathlib.Nat.{lt-of-lt-of-le}
+use mathlib.Core.List.{List, [], _∷_, _++_}
+use Prim.Native.Nat.{ℕ, zero, suc, _+_, _*_, _^_, _<_, _≤_}
 use native.Mathlib.Omega.{arith}
 use borrow.Author.Tests.{ltb-false}
-use lib.Pow.{pow-mono}
-use lib.ListN.{length, getD, take, drop, length-append, length-drop, take-append-drop}
+use lib.ListN.{length, getD, take, drop, length-drop, take-append-drop}
 use lib.Seq.{drop-at, drop-drop, drop-cons}
-use Rattle.mass.specs.Refusal.{first, first-none, refuse-none}
+use Rattle.mass.specs.Refusal.{first}
+use Rattle.mass.proofs.RefusalLaws.{first-none, refuse-none}
 use Rattle.mass.specs.Split.{probabilityTest, certain}
 use Rattle.plan.specs.Plan.{Event}
-use Rattle.refusals.specs.Tests.{orderTest, setsTest}
-use Rattle.plan.specs.Layout.{value, little, elements, memberBytes, members, memberCount, eventBytes, Bytes}
+use Rattle.refusals.specs.Tests.{orderTest}
+use Rattle.plan.specs.Layout.{little, elements, members, memberCount, eventBytes, Bytes}
 use Rattle.plan.specs.File.{membersRefusal, eventRefusal, eventsRefusal, setOf, probabilityIn, membersIn, eventSize, eventIn, eventsAt}
 use Rattle.plan.specs.Records.{eventListRefusal}
 use Rattle.refusals.proofs.TestLaws.{short-none, short-pass, sets-none, sets-pass, left-none}
 use Rattle.layout.proofs.LayoutNumbers.{value-little, little-again, bytes-drop}
-use Rattle.layout.proofs.LayoutSets.{Rising, moved, elements-moved, moved-lt}
-use Rattle.layout.proofs.LayoutMembers.{MemberLists, members-read, members-accepted, nodes-back, links-back, length-event-members}
+use Rattle.layout.proofs.LayoutSets.{elements-moved, moved-lt}
+use Rattle.layout.proofs.LayoutMembers.{members-read, members-accepted, nodes-back, links-back, length-event-members}
 
 -- what an accepted event says
 pub record AcceptedEvent (nodes links before : ℕ) (b : List ℕ) : Type 0 where

@@ -3,19 +3,21 @@
 -- Assumes nothing.
 use mathlib.Core.Path.{_≡_, refl, sym, ap, _∙_}
 use mathlib.Core.List.{List, [], _∷_, _++_, append-assoc}
-use Prim.Native.Nat.{ℕ, zero, suc, _+_, _-_, _*_, _^_, _<_, _≤_}
+use Prim.Native.Nat.{ℕ, zero, suc, _+_, _*_, _^_, _<_, _≤_}
 use native.Mathlib.Omega.{arith}
 use borrow.Author.Tests.{ltb-false}
 use lib.Dec.{ltb}
-use lib.ListN.{length, getD, take, drop, length-append, length-drop, take-append-drop}
-use lib.Seq.{drop-at, drop-drop, drop-cons}
-use Rattle.mass.specs.Refusal.{first, first-none, refuse-none}
+use lib.ListN.{length, getD, take, drop, length-drop, take-append-drop}
+use lib.Seq.{drop-drop, drop-cons}
+use Rattle.mass.specs.Refusal.{first}
+use Rattle.mass.proofs.RefusalLaws.{first-none, refuse-none}
 use Rattle.mass.specs.Split.{certain, whole}
-use Rattle.plan.specs.Plan.{Plan, Link, Event}
+use Rattle.plan.specs.Plan.{Plan, Link}
 use Rattle.refusals.specs.Tests.{markTest, versionTest, countsTest, thresholdTest, limitTest, endsTest}
 use Rattle.plan.specs.Lists.{linksOf, linkBytes}
 use Rattle.plan.specs.Layout.{value, little, eventBytes, headerBytes, layout, Bytes}
-use Rattle.plan.specs.File.{headerRefusal, linksRefusal, eventsRefusal, refusal, planOf, eventsAt, versionIn, nodesIn, linksIn, eventsIn, thresholdIn, limitIn}
+use Rattle.plan.specs.File.{headerRefusal, linksRefusal, eventsRefusal, refusal, planOf, versionIn, nodesIn, linksIn, eventsIn, thresholdIn}
+use Rattle.plan.specs.File.{limitIn}
 use Rattle.plan.specs.Records.{linkListRefusal, eventListRefusal, planRefusal}
 use Rattle.refusals.proofs.TestLaws.{short-none, short-pass, mark-none, version-none, counts-none, or-none, Ranges}
 use Rattle.layout.proofs.LayoutNumbers.{value-little, bytes-drop, little-again}

@@ -1,24 +1,21 @@
 -- Members of an event, from sets to bytes and back.
 -- Assumes nothing.
-use mathlib.Core.Path.{_≡_, refl, sym, ap, _∙_}
+use mathlib.Core.Path.{_≡_, refl, ap}
 use mathlib.Core.List.{List, [], _∷_, _++_, append-assoc}
 use Prim.Native.Nat.{ℕ, zero, suc, _+_, _-_, _*_, _^_, _<_, _≤_}
 use native.Mathlib.Nat.{sub-zero, suc-add, zero-add, add-zero, lt-of-lt-of-le}
-use native.Mathlib.Numerals.{add-one}
 use native.Mathlib.Omega.{arith}
 use borrow.Author.Tests.{eq-eqb, ne-eqb}
-use lib.Dec.{eqb}
 use lib.Pow.{pow-mono}
 use lib.ListN.{length, getD, take, drop, length-append}
-use lib.Seq.{drop-at, take-at}
-use Rattle.mass.specs.Refusal.{first, first-skip, first-none}
+use Rattle.mass.specs.Refusal.{first}
+use Rattle.mass.proofs.RefusalLaws.{first-none}
 use Rattle.plan.specs.Plan.{Event}
 use Rattle.refusals.specs.Tests.{countOfKind, rank}
-use Rattle.plan.specs.Layout.{elements, memberBytes, members, memberCount, Bytes}
+use Rattle.plan.specs.Layout.{elements, memberBytes, members, memberCount}
 use Rattle.plan.specs.File.{memberRefusal, membersRefusal, setOf}
 use Rattle.refusals.proofs.TestLaws.{short-none, short-pass, member-none, member-pass}
-use Rattle.layout.proofs.LayoutNumbers.{byte-lt, bytes-drop}
-use Rattle.layout.proofs.LayoutSets.{Rising, moved, rising-weaken, elements-rising, moved-elements, elements-moved, moved-lt}
+use Rattle.layout.proofs.LayoutSets.{Rising, moved, rising-weaken, elements-rising, moved-elements}
 
 -- what an accepted member says
 pub record Accepted (nodes links least count : ℕ) (b : List ℕ) : Type 0 where

@@ -1,24 +1,24 @@
 -- How many bytes decide: the refusal of a list of bytes is that of its first bytes.
 -- Assumes nothing.
 use mathlib.Core.Path.{_≡_, refl, sym, ap, _∙_}
-use mathlib.Core.List.{List, [], _∷_, _++_}
-use Prim.Native.Nat.{ℕ, zero, suc, _+_, _-_, _*_, _^_, _<_, _≤_, min}
+use mathlib.Core.List.{List, [], _∷_}
+use Prim.Native.Nat.{ℕ, zero, suc, _+_, _-_, _*_, _<_, _≤_, min}
 use native.Mathlib.Nat.{sub-zero, zero-sub, suc-sub-suc}
 use native.Mathlib.Decide.{decLt}
 use native.Mathlib.Omega.{arith}
 use mathlib.Core.Bool.{Bool}
-use borrow.Author.Tests.{ltb-false, lt-ltb, le-ltb}
+use borrow.Author.Tests.{lt-ltb, le-ltb}
 use lib.Dec.{ltb}
-use lib.ListN.{length, getD, take, drop, length-take, length-drop}
-use lib.Seq.{drop-drop, getD-take, take-take, take-nil}
-use Rattle.mass.specs.Refusal.{refuse, first, first-none, first-skip, first-stop}
-use Rattle.mass.specs.Split.{certain, probabilityTest}
-use Rattle.refusals.specs.Tests.{shortTest, leftTest, rank, countOfKind, markTest, versionTest, countsTest, thresholdTest, limitTest}
-use Rattle.plan.specs.Layout.{value}
-use Rattle.plan.specs.File.{headerRefusal, linksRefusal, memberRefusal, membersRefusal, eventRefusal, eventsRefusal, refusal, probabilityIn, membersIn, eventSize, versionIn, nodesIn, linksIn, eventsIn, thresholdIn, limitIn}
-use Rattle.refusals.proofs.TestLaws.{short-pass, short-stop, member-none, counts-none, Ranges}
+use lib.ListN.{length, getD, take, drop, length-take}
+use lib.Seq.{getD-take, take-take, take-nil}
+use Rattle.mass.specs.Refusal.{refuse, first}
+use Rattle.mass.specs.Split.{certain}
+use Rattle.refusals.specs.Tests.{shortTest, leftTest, rank, countOfKind}
+use Rattle.plan.specs.File.{headerRefusal, linksRefusal, memberRefusal, membersRefusal, eventRefusal, eventsRefusal, refusal, probabilityIn}
+use Rattle.plan.specs.File.{membersIn, eventSize, nodesIn, linksIn, eventsIn}
+use Rattle.refusals.proofs.TestLaws.{counts-none}
 use Rattle.layout.proofs.LayoutSets.{length-rising}
-use Rattle.layout.proofs.LayoutMembers.{member-facts, MemberLists, members-read}
+use Rattle.layout.proofs.LayoutMembers.{member-facts, members-read}
 use Rattle.layout.proofs.LayoutEvents.{event-none}
 use Rattle.layout.proofs.LayoutFile.{header-none}
 

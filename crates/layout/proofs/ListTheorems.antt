@@ -1,14 +1,14 @@
 -- What lent lists denote: accepted lists denote a valid plan, and the lists that a reader filled denote the plan that was read.
 -- Assumes nothing.
-use mathlib.Core.Path.{_≡_, refl, sym, ap, _∙_}
+use mathlib.Core.Path.{_≡_, refl, ap}
 use mathlib.Core.List.{List, [], _∷_, _++_}
-use Prim.Native.Nat.{ℕ, zero, suc, _+_, _*_, _/_, _%_, _^_, _≤_}
+use Prim.Native.Nat.{ℕ, zero, suc, _+_, _*_, _^_, _≤_}
 use native.Mathlib.Nat.{div-add-mod'}
 use native.Mathlib.Omega.{arith}
 use lib.ListN.{length, drop}
 use lib.Seq.{sets, sets-eq}
-use Rattle.mass.specs.Refusal.{first, first-none}
-use Rattle.plan.specs.Plan.{Plan, Link, Event}
+use Rattle.mass.proofs.RefusalLaws.{first-none}
+use Rattle.plan.specs.Plan.{Link, Event}
 use Rattle.plan.specs.Lists.{linksOf, eventsOf, linkBytes, eventWords}
 use Rattle.plan.specs.File.{planOf, linksIn, eventsIn, eventSize, eventsAt}
 use Rattle.plan.specs.Records.{planRefusal, planOfLists, listsRefusal}

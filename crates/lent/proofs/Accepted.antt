@@ -8,13 +8,14 @@ use native.Mathlib.Omega.{arith}
 use borrow.Author.Tests.{leb-false, ltb-false}
 use lib.Dec.{leb, ltb}
 use lib.ListN.{length}
-use Rattle.mass.specs.Refusal.{first-none, refuse-none}
+use Rattle.mass.proofs.RefusalLaws.{first-none, refuse-none}
 use Rattle.mass.specs.Split.{certain}
 use Rattle.plan.specs.Plan.{Link}
 use Rattle.refusals.specs.Tests.{endsTest, limitTest}
 use Rattle.plan.specs.Lists.{linksOf, eventsOf}
 use Rattle.plan.specs.Records.{linkListRefusal, planOfLists, listsRefusal}
-use Rattle.plan.specs.Held.{EndsBelow, Falling, Held, plan-falling}
+use Rattle.plan.specs.Held.{EndsBelow, Falling, Held}
+use Rattle.plan.proofs.HeldLaws.{plan-falling}
 use Rattle.plan.specs.declared.Header.{Header}
 use Rattle.refusals.proofs.TestLaws.{Ranges, counts-none, or-none}
 use Rattle.layout.proofs.LayoutFile.{link-list-none, valid-none, ValidPlan}

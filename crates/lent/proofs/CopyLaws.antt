@@ -6,7 +6,8 @@ use Prim.Native.Nat.{ℕ, zero, suc, _*_, _/_, _≤_, min}
 use native.Mathlib.Omega.{arith}
 use lib.ListN.{length, take}
 use lib.Seq.{sets, sets-eq, take-take, take-append-le, length-take-le}
-use Rattle.mass.specs.Refusal.{first, first-none}
+use Rattle.mass.specs.Refusal.{first}
+use Rattle.mass.proofs.RefusalLaws.{first-none}
 use Rattle.mass.specs.Split.{certain}
 use Rattle.plan.specs.Plan.{Plan}
 use Rattle.plan.specs.Lists.{linksOf, eventsOf}

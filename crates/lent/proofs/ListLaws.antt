@@ -8,7 +8,8 @@ use native.Mathlib.Numerals.{add-one}
 use native.Mathlib.Omega.{arith}
 use lib.ListN.{length, getD, take, drop, set}
 use lib.Seq.{sets, take-suc, length-take-le, getD-drop, drop-drop}
-use Rattle.mass.specs.Refusal.{first, first-skip, first-stop}
+use Rattle.mass.specs.Refusal.{first}
+use Rattle.mass.proofs.RefusalLaws.{first-skip, first-stop}
 use Rattle.mass.specs.Split.{probabilityTest}
 use Rattle.sets.specs.Sets.{joined}
 use Rattle.plan.specs.Plan.{Link, Event}

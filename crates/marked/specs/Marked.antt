@@ -7,8 +7,7 @@ use Prim.Native.Nat.{ℕ}
 use Rattle.mass.specs.Refusal.{first}
 use Rattle.mass.specs.Split.{units, splitOf}
 use Rattle.mass.specs.declared.Parts.the-variants.{Split}
-use Rattle.sets.specs.Sets.{bit, digit}
-use Rattle.sets.specs.Bools.{anyBelow}
+use Rattle.sets.specs.Sets.{bit, digit, anyBelow}
 use Rattle.plan.specs.Plan.{Plan, Link, Event}
 use Rattle.plan.specs.Lists.{linkBytes}
 use Rattle.plan.specs.Layout.{little, value, elements, memberBytes, members, memberCount, eventBytes, headerBytes, layout}

@@ -1,10 +1,10 @@
 -- Which case of `splitOf` the tests lead to.
 -- Assumes nothing.
-use mathlib.Core.Path.{_≡_, refl, sym, _∙_}
-use mathlib.Core.List.{[], _∷_}
+use mathlib.Core.Path.{_≡_, refl, _∙_}
 use Prim.Native.Nat.{ℕ, zero, suc, _≤_}
 use borrow.Author.Tests.{ltb-false}
-use Rattle.mass.specs.Refusal.{first, first-skip, first-stop, refuse-none}
+use Rattle.mass.specs.Refusal.{first}
+use Rattle.mass.proofs.RefusalLaws.{first-skip, first-stop, refuse-none}
 use Rattle.mass.specs.Split.{partsAnswer, units, splitOf, massTest, probabilityTest, failing, working, whole, certain}
 use Rattle.mass.specs.declared.Parts.the-variants.{Refused, Split}
 

@@ -1,4 +1,3 @@
 -- What the contracts of the crate `mass` cite.
 pub mod Refusal
 pub mod Split
-pub mod Laws

@@ -1,11 +1,9 @@
 -- A refusal of document 01 ("Refused") is a number, and 0 says that there is none.
 -- A test gives its number where it refuses; a call's order of tests is the first that is not 0.
 -- Assumes nothing.
-use mathlib.Core.Path.{_≡_, refl, ap}
 use mathlib.Core.Bool.{Bool, true, false}
 use mathlib.Core.List.{List, [], _∷_}
 use Prim.Native.Nat.{ℕ, zero, suc}
-use native.Mathlib.Omega.{arith}
 
 -- a test that holds refuses with its number
 abbrev pub refuse : Bool → ℕ → ℕ
@@ -17,31 +15,3 @@ unfoldable pub first : List ℕ → ℕ
 first [] = 0
 first (zero ∷ later) = first later
 first (suc number ∷ later) = suc number
-
--- law: a test that does not refuse leaves the decision to the later ones
-pub first-skip : (number : ℕ) (later : List ℕ) → number ≡ 0 → first (number ∷ later) ≡ first later
-unfolding first
-first-skip number later e = rw e
-
--- law: a test that refuses decides
-pub first-stop : (number : ℕ) (later : List ℕ) → (number ≡ 0 → ⊥) → first (number ∷ later) ≡ number
-unfolding first
-first-stop zero later n = absurd (n refl)
-first-stop (suc number) later n = refl
-
--- law: nothing is refused exactly where no test refuses
-pub first-none : (number : ℕ) (later : List ℕ) → first (number ∷ later) ≡ 0 → (number ≡ 0) × (first later ≡ 0)
-unfolding first
-first-none zero later e = (refl, e)
-first-none (suc number) later e = absurd (nothing number e)
-  where
-    nothing : (n : ℕ) → suc n ≡ 0 → ⊥
-    nothing n h = omega arith
-
--- law: a test that gives 0 does not hold
-pub refuse-none : (test : Bool) (number : ℕ) → refuse test (suc number) ≡ 0 → test ≡ false
-refuse-none true number e = absurd (nothing e)
-  where
-    nothing : suc number ≡ 0 → ⊥
-    nothing h = omega arith
-refuse-none false number e = refl

@@ -6,14 +6,14 @@ use mathlib.Core.List.{List}
 use Prim.Native.Nat.{ℕ, _+_, _^_, _<_}
 use lib.ListN.{getD, replicate}
 use Rattle.sets.specs.Sets.{bit, joined}
-use Rattle.sets.specs.Laws.{bit-none}
-use Rattle.sets.specs.Bools.{and-left, and-right, and-both, same-bool}
+use Rattle.sets.proofs.Laws.{bit-none}
+use Rattle.sets.proofs.Bools.{and-left, and-right, and-both, same-bool}
 use Rattle.plan.specs.Plan.{Link}
 use Rattle.plan.specs.Lists.{linksOf}
 use Rattle.layout.proofs.ListTheorems.{length-links-of}
 use Rattle.network.specs.Outage.{Outage}
 use Rattle.network.specs.Topology.{networkOf, linkWorks, ends, joins, adjacent}
-use Rattle.network.specs.Works.{adjacent-link, link-adjacent, link-below}
+use Rattle.network.proofs.Works.{adjacent-link, link-adjacent, link-below}
 use Rattle.network.specs.Table.{joinedBy}
 use Rattle.network.proofs.LinkBytes.{link-at}
 use Rattle.network.proofs.RowSets.{empty-row}

@@ -14,12 +14,12 @@ use lib.ListN.{length, getD, drop}
 use lib.Seq.{getD-drop}
 use borrow.Author.Tests.{eqb-true, eq-eqb}
 use Rattle.sets.specs.Sets.{bit, joined}
-use Rattle.sets.specs.Laws.{bit-or, bit-none, bits-same, bit-shl, bit-shl-below, bit-below}
-use Rattle.sets.specs.Bools.{and-left, and-both, or-either, or-left, or-right, which, clash, not-of, same-bool}
+use Rattle.sets.proofs.Laws.{bit-or, bit-none, bits-same, bit-shl, bit-shl-below, bit-below}
+use Rattle.sets.proofs.Bools.{and-left, and-both, or-either, or-left, or-right, which, clash, not-of, same-bool}
 use Rattle.plan.specs.Plan.{Event}
 use Rattle.plan.specs.Lists.{eventsOf}
 use Rattle.network.specs.Outage.{Outage, eventAt, unionOf, withEvent, outageOf}
-use Rattle.network.specs.Failing.{Named, union-from, union-start, union-event, union-is}
+use Rattle.network.proofs.FailingLaws.{Named, union-from, union-start, union-event, union-is}
 
 -- ---- the list of words
 

@@ -6,3 +6,5 @@ pub mod Words
 pub mod RowSets
 pub mod NodeLinks
 pub mod Adjacent
+pub mod FailingLaws
+pub mod Works

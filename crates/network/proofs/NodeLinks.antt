@@ -12,8 +12,8 @@ use lib.ListN.{length, getD, set, replicate}
 use lib.Seq.{getD-set-same, getD-set-other}
 use borrow.Author.Tests.{eqb-true, eq-eqb, ne-eqb, ltb-true, lt-ltb, le-ltb}
 use Rattle.sets.specs.Sets.{bit, joined}
-use Rattle.sets.specs.Laws.{bit-none, bit-past, bit-joined-low, bit-joined-high}
-use Rattle.sets.specs.Bools.{not-so, same-bool, and-left, and-right, and-both, or-either, or-left, or-right, any-found, any-here}
+use Rattle.sets.proofs.Laws.{bit-none, bit-past, bit-joined-low, bit-joined-high}
+use Rattle.sets.proofs.Bools.{not-so, same-bool, and-left, and-right, and-both, or-either, or-left, or-right, any-found, any-here}
 use Rattle.plan.specs.Lists.{linksOf}
 use Rattle.layout.proofs.ListTheorems.{length-links-of}
 use Rattle.network.specs.Outage.{Outage}

@@ -7,7 +7,7 @@ use Prim.Native.Nat.{ℕ}
 use lib.Dec.{eqb}
 use borrow.Author.Tests.{eqb-true}
 use Rattle.sets.specs.Sets.{bit}
-use Rattle.sets.specs.Bools.{and-left, and-both, which, not-of}
+use Rattle.sets.proofs.Bools.{and-left, and-both, which, not-of}
 
 -- a set without its element t
 module _ (left rest t found : ℕ) (is : found ≡ t) (law : (j : ℕ) → bit rest j ≡ (bit left j && not (eqb j t))) where

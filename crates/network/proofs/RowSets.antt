@@ -11,7 +11,7 @@ use lib.ListN.{length, getD, set, replicate, length-set}
 use lib.Seq.{getD-set-same, getD-set-other}
 use borrow.Author.Tests.{eqb-true, eq-eqb, ne-eqb}
 use Rattle.sets.specs.Sets.{bit}
-use Rattle.sets.specs.Bools.{same-bool}
+use Rattle.sets.proofs.Bools.{same-bool}
 use Rattle.network.specs.Topology.{ends}
 use Rattle.network.specs.Table.{endsOf, linkIn, joinedBy}
 use Rattle.network.proofs.Rest.{rest-in}

@@ -9,9 +9,9 @@ use native.Mathlib.Omega.{arith}
 use native.Mathlib.Decide.{decLt}
 use native.Mathlib.Nat.{zero-add}
 use lib.Dec.{eqb}
-use Rattle.sets.specs.Sets.{bit, joined}
-use Rattle.sets.specs.Laws.{bit-none, bit-below, bit-joined-low, bit-joined-high}
-use Rattle.sets.specs.Bools.{and-left, and-right, and-both, or-either, or-left, or-right, clash, not-so, same-bool, anyBelow, any-found, any-here}
+use Rattle.sets.specs.Sets.{bit, joined, anyBelow}
+use Rattle.sets.proofs.Laws.{bit-none, bit-below, bit-joined-low, bit-joined-high}
+use Rattle.sets.proofs.Bools.{and-left, and-right, and-both, or-either, or-left, or-right, clash, not-so, same-bool, any-found, any-here}
 use Rattle.network.specs.Topology.{ends}
 use Rattle.network.specs.Table.{linkIn, joinedBy}
 use Rattle.network.proofs.Rest.{rest-in, rest-or}

@@ -3,6 +3,4 @@ pub mod Outage
 pub mod Topology
 pub mod Code
 pub mod Table
-pub mod Works
-pub mod Failing
 pub mod Examples

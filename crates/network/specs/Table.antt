@@ -6,8 +6,7 @@ use mathlib.Core.List.{List}
 use Prim.Native.Nat.{ℕ, _+_, _*_, _/_, _%_, _<_}
 use lib.Dec.{eqb, ltb}
 use lib.ListN.{getD}
-use Rattle.sets.specs.Sets.{bit}
-use Rattle.sets.specs.Bools.{anyBelow}
+use Rattle.sets.specs.Sets.{bit, anyBelow}
 use Rattle.plan.specs.Plan.{Link}
 use Rattle.network.specs.Topology.{ends}
 

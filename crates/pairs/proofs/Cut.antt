@@ -9,13 +9,12 @@ use native.Mathlib.Omega.{arith}
 use borrow.Author.Tests.{ltb-true, lt-ltb}
 use lib.Dec.{ltb}
 use lib.ListN.{length, getD}
-use Rattle.mass.specs.Split.{whole}
 use Rattle.sets.specs.Sets.{bit, digit}
-use Rattle.sets.specs.Laws.{bit-none}
-use Rattle.sets.specs.Bools.{and-left, and-right, and-both, which, clash, not-of, of-not, not-so}
-use Rattle.topology.specs.Chains.{chain-append, chain-back, chain-keeps}
+use Rattle.sets.proofs.Laws.{bit-none}
+use Rattle.sets.proofs.Bools.{and-left, and-right, and-both, which, clash, not-of, of-not, not-so}
+use Rattle.topology.proofs.Chains.{chain-append, chain-back, chain-keeps}
 use Rattle.topology.specs.Paths.{here}
-use Rattle.topology.specs.RowPaths.{RowPath, Reached, Joining}
+use Rattle.topology.specs.RowPaths.{RowPath, Reached}
 use Rattle.pairs.specs.Pairs.{place, pairCount}
 use Rattle.pairs.specs.Adding.{AddingRows, AddedRows, Joined, AddingCut, AddedCut}
 

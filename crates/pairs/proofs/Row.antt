@@ -1,6 +1,6 @@
 -- One turn of the loop that adds a mass to the entries of a row.
 -- Assumes nothing.
-use mathlib.Core.Path.{_≡_, refl, sym, ap, subst⁻¹, _∙_}
+use mathlib.Core.Path.{_≡_, sym, ap, subst⁻¹, _∙_}
 use mathlib.Core.Bool.{Bool, true, false, not, _&&_, and-true, and-false}
 use mathlib.Core.List.{List}
 use Prim.Native.Nat.{ℕ, _+_, _-_, _*_, _^_, _<_, _≤_}
@@ -8,13 +8,12 @@ use native.Mathlib.Nat.{mul-le-mul-left}
 use native.Mathlib.Decide.{ℕ-discrete, decLe}
 use native.Mathlib.Omega.{arith}
 use borrow.Author.Tests.{le-leb, lt-leb, eq-eqb, ne-eqb}
-use lib.Count.{trailingZeros}
 use lib.Dec.{leb, eqb}
 use lib.ListN.{length, getD, set, length-set}
 use lib.Seq.{getD-set-same, getD-set-other}
 use Rattle.sets.specs.Sets.{bit, digit}
-use Rattle.sets.specs.Laws.{bit-none}
-use Rattle.sets.specs.Bools.{and-left}
+use Rattle.sets.proofs.Laws.{bit-none}
+use Rattle.sets.proofs.Bools.{and-left}
 use Rattle.pairs.specs.Adding.{AddingRow, AddedRow}
 
 -- what the entry i gains from the elements of a set

@@ -4,18 +4,18 @@ use mathlib.Core.Path.{_≡_, refl, sym, ap, subst, _∙_}
 use mathlib.Core.Bool.{Bool, true, false, not, _&&_, and-true, and-false}
 use mathlib.Core.List.{List}
 use mathlib.Core.Logic.{_⊎_, inl, inr}
-use Prim.Native.Nat.{ℕ, zero, suc, _+_, _-_, _*_, _^_, _<_, _≤_}
+use Prim.Native.Nat.{ℕ, suc, _+_, _-_, _*_, _<_, _≤_}
 use native.Mathlib.Nat.{mul-le-mul-left}
 use native.Mathlib.Decide.{ℕ-discrete, decLt}
 use native.Mathlib.Numerals.{add-one}
 use native.Mathlib.Omega.{arith}
-use borrow.Author.Tests.{le-leb, lt-leb, lt-ltb, le-ltb, eq-eqb, ne-eqb, ltb-false}
+use borrow.Author.Tests.{le-leb, lt-leb, le-ltb, eq-eqb, ne-eqb, ltb-false}
 use lib.Dec.{leb, ltb, eqb}
 use lib.ListN.{length, getD}
 use Rattle.mass.specs.Split.{whole}
 use Rattle.sets.specs.Sets.{bit, digit}
-use Rattle.sets.specs.Laws.{bit-none}
-use Rattle.sets.specs.Bools.{and-left, and-right, and-both, of-not, not-of, not-so, clash, which}
+use Rattle.sets.proofs.Laws.{bit-none}
+use Rattle.sets.proofs.Bools.{and-left, and-right, and-both, of-not, not-of, not-so, clash, which}
 use Rattle.pairs.specs.Pairs.{start, place, pairCount}
 use Rattle.pairs.proofs.PairLaws.{start-suc, start-mono, start-most, place-is, place-before, place-lt, pairs-most}
 use Rattle.pairs.specs.Adding.{AddingRow, AddedRow, AddingRows, AddedRows}

@@ -9,10 +9,11 @@ use borrow.Author.Tests.{ltb-false, leb-false}
 use lib.Dec.{ltb}
 use lib.ListN.{length, getD, drop, length-drop}
 use lib.Seq.{getD-drop}
-use Rattle.mass.specs.Refusal.{first-none, refuse-none}
+use Rattle.mass.proofs.RefusalLaws.{first-none, refuse-none}
 use Rattle.mass.specs.Split.{certain}
 use Rattle.refusals.specs.Tests.{shortTest, countOfKind, rank, countsTest}
-use Rattle.plan.specs.File.{headerRefusal, linksRefusal, memberRefusal, membersRefusal, eventRefusal, eventsRefusal, eventSize, probabilityIn, refusal, nodesIn, linksIn, eventsIn}
+use Rattle.plan.specs.File.{headerRefusal, linksRefusal, memberRefusal, membersRefusal, eventRefusal, eventsRefusal, eventSize}
+use Rattle.plan.specs.File.{probabilityIn, refusal, nodesIn, linksIn, eventsIn}
 use Rattle.plan.specs.Calls.{elementOf, stepOf}
 use Rattle.plan.specs.declared.Element.{Element}
 use Rattle.plan.specs.declared.Step.the-variants as step

@@ -2,3 +2,4 @@
 pub mod FileLaws
 pub mod FileLawsSteps
 pub mod FileLawsAccepted
+pub mod HeldLaws

@@ -1,16 +1,11 @@
 -- What lists that no test refuses hold: what every later function asks of the arrays that they were taken into.
 -- Assumes nothing.
-use mathlib.Core.Path.{_≡_}
 use mathlib.Core.List.{List, [], _∷_}
 use Prim.Native.Nat.{ℕ, _<_, _≤_}
-use borrow.Author.Tests.{ltb-false}
-use lib.Dec.{ltb}
 use lib.ListN.{length, getD}
-use Rattle.mass.specs.Refusal.{first-none, refuse-none}
 use Rattle.mass.specs.Split.{certain}
-use Rattle.plan.specs.Plan.{Plan, Link, Event}
+use Rattle.plan.specs.Plan.{Link, Event}
 use Rattle.plan.specs.Lists.{linksOf, eventsOf}
-use Rattle.plan.specs.Records.{eventListRefusal, planRefusal}
 use Rattle.plan.specs.declared.Header.{Header}
 
 -- link i of a list
@@ -42,17 +37,3 @@ pub record Held (h : Header) (links words : List ℕ) : Type 0 where
   pub links-held : LinksHeld (h .nodes) links (h .links)
   pub events-fit : h .events ≤ 128
   pub falling : Falling certain (eventsOf (h .events) words)
-
--- law: probabilities that no test refuses never rise
-pub events-falling : (nodes links before : ℕ) (events : List Event) → eventListRefusal nodes links before events ≡ 0 → Falling before events
-unfolding eventListRefusal
-events-falling nodes links before [] h = tt
-events-falling nodes links before (e ∷ events) h = (
-  ltb-false before (e .probability) (refuse-none (ltb before (e .probability)) 8 (first-none _ _ (first-none _ _ h .1) .0)),
-  events-falling nodes links (e .probability) events (first-none _ _ (first-none _ _ (first-none _ _ (first-none _ _ h .1) .1) .1) .0),
-)
-
-pub plan-falling : (p : Plan) → planRefusal p ≡ 0 → Falling certain (p .events)
-unfolding planRefusal
-plan-falling p h =
-    events-falling _ _ _ (p .events) (first-none _ _ (first-none _ _ (first-none _ _ (first-none _ _ (first-none _ _ h .1) .1) .1) .1) .0)

@@ -14,8 +14,8 @@ use Rattle.plan.specs.Records.{planOfLists, planRefusal}
 use Rattle.plan.specs.declared.Header.{Header}
 use Rattle.layout.proofs.ListTheorems.{lists-denote}
 use Rattle.walk.specs.Walk.{massExamined}
-use Rattle.walk.specs.Valid.{plan-probable}
-use Rattle.sums.specs.Bounds.{upper-le}
+use Rattle.walk.proofs.Valid.{plan-probable}
+use Rattle.sums.proofs.BoundsLaws.{upper-le}
 use Rattle.bounds.specs.Bounds.{lowerOf, upperOf, cuts}
 use Rattle.bounds.specs.Calls.{pairNumber, pairAnswer, boundsOf}
 use Rattle.bounds.specs.declared.PairBounds.{PairBounds}
@@ -23,7 +23,7 @@ use Rattle.bounds.specs.declared.Paired.{Paired}
 use Rattle.bounds.specs.declared.Paired.the-variants as paired
 use Rattle.bounds.proofs.Answers.{pair-none, raised, mass-most}
 use Rattle.readings.specs.Figure.{float, floatOf, sharesOf, figureAnswer, figureOf, floatsIn, Numbers}
-use Rattle.readings.specs.FigureLaws.{shares-numbers, float-number}
+use Rattle.readings.proofs.FigureLaws.{shares-numbers, float-number}
 use Rattle.readings.specs.declared.Shares.{Shares}
 use Rattle.readings.specs.declared.Figured.{Figured}
 use Rattle.readings.specs.declared.Figured.the-variants as figured

@@ -3,3 +3,6 @@ pub mod Told
 pub mod Seek
 pub mod Shown
 pub mod Figures
+pub mod FigureLaws
+pub mod DowntimeLaws
+pub mod WitnessLaws

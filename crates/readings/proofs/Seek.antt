@@ -16,8 +16,9 @@ use Rattle.network.specs.Topology.{networkOf}
 use Rattle.topology.specs.Paths.{disconnected}
 use Rattle.network.specs.Code.{outage, networkIn}
 use Rattle.network.specs.declared.Failed.{Failed}
-use Rattle.walk.specs.Scenario.{Scenario, scenarioOf, number, number-scenario}
-use Rattle.walk.specs.Member.{same-refl}
+use Rattle.walk.specs.Scenario.{Scenario, scenarioOf, number}
+use Rattle.walk.proofs.ScenarioLaws.{number-scenario}
+use Rattle.walk.proofs.MemberLaws.{same-refl}
 use Rattle.walk.specs.Steps.{Handed}
 use Rattle.walk.specs.declared.Failing.{Failing}
 use Rattle.walk.specs.declared.Step.{Step}

@@ -5,7 +5,7 @@ use mathlib.Core.List.{List}
 use Prim.Native.Nat.{ℕ, _<_}
 use native.Mathlib.Omega.{arith}
 use lib.ListN.{take}
-use Rattle.mass.specs.Refusal.{first-skip}
+use Rattle.mass.proofs.RefusalLaws.{first-skip}
 use Rattle.mass.specs.Split.{whole}
 use Rattle.plan.specs.Plan.{Plan}
 use Rattle.plan.specs.Records.{planOfLists}
@@ -20,7 +20,8 @@ use Rattle.walk.specs.Stack.{Begun}
 use Rattle.walk.proofs.Resume.{begun-stack, begun-whole, root-entry}
 use Rattle.pairs.specs.Pairs.{pairTest}
 use Rattle.plan.specs.Held.{Held}
-use Rattle.readings.specs.Witness.{noneTest, witnessRefusal, witnessNumber, witnessAnswer, failingIn, reached, Shows, Answers, Searched, Seeking}
+use Rattle.readings.specs.Witness.{noneTest, witnessRefusal, witnessNumber, witnessAnswer, failingIn, reached, Shows, Answers}
+use Rattle.readings.specs.Witness.{Searched, Seeking}
 use Rattle.readings.specs.declared.Witnessed.{Witnessed}
 use Rattle.readings.specs.declared.Witnessed.the-variants as witnessed
 use Rattle.readings.proofs.Told.{refuses}

@@ -2,8 +2,7 @@
 -- Assumes nothing.
 use mathlib.Core.Path.{_≡_, refl}
 use mathlib.Core.List.{[], _∷_}
-use Prim.Native.Nat.{ℕ, zero, suc, _+_, _*_, _/_, _≤_, _<_}
-use native.Mathlib.Omega.{arith}
+use Prim.Native.Nat.{ℕ, zero, suc, _*_, _/_}
 use Rattle.mass.specs.Refusal.{first}
 use Rattle.mass.specs.Split.{whole, massTest}
 use Rattle.readings.specs.declared.Seconds.{Seconds}
@@ -39,13 +38,6 @@ downtimeAnswer (suc number) seconds = timed.Refused (suc number)
 abbrev pub secondsIn : Timed → Seconds
 secondsIn (timed.Refused number) = record { lower = 0; upper = 0 }
 secondsIn (timed.Given seconds) = seconds
-
--- law: no more than a second is lost by rounding
-pub lower-rounds : (m : ℕ) → (lowerSeconds m * whole ≤ m * year) × (m * year < (lowerSeconds m + 1) * whole)
-lower-rounds m = (omega arith, omega arith)
-
-pub upper-rounds : (m : ℕ) → (upperSeconds m * whole ≤ m * year) × (m * year < (upperSeconds m + 1) * whole)
-upper-rounds m = (omega arith, omega arith)
 
 -- examples: the whole year; a tenth of it; the most that is less than one second, and the least that is one
 example-year : (lowerSeconds whole ≡ 31536000) × (upperSeconds 100000000000000000 ≡ 3153600)

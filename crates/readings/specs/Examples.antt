@@ -4,8 +4,7 @@ use mathlib.Core.Path.{_≡_, refl}
 use mathlib.Core.Bool.{true}
 use mathlib.Core.List.{[], _∷_}
 use Prim.Native.Nat.{ℕ}
-use Rattle.sets.specs.Sets.{bit}
-use Rattle.sets.specs.Bools.{anyBelow}
+use Rattle.sets.specs.Sets.{bit, anyBelow}
 use Rattle.plan.specs.Plan.{Plan}
 use Rattle.network.specs.Outage.{unionOf}
 use Rattle.network.specs.Topology.{nodeWorks, linkWorks, joins, adjacent}
@@ -13,8 +12,10 @@ use Rattle.topology.specs.Paths.{via, disconnected}
 use Rattle.walk.specs.Ends.{ends}
 use Rattle.walk.specs.Walk.{examined}
 use Rattle.readings.specs.Witness.{some, noneTest, Shows}
-use Rattle.readings.specs.Figure.{figureOf, sharesOf}
+use Rattle.readings.specs.Figure.{figureOf, sharesOf, floatOf}
 use Rattle.readings.specs.declared.Figured.the-variants as figured
+use lib.Ieee.{binary64, add, mul, div, ofInt, toBits}
+use Rattle.mass.specs.Split.{whole}
 
 -- two nodes, the link 0-1, and an event of probability q on it
 abbrev line : ℕ → ℕ → ℕ → Plan
@@ -47,3 +48,13 @@ example-figure : (figureOf 0 (line 500000000 1000000000000000000 100) 0 1 ≡ fi
     × (figureOf 13 (line 500000000 1000000000000000000 100) 1 1 ≡ figured.Refused 13)
 unfolding ends disconnected via nodeWorks linkWorks joins adjacent anyBelow unionOf bit
 example-figure = (refl, refl, refl)
+
+-- examples: a tenth of one whole, examined whole; and a lower bound of 0 of a single unit examined
+example-tenth : (toBits binary64 (sharesOf 100000000000000000 whole .disconnected) ≡ 0x3fb999999999999a)
+    × (toBits binary64 (sharesOf 100000000000000000 whole .examined) ≡ 0x3ff0000000000000)
+unfolding floatOf add mul div ofInt toBits
+example-tenth = (refl, refl)
+
+example-least : (toBits binary64 (sharesOf 0 1 .disconnected) ≡ 0) × (toBits binary64 (sharesOf 0 1 .examined) ≡ 0x3c32725dd1d243ac)
+unfolding floatOf add mul div ofInt toBits
+example-least = (refl, refl)

@@ -2,5 +2,4 @@
 pub mod Downtime
 pub mod Witness
 pub mod Figure
-pub mod FigureLaws
 pub mod Examples

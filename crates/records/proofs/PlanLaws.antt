@@ -10,7 +10,8 @@ use borrow.Author.Tests.{ltb-true, ltb-false, lt-ltb, le-ltb}
 use lib.Dec.{ltb}
 use lib.ListN.{length, take, length-take}
 use lib.Seq.{sets, sets-eq, take-at, take-take}
-use Rattle.mass.specs.Refusal.{refuse, first, first-none}
+use Rattle.mass.specs.Refusal.{refuse, first}
+use Rattle.mass.proofs.RefusalLaws.{first-none}
 use Rattle.mass.specs.Split.{certain}
 use Rattle.plan.specs.Plan as plan
 use Rattle.plan.specs.Plan.{Plan}

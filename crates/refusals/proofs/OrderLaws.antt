@@ -3,7 +3,8 @@
 use mathlib.Core.Path.{_≡_, refl, sym, _∙_, ap}
 use mathlib.Core.List.{List, [], _∷_}
 use Prim.Native.Nat.{ℕ, zero, suc}
-use Rattle.mass.specs.Refusal.{first, first-skip, first-stop}
+use Rattle.mass.specs.Refusal.{first}
+use Rattle.mass.proofs.RefusalLaws.{first-skip, first-stop}
 
 -- the test refuses
 pub stop : {r number : ℕ} (later : List ℕ) → r ≡ number → (r ≡ 0 → ⊥) → r ≡ first (number ∷ later)

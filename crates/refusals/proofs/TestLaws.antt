@@ -2,12 +2,13 @@
 -- Assumes nothing.
 use mathlib.Core.Path.{_≡_, refl}
 use mathlib.Core.Bool.{Bool, true, false, _||_, _&&_, not}
-use Prim.Native.Nat.{ℕ, zero, suc, _+_, _*_, _^_, _<_, _≤_}
+use Prim.Native.Nat.{ℕ, _^_, _<_, _≤_}
 use native.Mathlib.Omega.{arith}
 use lib.Dec.{eqb}
 use borrow.Author.Tests.{ltb-false, leb-false, eqb-true, lt-ltb, le-ltb, lt-leb}
-use Rattle.mass.specs.Refusal.{refuse, refuse-none}
-use Rattle.refusals.specs.Tests.{shortTest, markTest, versionTest, countsTest, endsTest, countOfKind, rank, memberTest, setsTest, leftTest, roomTest}
+use Rattle.mass.proofs.RefusalLaws.{refuse-none}
+use Rattle.refusals.specs.Tests.{shortTest, markTest, versionTest, countsTest, countOfKind, rank, memberTest, setsTest, leftTest}
+use Rattle.refusals.specs.Tests.{roomTest}
 
 pub or-none : (a b : Bool) → (a || b) ≡ false → (a ≡ false) × (b ≡ false)
 or-none true b e = absurd (mathlib.Core.Bool.true≢false e)

@@ -5,7 +5,8 @@ use mathlib.Core.List.{List, [], _∷_}
 use Prim.Native.Nat.{ℕ, _/_}
 use native.Mathlib.Omega.{arith}
 use lib.ListN.{length, take}
-use Rattle.mass.specs.Refusal.{first, first-none}
+use Rattle.mass.specs.Refusal.{first}
+use Rattle.mass.proofs.RefusalLaws.{first-none}
 use Rattle.refusals.specs.Tests.{roomTest}
 use Rattle.plan.specs.Records.{planOfLists}
 use Rattle.plan.specs.Calls.{filled}

@@ -1,14 +1,14 @@
 -- The words that the small functions make, as sets.
 -- Assumes nothing.
-use mathlib.Core.Path.{_≡_, refl, sym, ap, _∙_}
+use mathlib.Core.Path.{_≡_, refl, ap, _∙_}
 use mathlib.Core.Bool.{_&&_}
-use Prim.Native.Nat.{ℕ, zero, suc, _+_, _-_, _*_, _/_, _%_, _^_, _≤_, _<_}
+use Prim.Native.Nat.{ℕ, zero, suc, _-_, _*_, _/_, _%_, _^_, _≤_, _<_}
 use native.Mathlib.Omega.{arith}
 use native.Mathlib.Nat.{one-mul, zero-mul}
 use lib.Dec.{eqb, ltb}
 use lib.Pow.{shl-exact}
 use Rattle.sets.specs.Sets.{bit, digit}
-use Rattle.sets.specs.Laws.{bit-none, bit-pow, bit-first}
+use Rattle.sets.proofs.Laws.{bit-none, bit-pow, bit-first}
 
 digit-of : (x : ℕ) → x < 2 → x ≡ digit (eqb x 1)
 digit-of zero h = refl

@@ -1,7 +1,7 @@
 -- Sets as numbers. Document 01, section "Plan file": "Element i is bit i of a set, of value 2^i."
 -- Assumes nothing.
-use mathlib.Core.Bool.{Bool, true, false}
-use Prim.Native.Nat.{ℕ, _+_, _*_, _/_, _%_, _^_}
+use mathlib.Core.Bool.{Bool, true, false, _||_}
+use Prim.Native.Nat.{ℕ, zero, suc, _+_, _*_, _/_, _%_, _^_}
 use lib.Dec.{eqb}
 
 -- whether i is an element of the set s
@@ -16,3 +16,8 @@ joined low high = high * 2 ^ 64 + low
 abbrev pub digit : Bool → ℕ
 digit true = 1
 digit false = 0
+
+-- whether p holds of a number below k
+unfoldable pub anyBelow : (ℕ → Bool) → ℕ → Bool
+anyBelow p zero = false
+anyBelow p (suc k) = p k || anyBelow p k

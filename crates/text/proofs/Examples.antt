@@ -5,16 +5,17 @@ use mathlib.Core.List.{List, [], _∷_, _++_}
 use Prim.Native.Nat.{ℕ}
 use native.Mathlib.Omega.{arith}
 use Rattle.mass.specs.Refusal.{first}
-use Rattle.sets.specs.Sets.{bit}
-use Rattle.sets.specs.Bools.{anyBelow}
+use Rattle.sets.specs.Sets.{bit, anyBelow}
 use Rattle.plan.specs.Layout.{value}
 use Rattle.plan.specs.Lists.{linksOf}
-use Rattle.plan.specs.File.{headerRefusal, linksRefusal, memberRefusal, membersRefusal, eventRefusal, eventsRefusal, refusal, setOf, eventsAt, planOf}
+use Rattle.plan.specs.File.{headerRefusal, linksRefusal, memberRefusal, membersRefusal, eventRefusal, eventsRefusal, refusal, setOf}
+use Rattle.plan.specs.File.{eventsAt, planOf}
 use Rattle.network.specs.Outage.{unionOf}
 use Rattle.network.specs.Topology.{nodeWorks, linkWorks, joins, adjacent}
 use Rattle.topology.specs.Paths.{via, disconnected}
 use Rattle.walk.specs.Ends.{ends}
-use Rattle.text.specs.Decimal.{digits, decimal, decimal-small, decimal-enough}
+use Rattle.text.specs.Decimal.{digits, decimal}
+use Rattle.text.proofs.DecimalLaws.{decimal-small, decimal-enough}
 use Rattle.text.specs.Listing.{field, line, rowText, rowsText, pairsText, pairLine, planText, refusedText, answerText, listing}
 
 -- the file of the triangle: the header, three links, three events

@@ -4,3 +4,4 @@ pub mod RowLaws
 pub mod TextLaws
 pub mod MostLaws
 pub mod Examples
+pub mod DecimalLaws

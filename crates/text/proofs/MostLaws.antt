@@ -9,26 +9,29 @@ use borrow.Author.Tests.{ltb-false, le-ltb}
 use lib.Dec.{ltb, leb, eqb}
 use lib.ListN.{length, getD, take, drop, length-append, replicate, length-replicate}
 use lib.Seq.{take-all}
-use Rattle.mass.specs.Refusal.{refuse, first, refuse-none}
+use Rattle.mass.specs.Refusal.{refuse, first}
+use Rattle.mass.proofs.RefusalLaws.{refuse-none}
 use Rattle.mass.specs.Split.{whole, certain, probabilityTest}
 use Rattle.plan.specs.Plan.{Plan}
 use Rattle.plan.specs.Layout.{Bytes}
-use Rattle.refusals.specs.Tests.{shortTest, markTest, versionTest, countsTest, thresholdTest, limitTest, endsTest, orderTest, memberTest, countOfKind, rank, roomTest}
-use Rattle.plan.specs.File.{headerRefusal, linksRefusal, memberRefusal, membersRefusal, eventRefusal, eventsRefusal, refusal, planOf, nodesIn, linksIn, eventsIn, versionIn, thresholdIn, limitIn, probabilityIn, membersIn, eventSize}
+use Rattle.refusals.specs.Tests.{shortTest, markTest, versionTest, countsTest, thresholdTest, limitTest, endsTest, orderTest, memberTest}
+use Rattle.refusals.specs.Tests.{countOfKind, rank, roomTest}
+use Rattle.plan.specs.File.{headerRefusal, linksRefusal, memberRefusal, membersRefusal, eventRefusal, eventsRefusal, refusal, planOf}
+use Rattle.plan.specs.File.{nodesIn, linksIn, eventsIn, versionIn, thresholdIn, limitIn, probabilityIn, membersIn, eventSize}
 use Rattle.plan.specs.Records.{planRefusal}
 use Rattle.refusals.proofs.TestLaws.{counts-none, Ranges, or-none}
 use Rattle.layout.proofs.LayoutFile.{valid-none}
 use Rattle.layout.proofs.Theorems.{read-writes-again, longest, prefix-decides}
 use Rattle.sets.specs.Sets.{digit}
 use Rattle.walk.specs.Walk.{count, complete, massExamined, planEnds}
-use Rattle.walk.specs.Laws.{massExamined-le, count-le}
-use Rattle.walk.specs.Valid.{plan-probable}
-use Rattle.sums.specs.Bounds.{upper-le, lower-upper}
+use Rattle.walk.proofs.Laws.{massExamined-le, count-le}
+use Rattle.walk.proofs.Valid.{plan-probable}
+use Rattle.sums.proofs.BoundsLaws.{upper-le, lower-upper}
 use Rattle.pairs.specs.Pairs.{start}
 use Rattle.pairs.proofs.PairLaws.{start-suc, start-zero, pairs-most}
 use Rattle.bounds.specs.Bounds.{cuts, lowerOf, upperOf}
 use Rattle.input.proofs.LoadedLaws.{bytes-each}
-use Rattle.text.specs.Decimal.{decimal-most}
+use Rattle.text.proofs.DecimalLaws.{decimal-most}
 use Rattle.text.specs.Listing.{field, line, rowText, rowsText, pairsText, pairLine, planText, answerText, listing}
 use Rattle.text.specs.Calls.{listedAnswer}
 use Rattle.text.specs.declared.Listed.the-variants as listed

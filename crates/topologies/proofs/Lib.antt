@@ -3,3 +3,7 @@ pub mod WorkingSets
 pub mod Turn
 pub mod Answers
 pub mod Theorems
+pub mod SetLaws
+pub mod ListingLaws
+pub mod RoomLaws
+pub mod ListBounds

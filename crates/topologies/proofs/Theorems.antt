@@ -7,7 +7,7 @@ use native.Mathlib.Nat.{zero-add}
 use native.Mathlib.Omega.{arith}
 use lib.ListN.{length, drop}
 use lib.Seq.{sets-eq}
-use Rattle.mass.specs.Refusal.{first-none}
+use Rattle.mass.proofs.RefusalLaws.{first-none}
 use Rattle.mass.specs.Split.{whole}
 use Rattle.plan.specs.Plan.{Plan}
 use Rattle.plan.specs.Records.{listsRefusal, planOfLists}
@@ -15,13 +15,15 @@ use Rattle.plan.specs.declared.Header.{Header}
 use Rattle.layout.proofs.ListTheorems.{length-links-of}
 use Rattle.lent.proofs.Accepted.{lists-counted, lists-held}
 use Rattle.plan.specs.Held.{Probabilities}
-use Rattle.walk.specs.Valid.{held-probable}
+use Rattle.walk.proofs.Valid.{held-probable}
 use Rattle.walk.specs.Walk.{firstEnds, massExamined}
 use Rattle.bounds.specs.Bounds.{lowerOf, upperOf}
-use Rattle.entries.specs.Entries.{Entry, massesIn, Listing}
+use Rattle.entries.specs.Entries.{Entry, massesIn}
 use Rattle.topologies.specs.Listing.{topologyAfter, listingOf}
-use Rattle.topologies.specs.ListingLaws.{Different, different-placed, never-over}
-use Rattle.topologies.specs.ListBounds.{lowerFrom, list-sums, list-lower, list-upper}
+use Rattle.topologies.specs.Different.{Different}
+use Rattle.topologies.proofs.ListingLaws.{different-placed, never-over}
+use Rattle.topologies.specs.ListBounds.{lowerFrom}
+use Rattle.topologies.proofs.ListBounds.{list-sums, list-lower, list-upper}
 use Rattle.entries.specs.Words.{entryWords, entriesOf}
 use Rattle.topologies.specs.Calls.{listingIn, topologiesRefusal, topologiesNumber, listedAnswer, countIn, listAfter}
 use Rattle.entries.proofs.EntryLaws.{entry-words-length}

@@ -3,7 +3,7 @@
 use mathlib.Core.Path.{_≡_, refl, sym, ap, subst, _∙_}
 use mathlib.Core.Bool.{true, false}
 use mathlib.Core.List.{List, [], _∷_}
-use Prim.Native.Nat.{ℕ, _+_, _-_, _*_, _/_, _<_, _≤_}
+use Prim.Native.Nat.{ℕ, _+_, _-_, _*_, _/_, _≤_}
 use native.Mathlib.Omega.{arith}
 use lib.ListN.{length, take, drop}
 use lib.Seq.{drop-drop}
@@ -15,16 +15,15 @@ use Rattle.plan.specs.Held.{Held}
 use Rattle.plan.specs.declared.Header.{Header}
 use Rattle.walk.specs.Scenario.{Scenario, scenarioOf}
 use Rattle.walk.specs.Ends.{End, relevant, sumEnds}
-use Rattle.walk.specs.Laws.{masses-le}
-use Rattle.walk.specs.Stack.{Stack}
-use Rattle.walk.specs.Stack.{Begun}
+use Rattle.walk.proofs.Laws.{masses-le}
+use Rattle.walk.specs.Stack.{Stack, Begun}
 use Rattle.walk.specs.Steps.{Handed}
-use Rattle.walk.specs.Valid.{held-probable}
+use Rattle.walk.proofs.Valid.{held-probable}
 use Rattle.walk.specs.declared.Step.{Step}
 use Rattle.walk.proofs.Resume.{begun-stack, begun-whole, root-entry, value-found, value-none, sum-found}
 use Rattle.entries.specs.Entries.{massesIn, added, Listing, listing, fitted}
 use Rattle.topologies.specs.Listing.{placed, placedAll, topologyAfter, listingOf}
-use Rattle.topologies.specs.ListingLaws.{refused-stays, masses-placed}
+use Rattle.topologies.proofs.ListingLaws.{refused-stays, masses-placed}
 use Rattle.entries.specs.Words.{entriesOf, Placing, Gave}
 use Rattle.topologies.specs.Turns.{nextEnds, Ready}
 use Rattle.entries.specs.declared.Topology.{Topology}

@@ -1,13 +1,12 @@
 -- The three words of an effective topology, from the sets that the code gives.
 -- Assumes nothing.
-use mathlib.Core.Path.{_≡_, refl, sym, ap, _∙_}
-use mathlib.Core.Bool.{Bool, not, _&&_}
+use mathlib.Core.Path.{_≡_, sym, ap, _∙_}
+use mathlib.Core.Bool.{not, _&&_}
 use mathlib.Core.List.{List}
 use Prim.Native.Nat.{ℕ, _+_, _^_, _<_}
-use native.Mathlib.Omega.{arith}
 use lib.Dec.{ltb}
 use Rattle.sets.specs.Sets.{bit, joined}
-use Rattle.sets.specs.Laws.{bit-joined-low, bit-joined-high}
+use Rattle.sets.proofs.Laws.{bit-joined-low, bit-joined-high}
 use Rattle.plan.specs.Lists.{linksOf, eventsOf}
 use Rattle.plan.specs.Records.{planOfLists}
 use Rattle.plan.specs.declared.Header.{Header}
@@ -15,11 +14,11 @@ use Rattle.network.specs.Outage.{Outage, outageOf}
 use Rattle.network.specs.Topology.{Network, networkOf, nodeWorks, linkWorks}
 use Rattle.network.specs.Code.{outage, networkIn}
 use Rattle.network.specs.declared.Failed.{Failed}
-use Rattle.walk.specs.Scenario.{scenarioOf, number-scenario}
+use Rattle.walk.specs.Scenario.{scenarioOf}
+use Rattle.walk.proofs.ScenarioLaws.{number-scenario}
 use Rattle.bounds.specs.Bounds.{intact}
 use Rattle.topologies.specs.Listing.{topologyIn, topologyAfter}
-use Rattle.topologies.specs.SetLaws.{set-is}
-use Rattle.entries.specs.declared.Topology.{Topology}
+use Rattle.topologies.proofs.SetLaws.{set-is}
 
 -- sets with the working nodes and links as elements
 topology-is : (net : Network) (nodes low high : ℕ) → nodes < 2 ^ 64 → low < 2 ^ 64 → high < 2 ^ 64

@@ -1,10 +1,9 @@
 -- Examples of the topology list: two nodes and one link between them, and two events of probability 1/2.
 -- Assumes nothing.
 use mathlib.Core.Path.{_≡_, refl}
-use mathlib.Core.List.{List, [], _∷_}
+use mathlib.Core.List.{[], _∷_}
 use Prim.Native.Nat.{ℕ}
-use Rattle.sets.specs.Sets.{bit}
-use Rattle.sets.specs.Bools.{anyBelow}
+use Rattle.sets.specs.Sets.{bit, anyBelow}
 use Rattle.plan.specs.Plan.{Plan, Event}
 use Rattle.network.specs.Outage.{unionOf}
 use Rattle.network.specs.Topology.{nodeWorks, linkWorks, joins, adjacent}

@@ -1,34 +1,21 @@
--- "The list's masses sum to E, and bounds taken from it equal those of the run": document 01, section "Further readings of a plan".
+-- Bounds taken from a topology list: document 01, section "Further readings of a plan".
 -- Assumes nothing.
-use mathlib.Core.Path.{_≡_, refl, sym, ap, ap₂, _∙_}
-use mathlib.Core.Bool.{Bool, true, false, not, _&&_, Bool·not-not}
+use mathlib.Core.Bool.{Bool, not}
 use mathlib.Core.List.{List, [], _∷_}
-use Prim.Native.Nat.{ℕ, _+_, _-_, _*_, _<_, _≤_}
-use native.Mathlib.Decide.{decLt}
-use native.Mathlib.Nat.{zero-add}
-use native.Mathlib.Omega.{arith}
-use borrow.Author.Tests.{lt-ltb, le-ltb}
-use lib.Dec.{ltb}
-use lib.ListN.{length}
-use Rattle.mass.specs.Split.{whole}
+use Prim.Native.Nat.{ℕ, _+_, _*_}
 use Rattle.sets.specs.Sets.{bit, joined, digit}
-use Rattle.sets.specs.Laws.{bit-joined-low, bit-joined-high}
-use Rattle.plan.specs.Plan.{Plan, Link}
+use Rattle.plan.specs.Plan.{Plan}
 use Rattle.network.specs.Outage.{Outage}
-use Rattle.network.specs.Topology.{Network, networkOf, nodeWorks, linkWorks}
-use Rattle.plan.specs.Held.{linkAt, Probabilities}
+use Rattle.network.specs.Topology.{networkOf}
 use Rattle.topology.specs.Paths.{disconnected}
-use Rattle.topology.specs.Laws.{same-working}
-use Rattle.walk.specs.Scenario.{Scenario}
-use Rattle.walk.specs.Ends.{End, dropped, relevant, sumEnds}
-use Rattle.walk.specs.Walk.{firstEnds, massExamined}
-use Rattle.sums.specs.Bounds.{upper-lower}
-use Rattle.bounds.specs.Bounds.{topologyOf, cuts, lowerOf, upperOf}
-use Rattle.entries.specs.Entries.{Entry, massesIn, listing}
-use Rattle.topologies.specs.Listing.{setOf, topologyIn, topologyAfter, listingOf}
-use Rattle.topologies.specs.SetLaws.{set-lt, set-bit}
-use Rattle.topologies.specs.ListingLaws.{sumEntries, masses-are, sum-placed}
+use Rattle.entries.specs.Entries.{Entry}
+use Rattle.topologies.specs.Listing.{setOf}
 use Rattle.entries.specs.declared.Topology.{Topology}
+
+-- the sum over the entries of mass × weight of the topology
+abbrev pub sumEntries : (Topology → ℕ) → List Entry → ℕ
+sumEntries weight [] = 0
+sumEntries weight (e ∷ entries) = e .mass * weight (e .topology) + sumEntries weight entries
 
 -- what is down in a topology of three words: the nodes and the links that are not among the working ones
 abbrev pub downIn : Topology → Outage
@@ -41,100 +28,3 @@ cutIn p v w t = disconnected (networkOf (p .nodes) (p .links) (downIn t)) v w
 -- lower, taken from the list: the masses of the entries whose topology disconnects the pair
 abbrev pub lowerFrom : Plan → List Entry → ℕ → ℕ → ℕ
 lowerFrom p entries v w = sumEntries (λ t. digit (cutIn p v w t)) entries
-
--- ---- the three words fix what works
-
-module _ (nodes : ℕ) (links : List Link) (out : Outage) (few : nodes ≤ 64) (fewLinks : length links ≤ 128) where
-  abbrev net : Network
-  net = networkOf nodes links out
-
-  abbrev again : Network
-  again = networkOf nodes links (downIn (topologyIn net))
-
-  node-bit : (v : ℕ) → v < 64 → bit (downIn (topologyIn net) .nodes) v ≡ not (nodeWorks net v)
-  unfolding topologyIn
-  node-bit v h = set-bit (λ v. not (bit (setOf (nodeWorks net) 64) v)) 64 v h ∙ ap not (set-bit (nodeWorks net) 64 v h)
-
-  same-node : (v : ℕ) → nodeWorks again v ≡ nodeWorks net v
-  unfolding nodeWorks
-  same-node v = go (decLt v nodes)
-    where
-      go : Dec (v < nodes) → (ltb v nodes && not (bit (downIn (topologyIn net) .nodes) v)) ≡ (ltb v nodes && not (bit (out .nodes) v))
-      go (yes l) =
-          ap₂ _&&_ (lt-ltb v nodes l) (ap not (node-bit v (omega arith)) ∙ Bool·not-not (nodeWorks net v))
-      go (no n) = rw (le-ltb v nodes (omega arith))
-
-  -- the two words of the links, as one set
-  link-bit : (i : ℕ) → i < 128 → Dec (i < 64) → bit (joined (topologyIn net .low) (topologyIn net .high)) i ≡ linkWorks net i
-  unfolding topologyIn
-  link-bit i h (yes l) = bit-joined-low 64 (setOf (linkWorks net) 64) _ i (set-lt (linkWorks net) 64) l ∙ set-bit (linkWorks net) 64 i l
-  link-bit i h (no n) =
-      let is : i ≡ 64 + (i - 64) = omega arith in
-      ap (bit (joined (setOf (linkWorks net) 64) (setOf (λ j. linkWorks net (64 + j)) 64))) is
-      ∙ bit-joined-high 64 (setOf (linkWorks net) 64) _ (i - 64) (set-lt (linkWorks net) 64)
-      ∙ set-bit (λ j. linkWorks net (64 + j)) 64 (i - 64) (omega arith)
-      ∙ ap (linkWorks net) (sym is)
-
-  down-link : (i : ℕ) → i < 128 → not (bit (downIn (topologyIn net) .links) i) ≡ linkWorks net i
-  down-link i h =
-      ap not (set-bit (λ j. not (bit (joined (topologyIn net .low) (topologyIn net .high)) j)) 128 i h ∙ ap not (link-bit i h (decLt i 64)))
-      ∙ Bool·not-not (linkWorks net i)
-
-  twice : (a b : Bool) → ((a && b) && b) ≡ (a && b)
-  twice true true = refl
-  twice true false = refl
-  twice false b = refl
-
-  same-link : (i : ℕ) → linkWorks again i ≡ linkWorks net i
-  unfolding linkWorks
-  same-link i = go (decLt i (length links))
-    where
-      ends : Bool
-      ends = nodeWorks net (linkAt links i .low) && nodeWorks net (linkAt links i .high)
-
-      go : Dec (i < length links) → linkWorks again i ≡ linkWorks net i
-      go (yes l) =
-          ap₂ _&&_
-          (ap₂ _&&_ (lt-ltb i (length links) l) (down-link i (omega arith)))
-          (ap₂ _&&_ (same-node (linkAt links i .low)) (same-node (linkAt links i .high)))
-          ∙ twice (ltb i (length links) && not (bit (out .links) i)) ends
-      go (no n) = rw (le-ltb i (length links) (omega arith))
-
-  -- law: a topology of three words disconnects the pairs that the topology itself disconnects
-  pub same-cut : (v w : ℕ) → disconnected again v w ≡ disconnected net v w
-  same-cut = same-working nodes links (downIn (topologyIn net)) out same-node same-link
-
--- sums of equal values
-same-sum : (f g : Scenario → ℕ → ℕ) → ((s : Scenario) (m : ℕ) → f s m ≡ g s m) → (list : List End) → sumEnds f list ≡ sumEnds g list
-same-sum f g e [] = refl
-same-sum f g e (dropped ∷ list) = same-sum f g e list
-same-sum f g e (relevant s m ∷ list) = ap₂ _+_ (e s m) (same-sum f g e list)
-
-module _ (p : Plan) (room : ℕ) (placed-all : listingOf room p .number ≡ 0) where
-  abbrev entries : List Entry
-  entries = listingOf room p .entries
-
-  -- law: where 15 is not met, a sum of mass × weight over the entries is that over the examined scenarios, whatever the weight of a topology
-  pub sum-is : (weight : Topology → ℕ) → sumEntries weight entries ≡ sumEnds (λ s m. m * weight (topologyAfter p s)) (firstEnds p)
-  unfolding listingOf
-  sum-is weight = sum-placed room (topologyAfter p) weight [] (firstEnds p) placed-all ∙ zero-add _
-
-  -- THEOREM: the list's masses sum to E
-  pub list-sums : massesIn entries ≡ massExamined p
-  list-sums = masses-are entries ∙ sum-is (λ t. 1) ∙ same-sum _ _ (λ s m. one m) (firstEnds p)
-    where
-      one : (m : ℕ) → m * 1 ≡ m
-      one m = omega arith
-
-  module _ (few : p .nodes ≤ 64) (fewLinks : length (p .links) ≤ 128) (v w : ℕ) where
-    -- THEOREM: and the lower bound of every pair taken from it is the run's
-    pub list-lower : lowerFrom p entries v w ≡ lowerOf p v w
-    list-lower =
-        sum-is (λ t. digit (cutIn p v w t))
-        ∙ same-sum _ _
-        (λ s m. ap (λ (b : Bool). m * digit b) (same-cut (p .nodes) (p .links) (topologyOf p s .out) few fewLinks v w))
-        (firstEnds p)
-
-    -- THEOREM: and so is the upper bound, 10^18 less the list's masses and the lower bound added
-    pub list-upper : Probabilities (p .events) → upperOf p v w + massesIn entries ≡ lowerFrom p entries v w + whole
-    list-upper q = omega (arith, list-sums, list-lower, upper-lower p q (cuts p v w))

@@ -8,8 +8,8 @@ use Prim.Native.Nat.{ℕ}
 use lib.Dec.{eqb}
 use lib.ListN.{getD}
 use Rattle.sets.specs.Sets.{bit}
-use Rattle.sets.specs.Laws.{bit-none}
-use Rattle.sets.specs.Bools.{or-either, or-left, or-right, clash}
+use Rattle.sets.proofs.Laws.{bit-none}
+use Rattle.sets.proofs.Bools.{or-either, or-left, or-right, clash}
 use Rattle.network.proofs.Rest.{rest-in, rest-or}
 use Rattle.topology.specs.RowPaths.{InRows}
 

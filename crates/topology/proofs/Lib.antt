@@ -3,3 +3,6 @@ pub mod Gather
 pub mod Round
 pub mod Shares
 pub mod Shown
+pub mod Chains
+pub mod Connection
+pub mod Laws

@@ -9,10 +9,10 @@ use lib.Bits.{bitOr, or-disjoint}
 use lib.Dec.{eqb}
 use borrow.Author.Tests.{eqb-true, eq-eqb}
 use Rattle.sets.specs.Sets.{bit}
-use Rattle.sets.specs.Laws.{bit-none, bit-or, bit-and, bits-same}
-use Rattle.sets.specs.Bools.{and-left, and-right, and-both, or-either, or-left, or-right, which, clash, not-of, of-not, not-so}
+use Rattle.sets.proofs.Laws.{bit-none, bit-or, bit-and, bits-same}
+use Rattle.sets.proofs.Bools.{and-left, and-right, and-both, or-either, or-left, or-right, which, clash, not-of, of-not, not-so}
 use Rattle.topology.specs.Paths.{here, more}
-use Rattle.topology.specs.Chains.{chain-append, chain-keeps}
+use Rattle.topology.proofs.Chains.{chain-append, chain-keeps}
 use Rattle.topology.specs.RowPaths.{RowStep, RowPath, InRows, Reached}
 
 -- ---- a set that grows is a larger number

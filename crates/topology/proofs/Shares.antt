@@ -6,8 +6,8 @@ use Prim.Native.Nat.{ℕ, _<_}
 use native.Mathlib.Omega.{arith}
 use lib.Bits.{bitAnd}
 use Rattle.sets.specs.Sets.{bit}
-use Rattle.sets.specs.Laws.{bit-and, bit-pos}
-use Rattle.sets.specs.Bools.{and-left, and-right, and-both}
+use Rattle.sets.proofs.Laws.{bit-and, bit-pos}
+use Rattle.sets.proofs.Bools.{and-left, and-right, and-both}
 use Rattle.topology.proofs.Round.{grows}
 
 -- a set that loses an element is a smaller number

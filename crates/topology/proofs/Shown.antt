@@ -8,15 +8,15 @@ use Prim.Native.Nat.{ℕ}
 use lib.Dec.{ltb, eqb}
 use lib.ListN.{getD}
 use Rattle.sets.specs.Sets.{bit, digit}
-use Rattle.sets.specs.Bools.{same-bool, not-of, of-not}
+use Rattle.sets.proofs.Bools.{same-bool, not-of, of-not}
 use Rattle.plan.specs.Plan.{Link}
 use Rattle.network.specs.Outage.{Outage}
 use Rattle.network.specs.Topology.{Network, networkOf, nodeWorks, adjacent, WorkingLink}
 use Rattle.topology.specs.Paths.{Reaches, disconnected}
-use Rattle.topology.specs.Chains.{chain-map}
-use Rattle.network.specs.Works.{adjacent-link, link-adjacent, adjacent-sym, link-nodes}
-use Rattle.topology.specs.Connection.{connected-is}
-use Rattle.topology.specs.Laws.{path-leads}
+use Rattle.topology.proofs.Chains.{chain-map}
+use Rattle.network.proofs.Works.{adjacent-link, link-adjacent, adjacent-sym, link-nodes}
+use Rattle.topology.proofs.Connection.{connected-is}
+use Rattle.topology.proofs.Laws.{path-leads}
 use Rattle.topology.specs.RowPaths.{RowStep, Reached, Joining}
 
 -- ---- what a node reaches is what it is connected to

@@ -4,8 +4,7 @@ use mathlib.Core.Path.{_≡_, refl}
 use mathlib.Core.Bool.{Bool, true, false}
 use mathlib.Core.List.{List, [], _∷_}
 use Prim.Native.Nat.{ℕ}
-use Rattle.sets.specs.Sets.{bit}
-use Rattle.sets.specs.Bools.{anyBelow}
+use Rattle.sets.specs.Sets.{bit, anyBelow}
 use Rattle.plan.specs.Plan.{Link}
 use Rattle.network.specs.Topology.{networkOf, nodeWorks, linkWorks, joins, adjacent}
 use Rattle.topology.specs.Paths.{via, disconnected}

@@ -3,7 +3,7 @@
 use mathlib.Core.Path.{_≡_, refl, ap, ap₂, sym, _∙_}
 use mathlib.Core.Bool.{true, false}
 use mathlib.Core.List.{List, [], _∷_, _++_}
-use Prim.Native.Nat.{ℕ, zero, suc, _+_, _-_, _*_, _^_, _≤_, _<_}
+use Prim.Native.Nat.{ℕ, zero, suc, _+_, _*_, _^_, _≤_, _<_}
 use native.Mathlib.Numerals.{add-one}
 use native.Mathlib.Omega.{arith}
 use lib.ListN.{length, getD, drop}
@@ -12,7 +12,8 @@ use Rattle.mass.specs.Split.{certain, failing, working}
 use Rattle.sets.specs.Sets.{joined}
 use Rattle.plan.specs.Plan.{Event}
 use Rattle.plan.specs.Lists.{eventsOf}
-use Rattle.walk.specs.Scenario.{Scenario, scenarioOf, scenario-next}
+use Rattle.walk.specs.Scenario.{Scenario, scenarioOf}
+use Rattle.walk.proofs.ScenarioLaws.{scenario-next}
 use Rattle.plan.specs.Held.{Probabilities}
 use Rattle.walk.specs.Pending.{branch}
 use Rattle.walk.specs.Stack.{entry}

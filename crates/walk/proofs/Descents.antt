@@ -12,17 +12,21 @@ use lib.ListN.{length, getD, drop, replicate, length-drop, drop-of-length-le}
 use lib.Pow.{pow-pos, pow-mono}
 use lib.Seq.{drop-cons}
 use Rattle.mass.specs.Split.{certain, whole, failing, working}
-use Rattle.mass.specs.Laws.{fails-le, works-le}
+use Rattle.mass.proofs.Laws.{fails-le, works-le}
 use Rattle.sets.specs.Sets.{joined}
 use Rattle.plan.specs.Plan.{Event}
 use Rattle.plan.specs.Lists.{eventsOf}
-use Rattle.walk.specs.Scenario.{Scenario, falling-probable, falling-drop, scenarioOf, scenario-length, scenario-works}
+use Rattle.walk.specs.Scenario.{Scenario, scenarioOf}
+use Rattle.walk.proofs.ScenarioLaws.{falling-probable, falling-drop, scenario-length, scenario-works}
 use Rattle.plan.specs.Held.{Falling}
-use Rattle.walk.specs.Ends.{End, dropped, relevant, after, ends, ends-cut, ends-leaf}
-use Rattle.walk.specs.Pending.{Branch, branch, branchEnds, branch-node}
-use Rattle.walk.specs.WorksPath.{pathSteps, pathMass, pathEnd, pathEnd-cut, pathEnd-enough, path-last, path-cut, path-on}
-use Rattle.walk.specs.Stack.{entry, Entry, toCome, Laid, Entries, Stack, entry-run, entry-branch}
-use Rattle.walk.specs.Steps.{Stopped, Pushed, Delayed, Descended, descentOf, descent-cut, descent-enough}
+use Rattle.walk.specs.Ends.{End, dropped, relevant, after, ends}
+use Rattle.walk.proofs.EndsLaws.{ends-cut, ends-leaf}
+use Rattle.walk.specs.Pending.{Branch, branch, branchEnds}
+use Rattle.walk.proofs.StackLaws.{branch-node, pathEnd-cut, pathEnd-enough, path-last, path-cut, path-on, entry-run, entry-branch}
+use Rattle.walk.proofs.StackLaws.{descent-cut, descent-enough}
+use Rattle.walk.specs.WorksPath.{pathSteps, pathMass, pathEnd}
+use Rattle.walk.specs.Stack.{entry, Entry, toCome, Laid, Entries, Stack}
+use Rattle.walk.specs.Steps.{Stopped, Pushed, Delayed, Descended, descentOf}
 use Rattle.walk.specs.declared.Stop.{Stop}
 use Rattle.walk.proofs.Branches.{events-length, events-probability, probability-le, next-works, next-fails}
 use Rattle.walk.proofs.Dropped.{run-after, works-path}

@@ -11,12 +11,14 @@ use lib.Dec.{ltb}
 use lib.ListN.{length, replicate, replicate-append-replicate}
 use borrow.Author.Tests.{ltb-true, ltb-false}
 use Rattle.mass.specs.Split.{certain, failing, working}
-use Rattle.mass.specs.Laws.{works-le}
+use Rattle.mass.proofs.Laws.{works-le}
 use Rattle.plan.specs.Plan.{Event}
 use Rattle.walk.specs.Scenario.{Scenario}
 use Rattle.plan.specs.Held.{Falling}
-use Rattle.walk.specs.Ends.{End, dropped, after, ends, ends-cut, ends-leaf, ends-node}
-use Rattle.walk.specs.WorksPath.{pathSteps, pathMass, pathEnd, pathEnd-cut, pathEnd-enough, path-last, path-cut, path-on}
+use Rattle.walk.specs.Ends.{End, dropped, after, ends}
+use Rattle.walk.proofs.EndsLaws.{ends-cut, ends-leaf, ends-node}
+use Rattle.walk.specs.WorksPath.{pathSteps, pathMass, pathEnd}
+use Rattle.walk.proofs.StackLaws.{pathEnd-cut, pathEnd-enough, path-last, path-cut, path-on}
 
 -- two runs of dropped ends are one
 pub runs-add : (a b : ℕ) (list : List End) → replicate a dropped ++ (replicate b dropped ++ list) ≡ replicate (a + b) dropped ++ list

@@ -6,3 +6,9 @@ pub mod Branches
 pub mod Descents
 pub mod Resume
 pub mod Handing
+pub mod ScenarioLaws
+pub mod EndsLaws
+pub mod MemberLaws
+pub mod StackLaws
+pub mod Laws
+pub mod Valid

@@ -16,11 +16,13 @@ use Rattle.mass.specs.Split.{whole, working}
 use Rattle.sets.specs.Sets.{joined, digit}
 use Rattle.plan.specs.Plan.{Plan, Event}
 use Rattle.plan.specs.Lists.{eventsOf}
-use Rattle.walk.specs.Scenario.{Scenario, scenarioOf, scenario-length}
-use Rattle.walk.specs.Ends.{End, dropped, relevant, after, ends, endsAfter, sumEnds, scenarios, ends-cut, ends-leaf, ends-node}
-use Rattle.walk.specs.Pending.{root-ends}
+use Rattle.walk.specs.Scenario.{Scenario, scenarioOf}
+use Rattle.walk.proofs.ScenarioLaws.{scenario-length}
+use Rattle.walk.specs.Ends.{End, dropped, relevant, after, ends, endsAfter, sumEnds, scenarios}
+use Rattle.walk.proofs.EndsLaws.{ends-cut, ends-leaf, ends-node}
+use Rattle.walk.proofs.StackLaws.{root-ends, entry-run, entry-branch}
 use Rattle.walk.specs.Walk.{planEnds, complete}
-use Rattle.walk.specs.Stack.{Begun, Entry, entryEnds, stackEnds, toCome, Laid, Entries, Stack, entry-run, entry-branch}
+use Rattle.walk.specs.Stack.{Begun, Entry, entryEnds, stackEnds, toCome, Laid, Entries, Stack}
 use Rattle.walk.specs.Steps.{Handed}
 use Rattle.walk.specs.declared.Step.{Step}
 

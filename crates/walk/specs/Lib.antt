@@ -5,7 +5,5 @@ pub mod Member
 pub mod Pending
 pub mod WorksPath
 pub mod Walk
-pub mod Laws
 pub mod Stack
 pub mod Steps
-pub mod Valid

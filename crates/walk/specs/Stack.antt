@@ -6,7 +6,6 @@ use mathlib.Core.List.{List, [], _∷_, _++_}
 use Prim.Native.Nat.{ℕ, _*_, _%_, _^_, _≤_, _<_}
 use lib.Dec.{ltb}
 use lib.ListN.{length, drop, replicate}
-use borrow.Author.Tests.{lt-ltb, le-ltb}
 use Rattle.mass.specs.Split.{whole}
 use Rattle.sets.specs.Sets.{joined}
 use Rattle.plan.specs.Plan.{Event}
@@ -70,13 +69,3 @@ pub record Begun (depth mass low high at : ℕ) (stack : List ℕ) : Type 0 wher
   pub place : at ≡ 508
   pub alone : drop at stack ≡ depth ∷ mass ∷ low ∷ high ∷ []
   pub sized : length stack ≡ 512
-
-module _ (t : ℕ) (events : List Event) (depth mass low high : ℕ) where
-  -- law: the two kinds of an entry
-  pub entry-run : 128 < depth → entryEnds t events depth mass low high ≡ replicate mass dropped
-  unfolding entryEnds
-  entry-run h = rw (lt-ltb 128 depth h, entryEnds)
-
-  pub entry-branch : depth ≤ 128 → entryEnds t events depth mass low high ≡ branchEnds t events (entry depth mass low high)
-  unfolding entryEnds
-  entry-branch h = rw (le-ltb 128 depth h, entryEnds)

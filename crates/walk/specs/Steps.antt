@@ -6,7 +6,6 @@ use mathlib.Core.List.{List, [], _∷_, _++_}
 use Prim.Native.Nat.{ℕ, _+_, _*_, _^_, _≤_, _<_}
 use lib.Dec.{ltb}
 use lib.ListN.{length, drop, replicate}
-use borrow.Author.Tests.{lt-ltb, le-ltb}
 use Rattle.mass.specs.Split.{certain, whole}
 use Rattle.sets.specs.Sets.{joined, digit}
 use Rattle.plan.specs.Lists.{eventsOf}
@@ -89,15 +88,3 @@ descentOf threshold at mass low high number =
       | true ↦ record { at = at; relevant = false; mass = 0; low = 0; high = 0; dropped = number }
       | false ↦ record { at = at; relevant = true; mass = mass; low = low; high = high; dropped = number }
     ]
-
-module _ (threshold at mass low high number : ℕ) where
-  pub descent-cut : mass < threshold
-      → descentOf threshold at mass low high number ≡ record { at = at; relevant = false; mass = 0; low = 0; high = 0; dropped = number }
-  unfolding descentOf
-  descent-cut h = rw (lt-ltb mass threshold h, descentOf)
-
-  pub descent-enough : threshold ≤ mass
-      → descentOf threshold at mass low high number
-      ≡ record { at = at; relevant = true; mass = mass; low = low; high = high; dropped = number }
-  unfolding descentOf
-  descent-enough h = rw (le-ltb mass threshold h, descentOf)

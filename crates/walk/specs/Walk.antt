@@ -10,7 +10,7 @@ use Rattle.mass.specs.Split.{whole}
 use Rattle.plan.specs.Plan.{Plan}
 use Rattle.walk.specs.Scenario.{Scenario}
 use Rattle.sets.specs.Sets.{digit}
-use Rattle.walk.specs.Ends.{End, dropped, relevant, ends, sumEnds, scenarios, scenarios-count}
+use Rattle.walk.specs.Ends.{End, dropped, relevant, ends, sumEnds, scenarios}
 use Rattle.walk.specs.Member.{among}
 
 -- the ends of the walk of a plan, in order: the mass starts at one whole
@@ -40,10 +40,6 @@ massExamined p = sumEnds (λ s m. m) (firstEnds p)
 -- the number of scenarios examined
 abbrev pub count : Plan → ℕ
 count p = length (examined p)
-
--- law: the count as a sum over the ends
-pub count-sum : (p : Plan) → sumEnds (λ s m. 1) (firstEnds p) ≡ count p
-count-sum p = scenarios-count (firstEnds p)
 
 -- examples: one event of probability 1/10. At a threshold of 1/10 both scenarios are relevant; one unit higher only the first is, and
 -- the other is dropped; with room for one end the walk is not complete.

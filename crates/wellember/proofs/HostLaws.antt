@@ -6,7 +6,8 @@ use Prim.Native.Nat.{ℕ, zero, suc, _+_, _^_, _<_, _≤_}
 use native.Mathlib.Omega.{arith}
 use lib.ListN.{length, drop, length-append}
 use lib.Seq.{sets, sets-eq, take-at, drop-at}
-use Rattle.mass.specs.Refusal.{first, first-none, first-skip}
+use Rattle.mass.specs.Refusal.{first}
+use Rattle.mass.proofs.RefusalLaws.{first-none, first-skip}
 use Rattle.plan.specs.Plan.{Plan}
 use Rattle.plan.specs.Layout.{little}
 use Rattle.refusals.specs.Tests.{roomTest}

@@ -5,7 +5,7 @@ use mathlib.Core.List.{List}
 use Prim.Native.Nat.{ℕ, zero, suc}
 use lib.ListN.{length}
 use lib.Seq.{sets}
-use Rattle.mass.specs.Refusal.{first-skip}
+use Rattle.mass.proofs.RefusalLaws.{first-skip}
 use Rattle.refusals.specs.Tests.{roomTest}
 use Rattle.plan.specs.Layout.{layout}
 use Rattle.plan.specs.Records.{planOfLists, listsRefusal}

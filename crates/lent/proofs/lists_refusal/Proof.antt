@@ -4,7 +4,8 @@ use mathlib.Core.List.{List, [], _∷_}
 use Prim.Native.Nat.{ℕ, _*_}
 use native.Mathlib.Omega.{arith}
 use lib.ListN.{drop}
-use Rattle.mass.specs.Refusal.{first, first-skip}
+use Rattle.mass.specs.Refusal.{first}
+use Rattle.mass.proofs.RefusalLaws.{first-skip}
 use Rattle.mass.specs.Split.{certain}
 use Rattle.plan.specs.Lists.{linksOf, eventsOf}
 use Rattle.refusals.specs.Tests.{countsTest, thresholdTest, limitTest, roomTest}

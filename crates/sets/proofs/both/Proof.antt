@@ -1,5 +1,5 @@
 -- `sets::both` meets its contract. Assumes nothing.
-use Rattle.sets.specs.Laws.{bit-and}
+use Rattle.sets.proofs.Laws.{bit-and}
 use Rattle.sets.proofs.both.Statement.{statement}
 use Rattle.sets.proofs.both.Tie as tie
 

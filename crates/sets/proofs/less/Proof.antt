@@ -1,5 +1,5 @@
 -- `sets::less` meets its contract. Assumes nothing.
-use Rattle.sets.specs.Laws.{bit-less}
+use Rattle.sets.proofs.Laws.{bit-less}
 use Rattle.sets.proofs.less.Statement.{statement}
 use Rattle.sets.proofs.less.Tie as tie
 

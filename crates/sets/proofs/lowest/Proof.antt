@@ -2,7 +2,7 @@
 use native.Mathlib.Omega.{arith}
 use mathlib.Core.Path.{refl}
 use lib.Count.{trailing-le}
-use Rattle.sets.specs.Lowest.{lowest-in, lowest-lt, lowest-first}
+use Rattle.sets.proofs.LowestLaws.{lowest-in, lowest-lt, lowest-first}
 use Rattle.sets.proofs.lowest.Statement.{statement}
 use Rattle.sets.proofs.lowest.Tie as tie
 

@@ -2,7 +2,7 @@
 use Prim.Native.Nat.{_-_}
 use native.Mathlib.Omega.{arith}
 use lib.Bits.{and-le-r}
-use Rattle.sets.specs.Lowest.{lowest-rest}
+use Rattle.sets.proofs.LowestLaws.{lowest-rest}
 use Rattle.sets.proofs.rest.Statement.{statement}
 use Rattle.sets.proofs.rest.Tie as tie
 

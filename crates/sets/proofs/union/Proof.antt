@@ -1,5 +1,5 @@
 -- `sets::union` meets its contract. Assumes nothing.
-use Rattle.sets.specs.Laws.{bit-or}
+use Rattle.sets.proofs.Laws.{bit-or}
 use Rattle.sets.proofs.union.Statement.{statement}
 use Rattle.sets.proofs.union.Tie as tie
 

@@ -1,6 +1,6 @@
 -- `trials_figure::bits` is safe: a figure that was given has no NaN, so its bits may be taken. Assumes nothing.
 use borrow.Author.Needs.{needs}
-use Rattle.readings.specs.FigureLaws.{given-numbers}
+use Rattle.readings.proofs.FigureLaws.{given-numbers}
 use Rattle.trials_figure.proofs.bits.Statement.{statement}
 use Rattle.trials_figure.proofs.bits.Tie as tie
 

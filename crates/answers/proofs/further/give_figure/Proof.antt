@@ -1,6 +1,6 @@
 -- `answers::further::give_figure` meets its contract: a figure that was given has no NaN, so its bits may be taken. Assumes nothing.
 use mathlib.Core.Path.{refl}
-use Rattle.readings.specs.FigureLaws.{given-numbers}
+use Rattle.readings.proofs.FigureLaws.{given-numbers}
 use borrow.Author.Needs.{needs}
 use Rattle.answers.proofs.further.give_figure.Statement.{statement}
 use Rattle.answers.proofs.further.give_figure.Tie as tie

@@ -4,7 +4,7 @@ use borrow.Author.Needs.{needs}
 use mathlib.Core.Path.{_≡_, refl, sym, _∙_}
 use Prim.Native.Nat.{_+_, _*_, _^_, _≤_, _<_}
 use native.Mathlib.Omega.{arith}
-use Rattle.sets.specs.Laws.{bit-shl}
+use Rattle.sets.proofs.Laws.{bit-shl}
 use Rattle.plan.specs.Lists.{eventsOf}
 use Rattle.network.specs.Outage.{outageOf}
 use Rattle.network.specs.Code.{outage}

@@ -3,7 +3,8 @@
 use borrow.Author.Needs.{needs}
 use mathlib.Core.Path.{_≡_, refl, sym, ap, ap₂, _∙_}
 use Prim.Native.Nat.{ℕ}
-use Rattle.mass.specs.Refusal.{first, first-skip}
+use Rattle.mass.specs.Refusal.{first}
+use Rattle.mass.proofs.RefusalLaws.{first-skip}
 use Rattle.mass.specs.Split.{massTest}
 use Rattle.mass.proofs.Answer.{mass-fits}
 use Rattle.refusals.proofs.OrderLaws.{stop, skip}

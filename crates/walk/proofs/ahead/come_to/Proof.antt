@@ -1,6 +1,6 @@
 -- `walk::ahead::come_to` meets its contract, by the two laws of its definition. Assumes nothing.
 use mathlib.Core.Path.{sym}
-use Rattle.walk.specs.Steps.{descent-cut, descent-enough}
+use Rattle.walk.proofs.StackLaws.{descent-cut, descent-enough}
 use Rattle.walk.proofs.ahead.come_to.Statement.{statement}
 use Rattle.walk.proofs.ahead.come_to.Tie as tie
 

@@ -6,6 +6,7 @@ use mathlib.Core.Logic.{_⊎_, inl, inr}
 use Prim.Native.Nat.{ℕ, zero, suc, _<_}
 use native.Mathlib.Omega.{arith}
 use native.Mathlib.Decide.{decLt}
+use Rattle.sets.specs.Sets.{anyBelow}
 
 pub and-left : (a b : Bool) → (a && b) ≡ true → a ≡ true
 and-left true b e = refl
@@ -60,11 +61,6 @@ pub same-bool : (a b : Bool) → (a ≡ true → b ≡ true) → (b ≡ true →
 same-bool true b f g = sym (f refl)
 same-bool false true f g = g refl
 same-bool false false f g = refl
-
--- whether p holds of a number below k
-unfoldable pub anyBelow : (ℕ → Bool) → ℕ → Bool
-anyBelow p zero = false
-anyBelow p (suc k) = p k || anyBelow p k
 
 module _ (p : ℕ → Bool) where
   -- law: it does exactly where one such number can be named

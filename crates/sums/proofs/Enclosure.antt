@@ -13,9 +13,12 @@ use Rattle.plan.specs.Plan.{Event}
 use Rattle.walk.specs.Scenario.{Scenario}
 use Rattle.plan.specs.Held.{Probabilities}
 use Rattle.sets.specs.Sets.{digit}
-use Rattle.walk.specs.Ends.{End, dropped, relevant, ends, both, sumEnds, weighed, scenarios, sumEnds-both, scenarios-both, first-ends}
-use Rattle.walk.specs.Member.{among, among-works, among-fails}
-use Rattle.sums.specs.Exact.{exactSum, scale, scale-zero, scale-suc, exactSum-none, exactSum-event, exactSum-times, exactSum-add, exactSum-all}
+use Rattle.walk.specs.Ends.{End, dropped, relevant, ends, both, sumEnds, weighed, scenarios}
+use Rattle.walk.proofs.EndsLaws.{sumEnds-both, scenarios-both, first-ends}
+use Rattle.walk.specs.Member.{among}
+use Rattle.walk.proofs.MemberLaws.{among-works, among-fails}
+use Rattle.sums.specs.Exact.{exactSum, scale}
+use Rattle.sums.proofs.ExactLaws.{scale-zero, scale-suc, exactSum-none, exactSum-event, exactSum-times, exactSum-add, exactSum-all}
 
 -- 1 for the scenarios of a list of ends, 0 for all others; and the other way round
 abbrev pub seen : List End → Scenario → ℕ

@@ -8,7 +8,7 @@ use lib.Dec.{eqb, eqb·suc-zero, eqb·suc-suc}
 use lib.Bits.{bitAnd}
 use lib.Count.{trailingZeros}
 use Rattle.sets.specs.Sets.{bit}
-use Rattle.sets.specs.Laws.{bit-zero, bit-suc, bit-and, bit-below}
+use Rattle.sets.proofs.Laws.{bit-zero, bit-suc, bit-and, bit-below}
 
 -- ---- by the lowest digit
 

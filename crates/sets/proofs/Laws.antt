@@ -9,7 +9,8 @@ use native.Mathlib.Numerals.{one-add}
 use lib.Dec.{eqb, ltb, eqb·zero-suc, eqb·suc-zero, eqb·suc-suc, leb·suc-zero, leb·suc-suc, leb·zero}
 use lib.Pow
 use lib.Pow.{shr-shr, shl-shr, pow-mono, pow-pos}
-use lib.Bits.{bitAnd, bitOr, bitXor, differ, and-step, or-step, xor-step, and-shr, or-shr, xor-shr, or-shifted, or-disjoint, shifted-half, shifted-even}
+use lib.Bits.{bitAnd, bitOr, bitXor, differ, and-step, or-step, xor-step, and-shr, or-shr, xor-shr, or-shifted, or-disjoint, shifted-half}
+use lib.Bits.{shifted-even}
 use borrow.Author.Tests.{eqb-true}
 use Rattle.sets.specs.Sets.{bit}
 

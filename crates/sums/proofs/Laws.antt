@@ -3,14 +3,14 @@
 use mathlib.Core.Path.{_≡_, refl, ap}
 use mathlib.Core.Logic.{_≢_, ⊎-elim}
 use mathlib.Core.Bool.{Bool, true, false}
-use mathlib.Core.List.{[], _∷_, map, List·Memᴰ, List·Memᴰ·head, List·Memᴰ·not-nil, List·Memᴰ·cases-cons}
-use mathlib.Core.List.{List·Memᴰ·append-cases, Memᴰ·of-map, Memᴰ·map, Memᴰ·append-left, Memᴰ·append-right, List·Nodup, pairwise-singleton}
+use mathlib.Core.List.{[], _∷_, map, List·Memᴰ, List·Memᴰ·head, List·Memᴰ·not-nil, List·Memᴰ·cases-cons, List·Memᴰ·append-cases}
+use mathlib.Core.List.{Memᴰ·of-map, Memᴰ·map, Memᴰ·append-left, Memᴰ·append-right, List·Nodup, pairwise-singleton}
 use Prim.Native.Nat.{ℕ, zero, suc, _^_}
 use native.Mathlib.Nat.{pow-succ'}
 use native.Mathlib.Omega.{arith}
 use lib.ListN.{length, length-append, length-map}
 use Rattle.walk.specs.Scenario.{Scenario}
-use Rattle.walk.specs.Member.{distinct-both}
+use Rattle.walk.proofs.MemberLaws.{distinct-both}
 use Rattle.sums.specs.Exact.{allSets}
 
 -- law: there are 2^n sets of n events

@@ -8,16 +8,16 @@ use Prim.Native.Nat.{ℕ}
 use lib.Dec.{ltb}
 use lib.ListN.{length}
 use Rattle.sets.specs.Sets.{bit}
-use Rattle.sets.specs.Bools.{and-left, and-right, and-both, so-unless, clash, not-so, not-of, of-not, same-bool}
+use Rattle.sets.proofs.Bools.{and-left, and-right, and-both, so-unless, clash, not-so, not-of, of-not, same-bool}
 use Rattle.plan.specs.Plan.{Link, Event}
 use Rattle.network.specs.Outage.{Outage, unionOf, outageOf}
 use Rattle.network.specs.Topology.{Network, networkOf, nodeWorks, linkWorks, ends, joins, WorkingLink}
 use Rattle.plan.specs.Held.{linkAt}
 use Rattle.topology.specs.Paths.{here, WorkingPath, Reaches, disconnected}
-use Rattle.topology.specs.Chains.{chain-back, chain-keeps, chain-map}
-use Rattle.network.specs.Works.{link-nodes, link-back}
-use Rattle.topology.specs.Connection.{connected-is}
-use Rattle.network.specs.Failing.{union-from, union-start, union-event}
+use Rattle.topology.proofs.Chains.{chain-back, chain-keeps, chain-map}
+use Rattle.network.proofs.Works.{link-nodes, link-back}
+use Rattle.topology.proofs.Connection.{connected-is}
+use Rattle.network.proofs.FailingLaws.{union-from, union-start, union-event}
 
 module _ (net : Network) where
   -- a path of working links can be taken back

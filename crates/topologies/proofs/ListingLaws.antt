@@ -8,12 +8,14 @@ use native.Mathlib.Omega.{arith}
 use borrow.Author.Tests.{eqb-true, eq-eqb, ltb-false}
 use lib.Dec.{eqb, ltb}
 use lib.ListN.{length}
-use Rattle.sets.specs.Bools.{and-left, and-right, and-both, clash}
+use Rattle.sets.proofs.Bools.{and-left, and-right, and-both, clash}
 use Rattle.walk.specs.Scenario.{Scenario}
 use Rattle.walk.specs.Ends.{End, dropped, relevant, sumEnds}
-use Rattle.entries.specs.Entries.{Entry, entry, massesIn, same, added, Listing, listing, fitted}
+use Rattle.entries.specs.Entries.{Entry, entry, massesIn, same, added, Listing, listing}
 use Rattle.topologies.specs.Listing.{placed, placedAll}
 use Rattle.entries.specs.declared.Topology.{Topology}
+use Rattle.topologies.specs.ListBounds.{sumEntries}
+use Rattle.topologies.specs.Different.{Absent, Different}
 
 -- law: topologies that pass the test are equal
 pub same-equal : (a t : Topology) → same a t ≡ true → a ≡ t
@@ -29,16 +31,6 @@ same-equal a t e =
 pub same-itself : (t : Topology) → same t t ≡ true
 unfolding same
 same-itself t = and-both _ _ (eq-eqb (t .nodes) (t .nodes) refl) (and-both _ _ (eq-eqb (t .low) (t .low) refl) (eq-eqb (t .high) (t .high) refl))
-
--- no entry has the topology t
-abbrev pub Absent : Topology → List Entry → Type 0
-Absent t [] = Unit {0}
-Absent t (e ∷ entries) = (t ≡ e .topology → ⊥) × Absent t entries
-
--- no two entries have the same topology
-abbrev pub Different : List Entry → Type 0
-Different [] = Unit {0}
-Different (e ∷ entries) = Absent (e .topology) entries × Different entries
 
 absent-added : (x t : Topology) (m : ℕ) (entries : List Entry) → (x ≡ t → ⊥) → Absent x entries → Absent x (added t m entries)
 absent-added x t m [] n a = (n, tt)
@@ -57,11 +49,6 @@ different-added t m (e ∷ entries) d = go (same (e .topology) t) refl (differen
         → Different (cond b (entry (e .topology) (e .mass + m) ∷ entries) (e ∷ added t m entries))
     go true is later = d
     go false is later = (absent-added (e .topology) t m entries (λ eq. clash (ap (λ (x : Topology). same x t) eq ∙ same-itself t) is) (d .0), later)
-
--- the sum over the entries of mass × weight of the topology
-abbrev pub sumEntries : (Topology → ℕ) → List Entry → ℕ
-sumEntries weight [] = 0
-sumEntries weight (e ∷ entries) = e .mass * weight (e .topology) + sumEntries weight entries
 
 -- law: the sum of the masses is that of weight 1
 pub masses-are : (entries : List Entry) → massesIn entries ≡ sumEntries (λ t. 1) entries

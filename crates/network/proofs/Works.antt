@@ -1,14 +1,14 @@
 -- Laws of working nodes and links: what a link that works and joins two nodes says, and that links join both ways.
 -- Assumes nothing.
 use mathlib.Core.Path.{_≡_, sym, ap, ap₂, _∙_}
-use mathlib.Core.Bool.{Bool, true, not, _&&_, _||_, and-comm, or-comm}
+use mathlib.Core.Bool.{Bool, true, not, _&&_, and-comm, or-comm, _||_}
 use mathlib.Core.Logic.{⊎-elim}
 use Prim.Native.Nat.{ℕ, _<_}
 use lib.Dec.{eqb, ltb}
 use lib.ListN.{length}
 use borrow.Author.Tests.{ltb-true, eqb-true}
 use Rattle.sets.specs.Sets.{bit}
-use Rattle.sets.specs.Bools.{and-left, and-right, or-either, any-found, any-here, same-bool}
+use Rattle.sets.proofs.Bools.{and-left, and-right, or-either, any-found, any-here, same-bool}
 use Rattle.plan.specs.Plan.{Link}
 use Rattle.network.specs.Topology.{Network, nodeWorks, linkWorks, ends, joins, adjacent, WorkingLink}
 use Rattle.plan.specs.Held.{linkAt}

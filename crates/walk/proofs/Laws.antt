@@ -3,9 +3,9 @@
 use mathlib.Core.Path.{_≡_, refl, ap, sym, subst₂}
 use mathlib.Core.Bool.{Bool, true, false}
 use mathlib.Core.Logic.{_≢_, _↔_, ⊎-elim}
-use mathlib.Core.List.{List·Nodup, Pairwise·nil, pairwise-singleton}
-use mathlib.Core.List.{List, [], _∷_, map, List·Memᴰ, List·Memᴰ·head, List·Memᴰ·tail, List·Memᴰ·not-nil, List·Memᴰ·cases-cons}
-use mathlib.Core.List.{List·Memᴰ·append-cases, Memᴰ·of-map, Memᴰ·map, Memᴰ·append-left, Memᴰ·append-right}
+use mathlib.Core.List.{List·Nodup, Pairwise·nil, pairwise-singleton, List, [], _∷_, map, List·Memᴰ, List·Memᴰ·head, List·Memᴰ·tail}
+use mathlib.Core.List.{List·Memᴰ·not-nil, List·Memᴰ·cases-cons, List·Memᴰ·append-cases, Memᴰ·of-map, Memᴰ·map, Memᴰ·append-left}
+use mathlib.Core.List.{Memᴰ·append-right}
 use Prim.Native.Nat.{ℕ, suc, _*_, _≤_}
 use native.Mathlib.Omega.{arith}
 use lib.Dec.{leb}
@@ -13,15 +13,16 @@ use lib.ListN.{length, take}
 use lib.Seq.{take-all, take-length}
 use borrow.Author.Tests.{leb-true}
 use Rattle.mass.specs.Split.{whole, failing, working}
-use Rattle.mass.specs.Laws.{parts-le}
+use Rattle.mass.proofs.Laws.{parts-le}
 use Rattle.plan.specs.Plan.{Plan, Event}
-use Rattle.walk.specs.Scenario.{Scenario, part, finalMass, finalMass-le}
+use Rattle.walk.specs.Scenario.{Scenario, part, finalMass}
+use Rattle.walk.proofs.ScenarioLaws.{finalMass-le}
 use Rattle.plan.specs.Held.{Probabilities}
 use Rattle.sets.specs.Sets.{digit}
-use Rattle.walk.specs.Ends.{End, dropped, relevant, after, ends, endsAfter, sumEnds, scenarios, ends-leaf, ends-node}
-use Rattle.walk.specs.Ends.{both, sumEnds-both, scenarios-both, first-ends}
-use Rattle.walk.specs.Member.{among-member, member-among, distinct-both}
-use Rattle.walk.specs.Walk.{planEnds, firstEnds, examined, isExamined, complete, massExamined, count, count-sum}
+use Rattle.walk.specs.Ends.{End, dropped, relevant, after, ends, endsAfter, sumEnds, scenarios, both}
+use Rattle.walk.proofs.EndsLaws.{ends-leaf, ends-node, sumEnds-both, scenarios-both, first-ends, count-sum}
+use Rattle.walk.proofs.MemberLaws.{among-member, member-among, distinct-both}
+use Rattle.walk.specs.Walk.{planEnds, firstEnds, examined, isExamined, complete, massExamined, count}
 
 -- a scenario that the walk from the mass m finds relevant: one entry for each event, and a final mass of at least t
 pub record Relevant (t m : ℕ) (events : List Event) (s : Scenario) (x : ℕ) : Type 0 where

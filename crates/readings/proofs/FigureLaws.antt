@@ -8,7 +8,8 @@ use native.Mathlib.Nat.{zero-lt-suc, mul-one, mul-assoc, mul-pos, lt-of-lt-of-le
 use native.Mathlib.Omega.{arith}
 use lib.Dec.{T, lit≤, ltb, eqb, ltb→lt, eqb→eq}
 use lib.Pow.{pow-add, pow-mono, shl-lt}
-use lib.Ieee.{Float, nan, inf, fin, Format, binary64, prec, emax, low, unlike, up, down, odd, units, round, add, sum, mul, div, ofInt, isNan, le, toBits}
+use lib.Ieee.{Float, nan, inf, fin, Format, binary64, prec, emax, low, unlike, up, down, odd, units, round, add, sum, mul, div, ofInt}
+use lib.Ieee.{isNan, le}
 use lib.Ieee.Fits.{down-pos, round-is}
 use lib.Ieee.Exact.{HasValue, round-exact}
 use lib.Ieee.Order.{round-mono}
@@ -190,13 +191,3 @@ shares-numbers lower examined l e some = (
 -- law: so the bits of a figure that was given may be taken
 pub given-numbers : (r : Figured) (s : Shares) → r ≡ figured.Given s → Numbers (floatsIn r) → T (not (isNan (s .disconnected))) × T (not (isNan (s .examined)))
 given-numbers r s e n = let m = subst (λ (x : Figured). Numbers (floatsIn x)) e n in (m .0, m .1 .0)
-
--- examples: a tenth of one whole, examined whole; and a lower bound of 0 of a single unit examined
-example-tenth : (toBits binary64 (sharesOf 100000000000000000 whole .disconnected) ≡ 0x3fb999999999999a)
-    × (toBits binary64 (sharesOf 100000000000000000 whole .examined) ≡ 0x3ff0000000000000)
-unfolding floatOf add mul div ofInt toBits
-example-tenth = (refl, refl)
-
-example-least : (toBits binary64 (sharesOf 0 1 .disconnected) ≡ 0) × (toBits binary64 (sharesOf 0 1 .examined) ≡ 0x3c32725dd1d243ac)
-unfolding floatOf add mul div ofInt toBits
-example-least = (refl, refl)

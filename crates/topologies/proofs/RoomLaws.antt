@@ -1,6 +1,6 @@
 -- When 15 is met: exactly where the examined scenarios have more different topologies than the lent list has entries.
 -- Assumes nothing.
-use mathlib.Core.Path.{_≡_, refl, ap, _∙_}
+use mathlib.Core.Path.{_≡_, refl, ap}
 use mathlib.Core.Bool.{Bool, true, false, cond}
 use mathlib.Core.List.{List, [], _∷_}
 use mathlib.Core.Logic.{_↔_}
@@ -16,14 +16,9 @@ use Rattle.walk.specs.Ends.{End, dropped, relevant}
 use Rattle.walk.specs.Walk.{firstEnds}
 use Rattle.entries.specs.Entries.{Entry, entry, same, added, Listing, listing}
 use Rattle.topologies.specs.Listing.{placedAll, topologyAfter, listingOf}
-use Rattle.topologies.specs.ListingLaws.{full-stays}
+use Rattle.topologies.proofs.ListingLaws.{full-stays}
 use Rattle.entries.specs.declared.Topology.{Topology}
-
--- the entries of the ends in turn, with room for any number of them
-abbrev pub addedAll : (Scenario → Topology) → List Entry → List End → List Entry
-addedAll topology entries [] = entries
-addedAll topology entries (dropped ∷ list) = addedAll topology entries list
-addedAll topology entries (relevant s m ∷ list) = addedAll topology (added (topology s) m entries) list
+use Rattle.topologies.specs.Different.{addedAll, differentOf}
 
 added-grows : (t : Topology) (m : ℕ) (entries : List Entry) → length entries ≤ length (added t m entries)
 added-grows t m [] = omega arith
@@ -62,10 +57,6 @@ module _ (topology : Scenario → Topology) where
             → (b : Bool) → ltb room (length new) ≡ b → placedAll room topology (cond b (listing entries 15) (listing new 0)) list .number ≡ 15
         go new ih true e = ap (λ (l : Listing). l .number) (full-stays room topology entries 14 list)
         go new ih false e = ih (ltb-false room (length new) e)
-
--- the different topologies of the examined scenarios
-abbrev pub differentOf : Plan → List Entry
-differentOf p = addedAll (topologyAfter p) [] (firstEnds p)
 
 module _ (room : ℕ) (p : Plan) where
   pub never-early : length (differentOf p) ≤ room → listingOf room p ≡ listing (differentOf p) 0

@@ -9,8 +9,9 @@ use Rattle.plan.specs.Plan.{Plan}
 use Rattle.plan.specs.Lists.{eventsOf}
 use Rattle.plan.specs.Records.{planRefusal}
 use Rattle.plan.specs.declared.Header.{Header}
-use Rattle.walk.specs.Scenario.{falling-probable}
-use Rattle.plan.specs.Held.{Probabilities, Held, plan-falling}
+use Rattle.walk.proofs.ScenarioLaws.{falling-probable}
+use Rattle.plan.specs.Held.{Probabilities, Held}
+use Rattle.plan.proofs.HeldLaws.{plan-falling}
 
 -- law: of a valid plan
 pub plan-probable : (p : Plan) → planRefusal p ≡ 0 → Probabilities (p .events)

@@ -2,15 +2,15 @@
 -- Assumes nothing.
 use mathlib.Core.Path.{_≡_, refl, sym, ap, _∙_}
 use mathlib.Core.Bool.{Bool, true, false, _||_, or-comm}
-use Prim.Native.Nat.{ℕ, zero, suc, _+_, _*_, _^_, _<_, _≤_}
+use Prim.Native.Nat.{ℕ, zero, suc, _+_, _*_, _^_, _<_}
 use native.Mathlib.Decide.{decLt}
 use native.Mathlib.Nat.{pow-succ'}
 use native.Mathlib.Omega.{arith}
 use borrow.Author.Tests.{ne-eqb, eq-eqb}
 use lib.Dec.{eqb}
 use Rattle.sets.specs.Sets.{bit, digit}
-use Rattle.sets.specs.Laws.{bit-add, bit-past, bit-ext}
-use Rattle.sets.specs.Bools.{or-right}
+use Rattle.sets.proofs.Laws.{bit-add, bit-past, bit-ext}
+use Rattle.sets.proofs.Bools.{or-right}
 use Rattle.topologies.specs.Listing.{setOf}
 
 module _ (test : ℕ → Bool) where

@@ -8,11 +8,11 @@ use native.Mathlib.Omega.{arith}
 use native.Mathlib.Decide.{decLt}
 use lib.Dec.{eqb}
 use borrow.Author.Tests.{eqb-true, eq-eqb, not-false}
-use Rattle.sets.specs.Bools.{and-left, and-right, and-both, or-either, or-left, or-right, which, clash}
+use Rattle.sets.proofs.Bools.{and-left, and-right, and-both, or-either, or-left, or-right, which, clash}
 use Rattle.network.specs.Topology.{Network, nodeWorks, adjacent}
 use Rattle.topology.specs.Paths.{here, more, WorkingPath, Disconnected, via, disconnected}
-use Rattle.topology.specs.Chains.{chain-append}
-use Rattle.network.specs.Works.{node-below, link-nodes, adjacent-link, link-adjacent}
+use Rattle.topology.proofs.Chains.{chain-append}
+use Rattle.network.proofs.Works.{node-below, link-nodes, adjacent-link, link-adjacent}
 
 module _ (net : Network) where
   -- ---- `via` finds a path only where there is one

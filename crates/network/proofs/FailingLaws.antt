@@ -9,8 +9,8 @@ use native.Mathlib.Omega.{arith}
 use lib.Bits.{bitOr}
 use lib.ListN.{length}
 use Rattle.sets.specs.Sets.{bit}
-use Rattle.sets.specs.Laws.{bit-or, bit-suc}
-use Rattle.sets.specs.Bools.{or-either, or-left, or-right}
+use Rattle.sets.proofs.Laws.{bit-or, bit-suc}
+use Rattle.sets.proofs.Bools.{or-either, or-left, or-right}
 use Rattle.plan.specs.Plan.{Event}
 use Rattle.network.specs.Outage.{eventAt, unionOf}
 

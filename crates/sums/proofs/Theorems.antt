@@ -1,0 +1,18 @@
+-- Demand 3, for every plan that is not refused: document 01, section "Bounds of a pair".
+-- Assumes nothing.
+use mathlib.Core.Path.{_≡_}
+use mathlib.Core.Bool.{Bool}
+use lib.ListN.{length}
+use Rattle.plan.specs.Plan.{Plan}
+use Rattle.plan.specs.Records.{planRefusal}
+use Rattle.walk.specs.Scenario.{Scenario}
+use Rattle.walk.specs.Walk.{count}
+use Rattle.walk.proofs.Valid.{plan-probable}
+use Rattle.sums.specs.Exact.{exactCut, exactMissed}
+use Rattle.sums.specs.Bounds.{lower, upper, Demand3}
+use Rattle.sums.proofs.BoundsLaws.{demand3}
+
+-- DEMAND 3, for every plan that is not refused
+pub demand3-valid : (p : Plan) → planRefusal p ≡ 0 → (cut : Scenario → Bool)
+    → Demand3 (length (p .events)) (lower p cut) (upper p cut) (exactCut p cut) (exactMissed p) (count p)
+demand3-valid p valid cut = demand3 p (plan-probable p valid) cut
