@@ -27,8 +27,8 @@ use Rattle.readings.specs.declared.Witnessed.{Witnessed}
 use Rattle.readings.specs.declared.Witnessed.the-variants as witnessed
 use Rattle.readings.specs.declared.Timed.{Timed}
 use Rattle.readings.specs.declared.Timed.the-variants as timed
-use Rattle.topologies.specs.declared.Listed.{Listed}
-use Rattle.topologies.specs.declared.Listed.the-variants as listed
+use Rattle.topology_list.specs.declared.Listed.{Listed}
+use Rattle.topology_list.specs.declared.Listed.the-variants as listed
 use Rattle.answers.specs.Laid.{laid}
 
 -- the header of five numbers
@@ -38,9 +38,9 @@ headerWith nodes links events threshold limit =
 
 -- ---- a plan that is read: its five numbers
 
-abbrev pub readNumber : Reading → ℕ
-readNumber (reading.Refused number) = number
-readNumber (reading.Accepted header) = 0
+abbrev pub readingNumber : Reading → ℕ
+readingNumber (reading.Refused number) = number
+readingNumber (reading.Accepted header) = 0
 
 abbrev pub headerValues : Reading → List ℕ
 headerValues answer =
@@ -115,7 +115,7 @@ abbrev pub failingValues : Witnessed → List ℕ
 failingValues answer = failingIn answer .low ∷ failingIn answer .high ∷ []
 
 -- what a witness hands out with a number: where it is 0, the two words of a set that shows the pair disconnected; which set is left free
-pub record Handed (p : Plan) (v w number : ℕ) (entry exit : List ℕ) : Type 0 where
+pub record WitnessHanded (p : Plan) (v w number : ℕ) (entry exit : List ℕ) : Type 0 where
   pub set : Failing
   pub words : exit ≡ laid (failingValues (witnessAnswer number set)) entry
   pub shown : number ≡ 0 → Shows p v w (examined p) set

@@ -8,12 +8,12 @@ use plan::Reading;
 use plan::Writing;
 ghost use mathlib.Core.Path.{_≡_};
 ghost use Rattle.answers.specs.Laid.{laid};
-ghost use Rattle.answers.specs.Answers.{readNumber, headerValues, writtenNumber, sizeValues};
-ghost use Rattle.answers.specs.Answers.{ranNumber, totalsValues, pairedNumber, boundsValues};
+ghost use Rattle.answers.specs.Answers.{readingNumber, headerValues, writtenNumber, sizeValues, ranNumber, totalsValues};
+ghost use Rattle.answers.specs.Answers.{pairedNumber, boundsValues};
 
 // The five numbers of the plan that was read.
 pub fn give_header(answer: Reading, numbers: &mut [u64]) -> u32
-    ensures number { λ r. ⌜ r ≡ readNumber answer ⌝ }
+    ensures number { λ r. ⌜ r ≡ readingNumber answer ⌝ }
     ensures numbers { λ r. ⌜ now (numbers .exit) ≡ laid (headerValues answer) (now (numbers .entry)) ⌝ }
 {
     let h = files::header_in(answer);

@@ -6,7 +6,7 @@ use readings::Figured;
 use readings::Shares;
 use readings::Timed;
 use readings::Witnessed;
-use topologies::Listed;
+use topology_list::Listed;
 ghost use mathlib.Core.Bool.{not};
 ghost use mathlib.Core.List.{[], _∷_};
 ghost use mathlib.Core.Path.{_≡_};
@@ -14,8 +14,8 @@ ghost use lib.Dec.{T};
 ghost use lib.Ieee.{binary64, isNan, toBits};
 ghost use Rattle.readings.specs.Figure.{floatsIn, Numbers};
 ghost use Rattle.answers.specs.Laid.{laid};
-ghost use Rattle.answers.specs.Answers.{listedNumber, entriesValues, figuredNumber, figureValues};
-ghost use Rattle.answers.specs.Answers.{timedNumber, secondsValues, witnessedNumber, failingValues};
+ghost use Rattle.answers.specs.Answers.{listedNumber, entriesValues, figuredNumber, figureValues, timedNumber, secondsValues};
+ghost use Rattle.answers.specs.Answers.{witnessedNumber, failingValues};
 
 // How many entries the topology list has.
 pub fn give_entries(answer: Listed, result: &mut [u64]) -> u32

@@ -12,19 +12,20 @@ use lib.Seq.{sets, sets-eq}
 use Rattle.mass.proofs.RefusalLaws.{refuse-none, first-none}
 use Rattle.mass.specs.Split.{whole}
 use Rattle.plan.specs.Plan.{Plan}
-use Rattle.plan.specs.Records.{planRefusal, listsRefusal}
+use Rattle.plan.specs.LentLists.{planRefusal, listsRefusal}
 use Rattle.plan.specs.declared.Header.{Header}
 use Rattle.refusals.proofs.TestLaws.{or-none}
 use Rattle.walk.specs.Walk.{massExamined, count}
-use Rattle.walk.proofs.Laws.{massExamined-le}
+use Rattle.walk.proofs.Theorems.{massExamined-le}
 use Rattle.walk.proofs.Valid.{plan-probable}
 use Rattle.sums.proofs.BoundsLaws.{upper-lower}
 use Rattle.sums.proofs.Theorems.{demand3-valid}
-use Rattle.pairs.specs.Giving.{Giving}
+use Rattle.pairs.specs.BoundsFit.{BoundsFit}
 use Rattle.pairs.specs.Pairs.{table, start, place, pairCount, pairTest}
 use Rattle.pairs.proofs.PairLaws.{table-is, table-at, table-long, map-table, table-same, place-is, place-lt, pairs-most}
 use Rattle.bounds.specs.Bounds.{cuts, lowerOf, upperOf, lowerList, upperList, Encloses, EnclosesAll}
-use Rattle.bounds.specs.Calls.{ranAnswer, pairRefusal, pairAnswer, boundsOf, Summed}
+use Rattle.bounds.specs.Calls.{ranAnswer, pairRefusal, pairAnswer, boundsOf}
+use Rattle.bounds.specs.Tallied.{Summed}
 use Rattle.bounds.specs.declared.Totals.{Totals}
 use Rattle.bounds.specs.declared.Ran.the-variants as ran
 use Rattle.bounds.specs.declared.PairBounds.{PairBounds}
@@ -78,7 +79,7 @@ module _ (p : Plan) (valid : planRefusal p ≡ 0) where
 
   -- sums of the whole walk may be given out
   pub giving : (n mass : ℕ) (sums lower upper : List ℕ) → Summed p n sums → mass ≡ massExamined p → n ≤ 64
-      → pairCount n ≤ length lower → pairCount n ≤ length upper → Giving n mass sums lower upper
+      → pairCount n ≤ length lower → pairCount n ≤ length upper → BoundsFit n mass sums lower upper
   giving n mass sums lower upper s e few l u =
       record {
         few = few;

@@ -14,7 +14,7 @@ use lib.ListN.{getD}
 use Rattle.sets.specs.Sets.{bit, joined, digit}
 use Rattle.sets.proofs.Bools.{and-left, which, clash}
 use Rattle.plan.specs.Lists.{linksOf, eventsOf}
-use Rattle.plan.specs.Records.{planOfLists}
+use Rattle.plan.specs.LentLists.{planOfLists}
 use Rattle.plan.specs.declared.Header.{Header}
 use Rattle.network.specs.Outage.{Outage, outageOf}
 use Rattle.network.specs.Topology.{Network, networkOf, nodeWorks, adjacent}
@@ -24,15 +24,15 @@ use Rattle.topology.proofs.Connection.{connected-is}
 use Rattle.topology.proofs.Laws.{path-leads}
 use Rattle.network.specs.Code.{outage, networkIn}
 use Rattle.network.specs.declared.Failed.{Failed}
-use Rattle.topology.proofs.Shown.{nodes-shown, joining, step-link, link-step}
+use Rattle.topology.proofs.RowLinks.{nodes-shown, joining, step-link, link-step}
 use Rattle.walk.specs.Scenario.{scenarioOf}
 use Rattle.walk.proofs.ScenarioLaws.{number-scenario}
 use Rattle.walk.specs.declared.Step.{Step}
 use Rattle.pairs.specs.Pairs.{place, pairCount}
 use Rattle.pairs.proofs.PairLaws.{unplace}
 use Rattle.bounds.specs.Bounds.{intact, cuts}
-use Rattle.pairs.specs.Adding.{Joined, AddingCut, AddedCut}
-use Rattle.bounds.specs.Tallied.{Room, Examined}
+use Rattle.pairs.specs.Adding.{JoinedByRows, AddingCut, AddedCut}
+use Rattle.bounds.specs.Tallied.{Room, MassAdded}
 use Rattle.plan.specs.Held.{Held}
 use Rattle.pairs.proofs.Row.{at-most}
 
@@ -56,7 +56,7 @@ module _ (h : Header) (links words lower : List ℕ) (failed : Failed) (nodes : 
       }
 
   module _ (step : Step) (lower′ : List ℕ) (added : AddedCut (h .nodes) nodes (step .mass) rows lower lower′) where
-    connected : (v w : ℕ) → Joined nodes rows v w → disconnected net v w ≡ false
+    connected : (v w : ℕ) → JoinedByRows nodes rows v w → disconnected net v w ≡ false
     connected v w j =
         let here = sym (works v) ∙ j .0 in
         let path = chain-map (step-link net nodes rows works row) (j .1) in
@@ -90,7 +90,7 @@ module _ (h : Header) (links words lower : List ℕ) (failed : Failed) (nodes : 
           ap (λ (o : Outage). disconnected (networkOf (h .nodes) (linksOf (h .links) links) o) v w)
           (gathered ∙ ap (outageOf intact (eventsOf (h .events) words)) (sym (number-scenario (h .events) (joined (step .low) (step .high)) decided)))
 
-      pub examined : Examined h links words step lower lower′
+      pub examined : MassAdded h links words step lower lower′
       examined =
           record {
             sized = added .sized;

@@ -12,17 +12,18 @@ use Rattle.refusals.specs.Tests.{roomTest}
 use Rattle.refusals.proofs.OrderLaws.{stop, skip, last}
 use Rattle.refusals.proofs.TestLaws.{room-none}
 use Rattle.plan.specs.Plan.{Plan}
-use Rattle.plan.specs.Records.{planOfLists}
+use Rattle.plan.specs.LentLists.{planOfLists}
 use Rattle.plan.specs.Calls.{filled}
 use Rattle.plan.specs.declared.Header.{Header}
 use Rattle.lent.specs.Taken.{Taken, listsNumber}
 use Rattle.walk.specs.Walk.{massExamined, count}
-use Rattle.pairs.specs.Giving.{Giving}
+use Rattle.pairs.specs.BoundsFit.{BoundsFit}
 use Rattle.pairs.specs.Pairs.{pairCount, pairTest, place}
 use Rattle.pairs.proofs.PairLaws.{pairs-most}
 use Rattle.bounds.specs.Bounds.{lowerList, upperList, Encloses, EnclosesAll}
 use Rattle.bounds.specs.Calls.{runRefusal, runNumber, ranAnswer, totalsOf, totalsIn, pairRefusal, pairNumber, pairAnswer, boundsOf}
-use Rattle.bounds.specs.Calls.{boundsIn, Summed}
+use Rattle.bounds.specs.Calls.{boundsIn}
+use Rattle.bounds.specs.Tallied.{Summed}
 use Rattle.bounds.specs.declared.Totals.{Totals}
 use Rattle.bounds.specs.declared.Ran.{Ran}
 use Rattle.bounds.specs.declared.Ran.the-variants as ran
@@ -49,11 +50,11 @@ module _ (h : Header) (links events bytes words : List ℕ) (t : Taken h links e
   summed = subst (λ (q : Plan). Summed q (h .nodes) sums) (t .denoted) s
 
   pub may-give : (lower upper : List ℕ) → pairCount (h .nodes) ≤ length lower → pairCount (h .nodes) ≤ length upper
-      → Giving (h .nodes) (totals .mass) sums lower upper
+      → BoundsFit (h .nodes) (totals .mass) sums lower upper
   may-give lower upper l u =
       giving (planOfLists h links events) (t .valid) (h .nodes) (totals .mass) sums lower upper summed mass-is (t .held .links-held .nodes-fit) l u
 
-  pub may-give-own : Giving (h .nodes) (totals .mass) sums sums sums
+  pub may-give-own : BoundsFit (h .nodes) (totals .mass) sums sums sums
   may-give-own =
       let most : pairCount (h .nodes) ≤ length sums = rw (s .sized) (pairs-most (h .nodes) (t .held .links-held .nodes-fit)) in
       may-give sums sums most most

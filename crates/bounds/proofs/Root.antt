@@ -10,7 +10,7 @@ use Rattle.mass.specs.Split.{whole}
 use Rattle.sets.specs.Sets.{digit}
 use Rattle.plan.specs.Plan.{Plan}
 use Rattle.plan.specs.Lists.{eventsOf}
-use Rattle.plan.specs.Records.{planOfLists}
+use Rattle.plan.specs.LentLists.{planOfLists}
 use Rattle.plan.specs.Held.{Held}
 use Rattle.plan.specs.declared.Header.{Header}
 use Rattle.walk.specs.Ends.{sumEnds, weighed}
@@ -22,8 +22,8 @@ use Rattle.walk.proofs.Valid.{held-probable}
 use Rattle.walk.proofs.Resume.{begun-stack, begun-whole, root-entry, complete-at}
 use Rattle.pairs.specs.Pairs.{place}
 use Rattle.bounds.specs.Bounds.{cuts}
-use Rattle.bounds.specs.Tallied.{coming, Ready, Tallied}
-use Rattle.bounds.specs.Calls.{totalsOf, Summed, Cleared}
+use Rattle.bounds.specs.Tallied.{coming, Ready, Tallied, Summed, Cleared}
+use Rattle.bounds.specs.Calls.{totalsOf}
 use Rattle.bounds.specs.declared.Tally.{Tally}
 
 module _ (h : Header) (links words : List ℕ) (at : ℕ) (stack lower : List ℕ) (b : Begun 0 whole 0 0 at stack) (clear : Cleared lower) where

@@ -8,7 +8,7 @@ use native.Mathlib.Omega.{arith}
 use lib.ListN.{take}
 use Rattle.mass.specs.Split.{whole}
 use Rattle.sets.specs.Sets.{joined, digit}
-use Rattle.plan.specs.Records.{planOfLists}
+use Rattle.plan.specs.LentLists.{planOfLists}
 use Rattle.plan.specs.declared.Header.{Header}
 use Rattle.walk.specs.Scenario.{Scenario, scenarioOf}
 use Rattle.walk.specs.Ends.{sumEnds}
@@ -16,7 +16,7 @@ use Rattle.walk.specs.Steps.{Handed}
 use Rattle.walk.specs.declared.Step.{Step}
 use Rattle.walk.proofs.Resume.{left-less, drop-found, drop-none, sum-found, sum-none}
 use Rattle.bounds.specs.Bounds.{cuts}
-use Rattle.bounds.specs.Tallied.{Room, Examined, coming, Ready, Tallied}
+use Rattle.bounds.specs.Tallied.{Room, MassAdded, coming, Ready, Tallied}
 use Rattle.bounds.specs.declared.Tally.{Tally}
 
 -- in the loop: what it promises from here on gives what it promises from the start
@@ -67,7 +67,7 @@ module _ (h : Header) (links words stack lower : List ℕ) (here : Tally) (left 
     abbrev next : Tally
     next = record { at = step .at; number = here .number + 1; mass = here .mass + step .mass }
 
-    module _ (lower′ : List ℕ) (x : Examined h links words step lower lower′) where
+    module _ (lower′ : List ℕ) (x : MassAdded h links words step lower lower′) where
       ready-next : Ready h links words stack′ lower′ next (step .left)
       ready-next =
           record {

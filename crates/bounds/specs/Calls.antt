@@ -1,17 +1,16 @@
 -- What the calls of the crate `bounds` answer, for every input.
 -- For each case of an answer, `ranAnswer` and `pairAnswer` say which number and values it stands for.
 -- Assumes nothing.
-use mathlib.Core.Path.{_≡_}
 use mathlib.Core.List.{List, [], _∷_}
-use Prim.Native.Nat.{ℕ, zero, suc, _/_, _<_, _≤_}
-use lib.ListN.{length, getD}
+use Prim.Native.Nat.{ℕ, zero, suc, _/_}
+use lib.ListN.{length}
 use Rattle.mass.specs.Refusal.{first}
 use Rattle.plan.specs.Plan.{Plan}
 use Rattle.refusals.specs.Tests.{roomTest}
-use Rattle.plan.specs.Records.{listsRefusal, planOfLists}
+use Rattle.plan.specs.LentLists.{listsRefusal}
 use Rattle.plan.specs.declared.Header.{Header}
 use Rattle.walk.specs.Walk.{count, complete, massExamined}
-use Rattle.pairs.specs.Pairs.{place, pairCount, pairTest}
+use Rattle.pairs.specs.Pairs.{pairCount, pairTest}
 use Rattle.bounds.specs.Bounds.{lowerOf, upperOf}
 use Rattle.bounds.specs.declared.Totals.{Totals}
 use Rattle.bounds.specs.declared.Ran.{Ran}
@@ -68,14 +67,3 @@ pairAnswer (suc number) bounds = paired.Refused (suc number)
 abbrev pub boundsIn : Paired → PairBounds
 boundsIn (paired.Refused number) = record { lower = 0; upper = 0 }
 boundsIn (paired.Done bounds) = bounds
-
--- the entries of all pairs hold the lower bounds of a plan, and no entry is above the mass examined
-pub record Summed (p : Plan) (n : ℕ) (lower : List ℕ) : Type 0 where
-  pub sized : length lower ≡ 2016
-  pub below : (i : ℕ) → getD lower i 0 ≤ massExamined p
-  pub each : (v w : ℕ) → v < w → w < n → getD lower (place n v w) 0 ≡ lowerOf p v w
-
--- 2016 zeros
-pub record Cleared (lower : List ℕ) : Type 0 where
-  pub sized : length lower ≡ 2016
-  pub zeros : (i : ℕ) → getD lower i 0 ≡ 0

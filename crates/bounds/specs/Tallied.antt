@@ -7,15 +7,17 @@ use lib.ListN.{length, getD, take, drop}
 use Rattle.mass.specs.Split.{whole}
 use Rattle.sets.specs.Sets.{joined, digit}
 use Rattle.plan.specs.declared.Header.{Header}
-use Rattle.plan.specs.Records.{planOfLists}
+use Rattle.plan.specs.LentLists.{planOfLists}
 use Rattle.plan.specs.Held.{Held}
 use Rattle.walk.specs.Scenario.{scenarioOf}
 use Rattle.walk.specs.Ends.{End, sumEnds, weighed}
 use Rattle.walk.specs.Stack.{Stack, toCome}
 use Rattle.walk.specs.declared.Step.{Step}
 use Rattle.pairs.specs.Pairs.{place}
-use Rattle.bounds.specs.Bounds.{cuts}
+use Rattle.bounds.specs.Bounds.{cuts, lowerOf}
 use Rattle.bounds.specs.declared.Tally.{Tally}
+use Rattle.plan.specs.Plan.{Plan}
+use Rattle.walk.specs.Walk.{massExamined}
 
 -- the ends still to come of a walk over lent lists
 abbrev pub coming : Header → List ℕ → ℕ → List ℕ → List End
@@ -27,7 +29,7 @@ pub record Room (mass : ℕ) (lower : List ℕ) : Type 0 where
   pub fits : (i : ℕ) → getD lower i 0 + mass ≤ whole
 
 -- the mass of the scenario that a step of the walk handed out is added to the entries of the pairs that its topology disconnects
-pub record Examined (h : Header) (links words : List ℕ) (step : Step) (lower lower′ : List ℕ) : Type 0 where
+pub record MassAdded (h : Header) (links words : List ℕ) (step : Step) (lower lower′ : List ℕ) : Type 0 where
   pub sized : length lower′ ≡ 2016
   pub most : (i : ℕ) → getD lower′ i 0 ≤ getD lower i 0 + step .mass
   pub each : (v w : ℕ) → v < w → w < h .nodes
@@ -45,7 +47,8 @@ pub record Ready (h : Header) (links words stack lower : List ℕ) (start : Tall
   pub counted : start .number + k < 4294967296
 
 -- what it promises: the sums so far plus those over the first k ends to come, and the others still to come
-pub record Tallied (h : Header) (links words stack lower : List ℕ) (start : Tally) (k : ℕ) (stack′ lower′ : List ℕ) (r : Tally) : Type 0 where
+pub record Tallied (h : Header) (links words stack lower : List ℕ) (start : Tally) (k : ℕ)
+    (stack′ lower′ : List ℕ) (r : Tally) : Type 0 where
   pub numbers : r .number ≡ start .number + sumEnds (λ s m. 1) (take k (coming h words (start .at) stack))
   pub masses : r .mass ≡ start .mass + sumEnds (λ s m. m) (take k (coming h words (start .at) stack))
   pub entries : (v w : ℕ) → v < w → w < h .nodes
@@ -56,3 +59,14 @@ pub record Tallied (h : Header) (links words stack lower : List ℕ) (start : Ta
   pub rest : coming h words (r .at) stack′ ≡ drop k (coming h words (start .at) stack)
   pub stacked : Stack (h .events) (r .at) stack′
   pub sized : length lower′ ≡ 2016
+
+-- the entries of all pairs hold the lower bounds of a plan, and no entry is above the mass examined
+pub record Summed (p : Plan) (n : ℕ) (lower : List ℕ) : Type 0 where
+  pub sized : length lower ≡ 2016
+  pub below : (i : ℕ) → getD lower i 0 ≤ massExamined p
+  pub each : (v w : ℕ) → v < w → w < n → getD lower (place n v w) 0 ≡ lowerOf p v w
+
+-- 2016 zeros
+pub record Cleared (lower : List ℕ) : Type 0 where
+  pub sized : length lower ≡ 2016
+  pub zeros : (i : ℕ) → getD lower i 0 ≡ 0

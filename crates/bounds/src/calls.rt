@@ -14,11 +14,11 @@ ghost use lib.ListN.{getD};
 ghost use Rattle.mass.specs.Refusal.{first};
 ghost use Rattle.mass.specs.Split.{whole};
 ghost use Rattle.refusals.specs.Tests.{roomTest};
-ghost use Rattle.plan.specs.Records.{planOfLists};
+ghost use Rattle.plan.specs.LentLists.{planOfLists};
 ghost use Rattle.plan.specs.Calls.{filled};
 ghost use Rattle.walk.specs.Walk.{count};
 ghost use Rattle.pairs.specs.Pairs.{place, pairCount};
-ghost use Rattle.pairs.specs.Giving.{Giving};
+ghost use Rattle.pairs.specs.BoundsFit.{BoundsFit};
 ghost use Rattle.bounds.specs.Bounds.{lowerList, upperList, Encloses, EnclosesAll};
 ghost use Rattle.bounds.specs.Calls.{totalsOf, ranAnswer, totalsIn, runNumber, boundsOf, pairAnswer, boundsIn, pairNumber};
 
@@ -48,7 +48,8 @@ pub fn run(h: Header, links: &[u8], events: &[u64], lower: &mut [u64], upper: &m
         (runNumber h (now (links .entry)) (now (events .entry)) (now (lower .entry)) (now (upper .entry)))
         (upperList (planOfLists h (now (links .entry)) (now (events .entry)))) (now (upper .entry)) ⌝ }
     ensures demand3 { λ r. ⌜ (runNumber h (now (links .entry)) (now (events .entry)) (now (lower .entry)) (now (upper .entry)) ≡ 0
-        → EnclosesAll (planOfLists h (now (links .entry)) (now (events .entry))) (now (lower .exit)) (now (upper .exit)) (totalsIn r .count)) ⌝ }
+        → EnclosesAll (planOfLists h (now (links .entry)) (now (events .entry)))
+        (now (lower .exit)) (now (upper .exit)) (totalsIn r .count)) ⌝ }
 {
     let mut bytes = [0u8; 256];
     let mut words = [0u64; 512];
@@ -68,9 +69,10 @@ pub fn run(h: Header, links: &[u8], events: &[u64], lower: &mut [u64], upper: &m
 
 // The bounds of one pair from the sums.
 fn bounds_at(n: usize, mass: u64, sums: &[u64; 2016], v: usize, w: usize) -> PairBounds
-    requires { ⌜ Giving n mass (now sums) (now sums) (now sums) ⌝ }
+    requires { ⌜ BoundsFit n mass (now sums) (now sums) (now sums) ⌝ }
     requires { ⌜ (v < w) × (w < n) ⌝ }
-    ensures { λ r. ⌜ (r .lower ≡ getD (now (sums .entry)) (place n v w) 0) × (r .upper ≡ (whole - mass) + getD (now (sums .entry)) (place n v w) 0) ⌝ }
+    ensures { λ r. ⌜ (r .lower ≡ getD (now (sums .entry)) (place n v w) 0)
+        × (r .upper ≡ (whole - mass) + getD (now (sums .entry)) (place n v w) 0) ⌝ }
 {
     let at = start_of(n, v) + (w - (v + 1));
     let lower = sums[at];

@@ -8,7 +8,7 @@ ghost use Prim.Native.Nat.{_^_, _<_};
 ghost use Rattle.sets.specs.Sets.{joined};
 ghost use Rattle.plan.specs.Held.{Held};
 ghost use Rattle.network.specs.Table.{LinksAt};
-ghost use Rattle.bounds.specs.Tallied.{Room, Examined, Ready, Tallied};
+ghost use Rattle.bounds.specs.Tallied.{Room, MassAdded, Ready, Tallied};
 
 // Adds the mass of a relevant scenario to the entries of the pairs that its topology disconnects.
 fn examine(
@@ -23,7 +23,7 @@ fn examine(
     requires { ⌜ LinksAt (now links) (h .links) (now table) ⌝ }
     requires { ⌜ joined (step .low) (step .high) < 2 ^ (h .events) ⌝ }
     requires { ⌜ Room (step .mass) (now lower) ⌝ }
-    ensures { λ r. ⌜ Examined h (now (links .entry)) (now (words .entry)) step (now (lower .entry)) (now (lower .exit)) ⌝ }
+    ensures { λ r. ⌜ MassAdded h (now (links .entry)) (now (words .entry)) step (now (lower .entry)) (now (lower .exit)) ⌝ }
 {
     let intact = Failed {
         nodes: 0,

@@ -7,9 +7,10 @@ use native.Mathlib.Decide.{decLt}
 use native.Mathlib.Omega.{arith}
 use native.Mathlib.Nat.{add-zero}
 use lib.ListN.{length, getD, take, drop, set, length-set, length-append, List·getD-append}
-use lib.Seq.{sets, sets-eq, ext-getD, getD-drop, getD-take, getD-at, getD-append-add, getD-set-same, getD-set-other, drop-set-lt, drop-append-add, length-take-le}
-use Rattle.entries.specs.Entries.{Entry, entry}
-use Rattle.entries.specs.Words.{entryWords, topologyAt, massAt, entryAt, entriesOf}
+use lib.Seq.{sets, sets-eq, ext-getD, getD-drop, getD-take, getD-at, getD-append-add, getD-set-same, getD-set-other, drop-set-lt}
+use lib.Seq.{drop-append-add, length-take-le}
+use Rattle.entries.specs.Entries.{Entry, entry, entryWords}
+use Rattle.entries.specs.Words.{topologyAt, entryAt, entriesOf}
 use Rattle.entries.specs.declared.Topology.{Topology}
 use Rattle.entries.proofs.SameLaws.{none}
 

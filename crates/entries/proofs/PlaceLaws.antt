@@ -1,37 +1,35 @@
 -- One mass placed: what each way of placing it gives.
 -- Assumes nothing.
 use mathlib.Core.Path.{_≡_, refl, sym, ap, subst, _∙_}
-use mathlib.Core.Bool.{Bool, true, false}
+use mathlib.Core.Bool.{true, false}
 use mathlib.Core.List.{List, [], _∷_, _++_}
 use Prim.Native.Nat.{ℕ, _+_, _*_, _/_, _^_, _<_, _≤_}
 use native.Mathlib.Omega.{arith}
 use lib.ListN.{length, getD, set, length-set, length-append}
 use lib.Seq.{sets, length-sets}
-use Rattle.mass.specs.Split.{whole}
-use Rattle.entries.specs.Entries.{Entry, entry, same, added, Listing, listing, fitted}
-use Rattle.entries.specs.Words.{topologyAt, massAt, entryAt, entriesOf, Found, Placing, Gave}
+use Rattle.entries.specs.Entries.{Entry, entry, sameTopology, added, TopologyList, fitted}
+use Rattle.entries.specs.Words.{massAt, entriesOf, Found, MassFits, HoldsList}
 use Rattle.entries.specs.declared.Topology.{Topology}
-use Rattle.entries.specs.declared.Placed.{Placed}
 use Rattle.entries.proofs.SameLaws.{none, added-at, added-new, mass-part, fits-room, no-room}
 use Rattle.entries.proofs.EntryLaws.{entries-length, entry-at, raised-entries, raised-others, laid-entries, laid-others}
 
-module _ (count m : ℕ) (words : List ℕ) (t : Topology) (i : ℕ) (p : Placing count m words) (f : Found t count words i) where
+module _ (count m : ℕ) (words : List ℕ) (t : Topology) (i : ℕ) (p : MassFits count m words) (f : Found t count words i) where
   abbrev es : List Entry
   es = entriesOf count words
 
-  abbrev outcome : Listing
+  abbrev outcome : TopologyList
   outcome = fitted (length words / 4) es (added t m es)
 
   long : length es ≡ count
   long = entries-length count words
 
   -- what the search says of the words, said of the entries
-  differs : (j : ℕ) → j < count → j < i → same (getD es j none .topology) t ≡ false
-  differs j h l = ap (λ (e : Entry). same (e .topology) t) (entry-at count words j h) ∙ f .before j l
+  differs : (j : ℕ) → j < count → j < i → sameTopology (getD es j none .topology) t ≡ false
+  differs j h l = ap (λ (e : Entry). sameTopology (e .topology) t) (entry-at count words j h) ∙ f .before j l
 
   module _ (known : i < count) where
-    equals : same (getD es i none .topology) t ≡ true
-    equals = ap (λ (e : Entry). same (e .topology) t) (entry-at count words i known) ∙ f .there known
+    equals : sameTopology (getD es i none .topology) t ≡ true
+    equals = ap (λ (e : Entry). sameTopology (e .topology) t) (entry-at count words i known) ∙ f .there known
 
     pub mass-fits : massAt words i + m < 2 ^ 64
     mass-fits = omega (arith, ap (λ (e : Entry). e .mass) (entry-at count words i known), mass-part es i (omega (arith, long)), p .fits)
@@ -45,9 +43,9 @@ module _ (count m : ℕ) (words : List ℕ) (t : Topology) (i : ℕ) (p : Placin
         ∙ ap (λ (e : Entry). set es i (entry (e .topology) (e .mass + m))) (entry-at count words i known)
         ∙ sym (raised-entries count words i (massAt words i + m) known (p .room))
 
-    pub placed-known : Gave outcome count words raised (record { count = count; number = 0 })
+    pub placed-known : HoldsList outcome count words raised (record { count = count; number = 0 })
     placed-known =
-        subst (λ (l : Listing). Gave l count words raised (record { count = count; number = 0 }))
+        subst (λ (l : TopologyList). HoldsList l count words raised (record { count = count; number = 0 }))
         (sym (fits-room (length words / 4) es (added t m es) (omega (arith, p .room, ap length is-added, entries-length count raised))))
         (record {
           number = refl;
@@ -65,9 +63,9 @@ module _ (count m : ℕ) (words : List ℕ) (t : Topology) (i : ℕ) (p : Placin
     longer : length (added t m es) ≡ count + 1
     longer = omega (arith, ap length is-new, length-append es (entry t m ∷ []), long)
 
-    pub placed-full : length words / 4 ≤ count → Gave outcome count words words (record { count = count; number = 15 })
+    pub placed-full : length words / 4 ≤ count → HoldsList outcome count words words (record { count = count; number = 15 })
     placed-full full =
-        subst (λ (l : Listing). Gave l count words words (record { count = count; number = 15 }))
+        subst (λ (l : TopologyList). HoldsList l count words words (record { count = count; number = 15 }))
         (sym (no-room (length words / 4) es (added t m es) (omega (arith, longer))))
         (record { number = refl; entries = refl; grows = omega arith; room = p .room; others = refl; sized = refl })
 
@@ -78,10 +76,10 @@ module _ (count m : ℕ) (words : List ℕ) (t : Topology) (i : ℕ) (p : Placin
       pub has-space : 4 * count + 4 ≤ length words
       has-space = omega arith
 
-      pub placed-new : Gave outcome count words laid (record { count = count + 1; number = 0 })
+      pub placed-new : HoldsList outcome count words laid (record { count = count + 1; number = 0 })
       placed-new =
           let size : length laid ≡ length words = length-sets words (4 * count) (t .nodes ∷ t .low ∷ t .high ∷ m ∷ []) in
-          subst (λ (l : Listing). Gave l count words laid (record { count = count + 1; number = 0 }))
+          subst (λ (l : TopologyList). HoldsList l count words laid (record { count = count + 1; number = 0 }))
           (sym (fits-room (length words / 4) es (added t m es) (omega (arith, longer))))
           (record {
             number = refl;

@@ -21,23 +21,28 @@ massesIn [] = 0
 massesIn (e ∷ entries) = e .mass + massesIn entries
 
 -- whether two topologies are equal
-unfoldable pub same : Topology → Topology → Bool
-same a b = eqb (a .nodes) (b .nodes) && (eqb (a .low) (b .low) && eqb (a .high) (b .high))
+unfoldable pub sameTopology : Topology → Topology → Bool
+sameTopology a b = eqb (a .nodes) (b .nodes) && (eqb (a .low) (b .low) && eqb (a .high) (b .high))
 
--- "for each different effective topology, by first appearance, equal ones added up": a mass goes to the entry of its topology, or to a new one
--- after the last
+-- "for each different effective topology, by first appearance, equal ones added up": a mass goes to the entry of its topology, or to a new
+-- one after the last
 abbrev pub added : Topology → ℕ → List Entry → List Entry
 added t m [] = entry t m ∷ []
-added t m (e ∷ entries) = cond (same (e .topology) t) (entry (e .topology) (e .mass + m) ∷ entries) (e ∷ added t m entries)
+added t m (e ∷ entries) = cond (sameTopology (e .topology) t) (entry (e .topology) (e .mass + m) ∷ entries) (e ∷ added t m entries)
 
 -- the list so far: its entries, and 15 once a topology found no entry left, else 0
-pub record Listing : Type 0 where
+pub record TopologyList : Type 0 where
   pub entries : List Entry
   pub number : ℕ
 
-abbrev pub listing : List Entry → ℕ → Listing
-listing entries number = record { entries = entries; number = number }
+abbrev pub topologyList : List Entry → ℕ → TopologyList
+topologyList entries number = record { entries = entries; number = number }
 
 -- the new entries where `room` entries hold them; else the old ones, and 15
-abbrev pub fitted : ℕ → List Entry → List Entry → Listing
-fitted room old new = cond (ltb room (length new)) (listing old 15) (listing new 0)
+abbrev pub fitted : ℕ → List Entry → List Entry → TopologyList
+fitted room old new = cond (ltb room (length new)) (topologyList old 15) (topologyList new 0)
+
+-- the words of a list of entries
+unfoldable pub entryWords : List Entry → List ℕ
+entryWords [] = []
+entryWords (e ∷ entries) = e .topology .nodes ∷ e .topology .low ∷ e .topology .high ∷ e .mass ∷ entryWords entries

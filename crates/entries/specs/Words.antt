@@ -7,14 +7,9 @@ use mathlib.Core.List.{List, [], _∷_}
 use Prim.Native.Nat.{ℕ, zero, suc, _+_, _*_, _<_, _≤_}
 use lib.ListN.{length, getD, drop}
 use Rattle.mass.specs.Split.{whole}
-use Rattle.entries.specs.Entries.{Entry, entry, massesIn, same, Listing}
+use Rattle.entries.specs.Entries.{Entry, entry, massesIn, sameTopology, TopologyList}
 use Rattle.entries.specs.declared.Topology.{Topology}
 use Rattle.entries.specs.declared.Placed.{Placed}
-
--- the words of a list of entries
-unfoldable pub entryWords : List Entry → List ℕ
-entryWords [] = []
-entryWords (e ∷ entries) = e .topology .nodes ∷ e .topology .low ∷ e .topology .high ∷ e .mass ∷ entryWords entries
 
 -- entry i of a list of words
 abbrev pub topologyAt : List ℕ → ℕ → Topology
@@ -34,16 +29,16 @@ entriesOf (suc count) words = entryAt words 0 ∷ entriesOf count (drop 4 words)
 -- a search: r is the first of `count` entries that has the topology, or `count`
 pub record Found (t : Topology) (count : ℕ) (words : List ℕ) (r : ℕ) : Type 0 where
   pub within : r ≤ count
-  pub before : (j : ℕ) → j < r → same (topologyAt words j) t ≡ false
-  pub there : r < count → same (topologyAt words r) t ≡ true
+  pub before : (j : ℕ) → j < r → sameTopology (topologyAt words j) t ≡ false
+  pub there : r < count → sameTopology (topologyAt words r) t ≡ true
 
 -- what placing a mass asks: `count` whole entries, and a sum that leaves room for it
-pub record Placing (count mass : ℕ) (words : List ℕ) : Type 0 where
+pub record MassFits (count mass : ℕ) (words : List ℕ) : Type 0 where
   pub room : 4 * count ≤ length words
   pub fits : massesIn (entriesOf count words) + mass ≤ whole
 
 -- what it promises: the words hold the entries of a listing, and those past the last entry stay as they were
-pub record Gave (list : Listing) (count : ℕ) (words words′ : List ℕ) (r : Placed) : Type 0 where
+pub record HoldsList (list : TopologyList) (count : ℕ) (words words′ : List ℕ) (r : Placed) : Type 0 where
   pub number : r .number ≡ list .number
   pub entries : entriesOf (r .count) words′ ≡ list .entries
   pub grows : count ≤ r .count

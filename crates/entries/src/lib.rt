@@ -6,8 +6,8 @@ ghost use mathlib.Core.List.{[], _∷_};
 ghost use Prim.Native.Nat.{_+_, _*_, _/_, _^_, _<_, _≤_};
 ghost use lib.ListN.{length, set};
 ghost use lib.Seq.{sets};
-ghost use Rattle.entries.specs.Entries.{same, added, fitted};
-ghost use Rattle.entries.specs.Words.{topologyAt, massAt, entriesOf, Found, Placing, Gave};
+ghost use Rattle.entries.specs.Entries.{sameTopology, added, fitted};
+ghost use Rattle.entries.specs.Words.{topologyAt, massAt, entriesOf, Found, MassFits, HoldsList};
 
 // An effective topology: the working nodes, the working links 0 to 63 and the working links 64 to 127.
 pub struct Topology {
@@ -25,7 +25,7 @@ pub struct Placed {
 // Whether entry i has the topology.
 fn is_at(list: &[u64], i: usize, t: Topology) -> bool
     requires { ⌜ 4 * i + 4 ≤ length (now list) ⌝ }
-    ensures { λ r. ⌜ r ≡ same (topologyAt (now (list .entry)) i) t ⌝ }
+    ensures { λ r. ⌜ r ≡ sameTopology (topologyAt (now (list .entry)) i) t ⌝ }
 {
     let at = 4 * i;
     if list[at] != t.nodes {
@@ -75,8 +75,8 @@ fn put(list: &mut [u64], i: usize, t: Topology, mass: u64)
 
 // Adds a mass to the entry of its topology, or to a new entry after the last; 15 where the list has no entry left for it.
 pub fn place(list: &mut [u64], count: usize, t: Topology, mass: u64) -> Placed
-    requires { ⌜ Placing count mass (now list) ⌝ }
-    ensures { λ r. ⌜ Gave
+    requires { ⌜ MassFits count mass (now list) ⌝ }
+    ensures { λ r. ⌜ HoldsList
         (fitted (length (now (list .entry)) / 4) (entriesOf count (now (list .entry))) (added t mass (entriesOf count (now (list .entry)))))
         count (now (list .entry)) (now (list .exit)) r ⌝ }
 {

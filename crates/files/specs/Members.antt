@@ -1,4 +1,5 @@
--- The members of an event as they are put into sets, one by one: document 01, section "Plan file", "Element i is bit i of a set, of value 2^i."
+-- The members of an event as they are put into sets, one by one: document 01, section "Plan file", "Element i is bit i of a set, of value
+-- 2^i."
 -- Assumes nothing.
 use Prim.Native.Nat.{ℕ, _^_, _<_}
 use Rattle.plan.specs.declared.Element.{Element}

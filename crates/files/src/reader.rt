@@ -17,7 +17,7 @@ ghost use Rattle.sets.specs.Sets.{joined};
 ghost use Rattle.plan.specs.Lists.{linksOf, linkBytes, eventWords};
 ghost use Rattle.plan.specs.File.{membersRefusal, eventsRefusal, setOf, eventsAt, planOf};
 ghost use Rattle.files.specs.Members.{nodeValue, linkValue, Above};
-ghost use Rattle.plan.specs.Calls.{filled, headerOf, readRefusal, readAnswer, headerIn};
+ghost use Rattle.plan.specs.Calls.{filled, headerOf, readRefusal, readNumber, readAnswer, headerIn};
 
 // The sets of an event: its nodes, links 0 to 63 and links 64 to 127.
 pub struct Members {
@@ -218,11 +218,11 @@ pub fn header_in(answer: Reading) -> Header
 
 // Reads a plan into lent lists: the links' bytes, and four words to an event. A refusal changes nothing.
 pub fn read(s: &[u8], links: &mut [u8], events: &mut [u64]) -> Reading
-    ensures answer { λ r. ⌜ r ≡ readAnswer (readRefusal (length (now (links .entry))) (length (now (events .entry)) / 4) (now (s .entry)))
+    ensures answer { λ r. ⌜ r ≡ readAnswer (readNumber (now (s .entry)) (now (links .entry)) (now (events .entry)))
         (headerOf (now (s .entry))) ⌝ }
-    ensures links { λ r. ⌜ now (links .exit) ≡ filled (readRefusal (length (now (links .entry))) (length (now (events .entry)) / 4) (now (s .entry)))
+    ensures links { λ r. ⌜ now (links .exit) ≡ filled (readNumber (now (s .entry)) (now (links .entry)) (now (events .entry)))
         (linkBytes ((planOf (now (s .entry))) .links)) (now (links .entry)) ⌝ }
-    ensures events { λ r. ⌜ now (events .exit) ≡ filled (readRefusal (length (now (links .entry))) (length (now (events .entry)) / 4) (now (s .entry)))
+    ensures events { λ r. ⌜ now (events .exit) ≡ filled (readNumber (now (s .entry)) (now (links .entry)) (now (events .entry)))
         (eventWords ((planOf (now (s .entry))) .events)) (now (events .entry)) ⌝ }
 {
     let mut bytes = [0u8; 256];

@@ -12,14 +12,15 @@ use Rattle.plan.specs.Layout.{Bytes}
 use Rattle.plan.specs.Lists.{eventsOf, linkBytes, eventWords}
 use Rattle.refusals.specs.Tests.{roomTest, countsTest}
 use Rattle.plan.specs.File.{refusal, planOf, linksIn, eventsIn}
-use Rattle.plan.specs.Records.{eventListRefusal, planOfLists, listsRefusal}
+use Rattle.plan.specs.LentLists.{eventListRefusal, planOfLists, listsRefusal}
 use Rattle.plan.specs.Calls.{filled, headerOf, readRefusal}
 use Rattle.plan.proofs.FileLawsAccepted.{accepted-counts}
 use Rattle.plan.specs.declared.Header.{Header}
 use Rattle.refusals.proofs.TestLaws.{counts-none}
 use Rattle.mass.specs.Split.{certain}
 use Rattle.layout.proofs.LayoutFile.{ValidPlan, file-none, read-valid}
-use Rattle.layout.proofs.ListTheorems.{read-denotes, length-links-of, length-events-of}
+use Rattle.layout.proofs.ListLaws.{length-links-of, length-events-of}
+use Rattle.layout.proofs.Theorems.{read-denotes}
 use Rattle.files.proofs.ReaderLawsAnswer.{length-links, length-events}
 use Rattle.input.specs.Loaded.{Loaded}
 

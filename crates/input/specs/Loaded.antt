@@ -4,7 +4,7 @@ use mathlib.Core.Path.{_≡_}
 use mathlib.Core.List.{List}
 use Prim.Native.Nat.{ℕ}
 use Rattle.plan.specs.File.{planOf}
-use Rattle.plan.specs.Records.{planOfLists, listsRefusal}
+use Rattle.plan.specs.LentLists.{planOfLists, listsRefusal}
 use Rattle.plan.specs.Calls.{headerOf}
 
 -- the arrays hold an accepted file: no test of the lists refuses them, and they denote the plan that the file stands for

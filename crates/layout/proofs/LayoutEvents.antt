@@ -14,7 +14,7 @@ use Rattle.plan.specs.Plan.{Event}
 use Rattle.refusals.specs.Tests.{orderTest}
 use Rattle.plan.specs.Layout.{little, elements, members, memberCount, eventBytes, Bytes}
 use Rattle.plan.specs.File.{membersRefusal, eventRefusal, eventsRefusal, setOf, probabilityIn, membersIn, eventSize, eventIn, eventsAt}
-use Rattle.plan.specs.Records.{eventListRefusal}
+use Rattle.plan.specs.LentLists.{eventListRefusal}
 use Rattle.refusals.proofs.TestLaws.{short-none, short-pass, sets-none, sets-pass, left-none}
 use Rattle.layout.proofs.LayoutNumbers.{value-little, little-again, bytes-drop}
 use Rattle.layout.proofs.LayoutSets.{elements-moved, moved-lt}

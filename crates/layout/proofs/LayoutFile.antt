@@ -18,7 +18,7 @@ use Rattle.plan.specs.Lists.{linksOf, linkBytes}
 use Rattle.plan.specs.Layout.{value, little, eventBytes, headerBytes, layout, Bytes}
 use Rattle.plan.specs.File.{headerRefusal, linksRefusal, eventsRefusal, refusal, planOf, versionIn, nodesIn, linksIn, eventsIn, thresholdIn}
 use Rattle.plan.specs.File.{limitIn}
-use Rattle.plan.specs.Records.{linkListRefusal, eventListRefusal, planRefusal}
+use Rattle.plan.specs.LentLists.{linkListRefusal, eventListRefusal, planRefusal}
 use Rattle.refusals.proofs.TestLaws.{short-none, short-pass, mark-none, version-none, counts-none, or-none, Ranges}
 use Rattle.layout.proofs.LayoutNumbers.{value-little, bytes-drop, little-again}
 use Rattle.layout.proofs.LayoutEvents.{ReadEvents, events-accepted, events-read}

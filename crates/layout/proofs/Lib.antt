@@ -6,4 +6,5 @@ pub mod LayoutEvents
 pub mod LayoutFile
 pub mod LayoutPrefix
 pub mod Theorems
-pub mod ListTheorems
+pub mod ListLaws
+pub mod Longest

@@ -1,23 +1,26 @@
 -- What the definitions of a plan file mean: the theorems that let a reader trust them (document 01, section "Plan file").
 -- Assumes nothing.
-use mathlib.Core.Path.{_≡_, refl, sym, ap, subst, _∙_}
+use mathlib.Core.Path.{_≡_, sym, subst}
 use mathlib.Core.Logic.{_↔_}
-use mathlib.Core.List.{List, [], _∷_, _++_}
-use Prim.Native.Nat.{ℕ, zero, suc, _+_, _-_, _*_, _^_, _<_, _≤_}
+use mathlib.Core.List.{List}
+use Prim.Native.Nat.{ℕ, _+_, _*_, _≤_}
 use native.Mathlib.Omega.{arith}
-use lib.ListN.{length, take, drop, length-append, length-drop, replicate}
-use Rattle.mass.specs.Refusal.{first}
+use lib.ListN.{length, take, drop, length-drop}
 use Rattle.mass.specs.Split.{certain}
-use Rattle.plan.specs.Plan.{Plan, Link, Event}
-use Rattle.plan.specs.Lists.{linkBytes}
-use Rattle.plan.specs.Layout.{little, elements, memberBytes, members, memberCount, eventBytes, headerBytes, layout, Bytes}
-use Rattle.plan.specs.File.{refusal, planOf, eventRefusal, eventsRefusal, probabilityIn, eventSize, nodesIn, linksIn, eventsIn}
-use Rattle.plan.specs.Records.{linkListRefusal, eventListRefusal, planRefusal}
-use Rattle.refusals.proofs.TestLaws.{left-none, counts-none, Ranges}
-use Rattle.layout.proofs.LayoutMembers.{length-event-members}
-use Rattle.layout.proofs.LayoutEvents.{events-none}
+use Rattle.plan.specs.Plan.{Plan}
+use Rattle.plan.specs.Layout.{layout, Bytes}
+use Rattle.plan.specs.File.{refusal, planOf, nodesIn, linksIn, eventsIn, eventsAt}
+use Rattle.plan.specs.LentLists.{planRefusal, planOfLists, listsRefusal}
+use Rattle.refusals.proofs.TestLaws.{counts-none}
 use Rattle.layout.proofs.LayoutFile.{file-none, valid-none, valid-pass, layout-accepted, layout-read, read-valid, read-layout}
-use Rattle.layout.proofs.LayoutPrefix.{size-most, file-same}
+use Rattle.layout.proofs.LayoutPrefix.{file-same}
+use lib.Seq.{sets}
+use Rattle.mass.proofs.RefusalLaws.{first-none}
+use Rattle.plan.specs.Lists.{linksOf, linkBytes, eventWords}
+use Rattle.plan.specs.Calls.{headerOf}
+use Rattle.plan.specs.declared.Header.{Header}
+use Rattle.layout.proofs.ListLaws.{length-links-of, length-events-of, links-laid, events-laid, length-events-at}
+use Rattle.layout.proofs.Longest.{events-length, fullPlan, full-valid, full-long}
 
 -- a list of bytes is accepted exactly where it is the layout of a valid plan
 pub accepted-is-layout : (b : List ℕ) → Bytes b → (refusal b ≡ 0) ↔ ((p : Plan) × (planRefusal p ≡ 0) × (b ≡ layout p))
@@ -35,15 +38,6 @@ pub read-writes-again : (b : List ℕ) → Bytes b → refusal b ≡ 0 → (plan
 read-writes-again b bytes e =
     (valid-pass (planOf b) (read-valid b bytes (file-none b e)), read-layout b bytes (file-none b e))
 
-events-length : (nodes links : ℕ) → nodes ≤ 64 → links ≤ 128 → (before count : ℕ) (b : List ℕ)
-    → eventsRefusal nodes links before count b ≡ 0 → length b ≤ count * 389
-events-length nodes links few some before zero b e = unfold eventsRefusal in (let z = left-none (length b) e in omega arith)
-events-length nodes links few some before (suc count) b e =
-    let t = events-none nodes links before count b e in
-    let size = size-most nodes links before b few some (t .0) in
-    let rest = events-length nodes links few some (probabilityIn b) count (drop (eventSize b) b) (t .1) in
-    omega (arith, length-drop (eventSize b) b)
-
 -- no accepted list of bytes is longer than 50,068
 pub longest : (b : List ℕ) → refusal b ≡ 0 → length b ≤ 50068
 longest b e =
@@ -52,45 +46,6 @@ longest b e =
     let rest = events-length (nodesIn b) (linksIn b) (r .nodes-fit) (r .links-fit) certain (eventsIn b) (drop (20 + 2 * linksIn b) b) (a .events) in
     omega (arith, length-drop (20 + 2 * linksIn b) b, r .links-fit, r .events-fit)
 
-unfoldable pub fullEvent : Event
-fullEvent = record { probability = certain; nodes = 2 ^ 64 - 1; links = 2 ^ 128 - 1 }
-
--- a plan with all that the counts allow: 64 nodes, 128 links, 128 events of all nodes and links
-pub fullPlan : Plan
-fullPlan =
-    record {
-      nodes = 64;
-      links = replicate 128 (record { low = 0; high = 1 });
-      events = replicate 128 fullEvent;
-      threshold = 1;
-      limit = 1;
-    }
-
-full-valid : planRefusal fullPlan ≡ 0
-unfolding fullPlan fullEvent planRefusal linkListRefusal eventListRefusal first
-full-valid = refl
-
-full-members : memberCount fullEvent ≡ 192
-unfolding fullEvent memberCount elements
-full-members = refl
-
-events-long : (count : ℕ) → length (eventBytes (replicate count fullEvent)) ≡ count * 389
-unfolding eventBytes little
-events-long zero = refl
-events-long (suc count) =
-    let rest = events-long count in
-    rw (length-append (members fullEvent) (eventBytes (replicate count fullEvent)), length-event-members fullEvent, full-members)
-    (omega arith)
-
-links-long : length (linkBytes (replicate 128 (record { low = 0; high = 1 }))) ≡ 256
-unfolding linkBytes
-links-long = refl
-
-full-long : length (layout fullPlan) ≡ 50068
-unfolding fullPlan fullEvent layout headerBytes little
-full-long =
-    rw (length-append (linkBytes (replicate 128 (record { low = 0; high = 1 }))) (eventBytes (replicate 128 fullEvent)), links-long, events-long 128)
-
 -- one of that length is accepted
 pub full-accepted : (refusal (layout fullPlan) ≡ 0) × (length (layout fullPlan) ≡ 50068)
 full-accepted = (layout-accepted fullPlan (valid-none fullPlan full-valid), full-long)
@@ -98,3 +53,37 @@ full-accepted = (layout-accepted fullPlan (valid-none fullPlan full-valid), full
 -- the refusal of any list is that of its first 50,070 bytes
 pub prefix-decides : (b : List ℕ) → refusal (take 50070 b) ≡ refusal b
 prefix-decides b = file-same 50070 b (omega arith)
+
+-- accepted lists denote a valid plan
+pub lists-denote : (h : Header) (linkRoom eventRoom : ℕ) (links words : List ℕ) → listsRefusal h linkRoom eventRoom links words ≡ 0
+    → planRefusal (planOfLists h links words) ≡ 0
+unfolding listsRefusal planOfLists
+lists-denote h linkRoom eventRoom links words e =
+    let c = first-none _ _ e in
+    let t = first-none _ _ (c .1) in
+    let m = first-none _ _ (t .1) in
+    let r = first-none _ _ (m .1) in
+    let s = first-none _ _ (r .1) in
+    let l = first-none _ _ (s .1) in
+    valid-pass (planOfLists h links words)
+    (record {
+      counts = rw (length-links-of (h .links) links, length-events-of (h .events) words) (c .0);
+      threshold = t .0;
+      limit = m .0;
+      links = l .0;
+      events = rw (length-links-of (h .links) links) (first-none _ _ (l .1) .0);
+    })
+
+-- the lists that a reader filled denote the plan that was read
+pub read-denotes : (b links words : List ℕ)
+    → length (linkBytes ((planOf b) .links)) ≤ length links
+    → length (eventWords ((planOf b) .events)) ≤ length words
+    → planOfLists (headerOf b) (sets links 0 (linkBytes ((planOf b) .links))) (sets words 0 (eventWords ((planOf b) .events))) ≡ planOf b
+unfolding planOfLists headerOf planOf
+read-denotes b links words lr wr =
+    rw (
+      links-laid (linksIn b) (linksOf (linksIn b) (drop 20 b)) links (length-links-of (linksIn b) (drop 20 b)) lr,
+      events-laid (eventsIn b) (eventsAt (eventsIn b) (drop (20 + 2 * linksIn b) b)) words
+          (length-events-at (eventsIn b) (drop (20 + 2 * linksIn b) b))
+          wr,
+    )

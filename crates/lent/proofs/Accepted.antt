@@ -13,13 +13,13 @@ use Rattle.mass.specs.Split.{certain}
 use Rattle.plan.specs.Plan.{Link}
 use Rattle.refusals.specs.Tests.{endsTest, limitTest}
 use Rattle.plan.specs.Lists.{linksOf, eventsOf}
-use Rattle.plan.specs.Records.{linkListRefusal, planOfLists, listsRefusal}
+use Rattle.plan.specs.LentLists.{linkListRefusal, planOfLists, listsRefusal}
 use Rattle.plan.specs.Held.{EndsBelow, Falling, Held}
 use Rattle.plan.proofs.HeldLaws.{plan-falling}
 use Rattle.plan.specs.declared.Header.{Header}
 use Rattle.refusals.proofs.TestLaws.{Ranges, counts-none, or-none}
 use Rattle.layout.proofs.LayoutFile.{link-list-none, valid-none, ValidPlan}
-use Rattle.layout.proofs.ListTheorems.{lists-denote}
+use Rattle.layout.proofs.Theorems.{lists-denote}
 use Rattle.lent.specs.Taken.{Taken, listsNumber}
 use Rattle.lent.proofs.CopyLaws.{byteCopy, wordCopy, copies-refused, copies-denote}
 

@@ -12,7 +12,7 @@ use Rattle.mass.specs.Split.{certain}
 use Rattle.plan.specs.Plan.{Plan}
 use Rattle.plan.specs.Lists.{linksOf, eventsOf}
 use Rattle.refusals.specs.Tests.{countsTest, thresholdTest, limitTest, roomTest}
-use Rattle.plan.specs.Records.{linkListRefusal, eventListRefusal, planOfLists, listsRefusal}
+use Rattle.plan.specs.LentLists.{linkListRefusal, eventListRefusal, planOfLists, listsRefusal}
 use Rattle.plan.specs.declared.Header.{Header}
 use Rattle.refusals.proofs.TestLaws.{Ranges, counts-none, room-none}
 

@@ -15,7 +15,7 @@ use Rattle.sets.specs.Sets.{joined}
 use Rattle.plan.specs.Plan.{Link, Event}
 use Rattle.plan.specs.Lists.{linksOf, eventsOf}
 use Rattle.refusals.specs.Tests.{endsTest, orderTest, setsTest}
-use Rattle.plan.specs.Records.{linkListRefusal, eventListRefusal}
+use Rattle.plan.specs.LentLists.{linkListRefusal, eventListRefusal}
 
 -- storing a, then b after it
 pub sets-append : (a b l : List ℕ) (i : ℕ) → sets l i (a ++ b) ≡ sets (sets l i a) (i + length a) b

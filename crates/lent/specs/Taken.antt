@@ -4,7 +4,7 @@ use mathlib.Core.Path.{_≡_}
 use mathlib.Core.List.{List}
 use Prim.Native.Nat.{ℕ, _/_, _<_, _≤_}
 use lib.ListN.{length}
-use Rattle.plan.specs.Records.{planRefusal, planOfLists, listsRefusal}
+use Rattle.plan.specs.LentLists.{planRefusal, planOfLists, listsRefusal}
 use Rattle.plan.specs.Held.{Held}
 use Rattle.plan.specs.declared.Header.{Header}
 

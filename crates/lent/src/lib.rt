@@ -1,4 +1,5 @@
-// Lent lists: copying them, the number with which they are refused, in the writer's order, and one way in for every call that takes them: `accept`.
+// Lent lists: copying them, the number with which they are refused, in the writer's order, and one way in for every call that takes them:
+// `accept`.
 // Assumes nothing.
 use plan::Header;
 use plan::byte_at;
@@ -8,7 +9,7 @@ ghost use lib.ListN.{length, take};
 ghost use lib.Seq.{sets};
 ghost use Rattle.mass.specs.Split.{certain};
 ghost use Rattle.plan.specs.Lists.{linksOf, eventsOf};
-ghost use Rattle.plan.specs.Records.{linkListRefusal, eventListRefusal, listsRefusal};
+ghost use Rattle.plan.specs.LentLists.{linkListRefusal, eventListRefusal, listsRefusal};
 ghost use Rattle.lent.specs.Taken.{listsNumber, Taken};
 
 // Lays the first `count` bytes of a list down from a position on.
@@ -46,8 +47,10 @@ pub fn copy_words(from: &[u64], to: &mut [u64], count: usize)
 // Takes the first bytes and words of lent lists into the arrays, and says how long the arrays are.
 fn load(links: &[u8], events: &[u64], bytes: &mut [u8; 256], words: &mut [u64; 512])
     ensures { λ r. ⌜ (length (now (bytes .entry)) ≡ 256) × (length (now (words .entry)) ≡ 512) ⌝ }
-    ensures { λ r. ⌜ now (bytes .exit) ≡ sets (now (bytes .entry)) 0 (take (min (length (now (links .entry))) 256) (now (links .entry))) ⌝ }
-    ensures { λ r. ⌜ now (words .exit) ≡ sets (now (words .entry)) 0 (take (min (length (now (events .entry))) 512) (now (events .entry))) ⌝ }
+    ensures { λ r. ⌜ now (bytes .exit) ≡ sets (now (bytes .entry)) 0
+        (take (min (length (now (links .entry))) 256) (now (links .entry))) ⌝ }
+    ensures { λ r. ⌜ now (words .exit) ≡ sets (now (words .entry)) 0
+        (take (min (length (now (events .entry))) 512) (now (events .entry))) ⌝ }
 {
     copy_bytes(links, bytes, smaller(links.len(), 256));
     copy_words(events, words, smaller(events.len(), 512));
@@ -158,8 +161,10 @@ pub fn accept(
 ) -> u32
     ensures number { λ r. ⌜ r ≡ listsNumber h (now (links .entry)) (now (events .entry)) ⌝ }
     ensures taken { λ r. ⌜ (r ≡ 0 → Taken h (now (links .entry)) (now (events .entry)) (now (bytes .exit)) (now (words .exit))) ⌝ }
-    ensures bytes { λ r. ⌜ now (bytes .exit) ≡ sets (now (bytes .entry)) 0 (take (min (length (now (links .entry))) 256) (now (links .entry))) ⌝ }
-    ensures words { λ r. ⌜ now (words .exit) ≡ sets (now (words .entry)) 0 (take (min (length (now (events .entry))) 512) (now (events .entry))) ⌝ }
+    ensures bytes { λ r. ⌜ now (bytes .exit) ≡ sets (now (bytes .entry)) 0
+        (take (min (length (now (links .entry))) 256) (now (links .entry))) ⌝ }
+    ensures words { λ r. ⌜ now (words .exit) ≡ sets (now (words .entry)) 0
+        (take (min (length (now (events .entry))) 512) (now (events .entry))) ⌝ }
 {
     load(links, events, bytes, words);
     lists_refusal(h, links.len(), events.len() / 4, bytes, words)

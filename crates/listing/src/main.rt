@@ -2,13 +2,13 @@
 // standard output. The first 50,070 bytes of an input decide its listing (`listing-prefix` of the crate `text`), so no more are read; the
 // buffer of 92,789 bytes holds every listing (`program-holds`).
 // Assumes the contracts of the C functions that it calls. An input that cannot be read is taken to end there.
-use text::Listed;
+use text::Formatted;
 
 fn main() {
     let mut plan = [0u8; 50070];
     let mut out = [0u8; 92789];
     let got = io::read_full(0, &mut plan);
-    if let Listed::Text(size) = text::listing_text(&plan[..got], &mut out) {
+    if let Formatted::Text(size) = text::listing_text(&plan[..got], &mut out) {
         io::write_all(1, &out[..size]);
     }
 }

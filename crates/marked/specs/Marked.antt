@@ -1,22 +1,16 @@
 -- The twelve marked plans of document 01, in one list with one theorem.
 -- Assumes nothing.
-use mathlib.Core.Path.{_≡_, refl}
+use mathlib.Core.Path.{_≡_}
 use mathlib.Core.Bool.{Bool, true, false}
 use mathlib.Core.List.{List, [], _∷_}
 use Prim.Native.Nat.{ℕ}
-use Rattle.mass.specs.Refusal.{first}
 use Rattle.mass.specs.Split.{units, splitOf}
 use Rattle.mass.specs.declared.Parts.the-variants.{Split}
-use Rattle.sets.specs.Sets.{bit, digit, anyBelow}
+use Rattle.sets.specs.Sets.{digit}
 use Rattle.plan.specs.Plan.{Plan, Link, Event}
-use Rattle.plan.specs.Lists.{linkBytes}
-use Rattle.plan.specs.Layout.{little, value, elements, memberBytes, members, memberCount, eventBytes, headerBytes, layout}
-use Rattle.plan.specs.File.{headerRefusal, linksRefusal, memberRefusal, membersRefusal, eventRefusal, eventsRefusal, refusal}
-use Rattle.network.specs.Outage.{unionOf}
-use Rattle.network.specs.Topology.{nodeWorks, linkWorks, joins, adjacent}
-use Rattle.topology.specs.Paths.{via, disconnected}
-use Rattle.walk.specs.Ends.{ends}
-use Rattle.pairs.specs.Pairs.{row, rows, table}
+use Rattle.plan.specs.Layout.{layout}
+use Rattle.plan.specs.File.{refusal}
+use Rattle.pairs.specs.Pairs.{table}
 use Rattle.bounds.specs.Bounds.{lowerList, upperList}
 use Rattle.bounds.specs.Calls.{totalsOf}
 use Rattle.readings.specs.Figure.{figureOf}
@@ -42,9 +36,9 @@ pub record MarkedSplit : Type 0 where
   pub works : ℕ
 
 -- an entry of the list: a plan with its figures, or a split with its parts
-pub data Entry : Type 0 where
-  planned : MarkedPlan → Entry
-  parted : MarkedSplit → Entry
+pub data MarkedEntry : Type 0 where
+  planned : MarkedPlan → MarkedEntry
+  parted : MarkedSplit → MarkedEntry
 
 -- whether an answer carries a figure
 abbrev pub hasFigure : Figured → Bool
@@ -59,7 +53,7 @@ figureList p = table (λ v w. digit (hasFigure (figureOf 0 p v w))) (p .nodes)
 -- what is said of an entry, by the definitions that the contracts cite. Of a plan: its file meets no refusal (`plan::check`); the run's
 -- count, complete and E, and its two lists of bounds, are those of the entry (`bounds::run`); and so is which pairs have a figure
 -- (`readings::figure`). Of a split: its answer has the two parts of the entry (`Mass::split`).
-abbrev pub Right : Entry → Type 0
+abbrev pub Right : MarkedEntry → Type 0
 Right (planned m) =
     (refusal (layout (m .plan)) ≡ 0)
     × (totalsOf (m .plan) ≡ record { count = m .examined; complete = m .complete; mass = m .mass })
@@ -69,14 +63,9 @@ Right (planned m) =
 Right (parted m) = splitOf (m .mass) (m .q) ≡ Split (units (m .fails)) (units (m .works))
 
 -- a property of every entry of a list
-abbrev pub Each : (Entry → Type 0) → List Entry → Type 0
+abbrev pub Each : (MarkedEntry → Type 0) → List MarkedEntry → Type 0
 Each P [] = Unit {0}
 Each P (entry ∷ entries) = P entry × Each P entries
-
--- the proofs of the entries, one after the other
-infixr 40 _and_
-_and_ : {A B : Type 0} → A → B → A × B
-a and b = (a, b)
 
 -- "N = 2 and one link 0-1, t = 1, cap = 100, unless said": plans of two nodes, by links, events, t and cap
 abbrev two : List Link → List Event → ℕ → ℕ → Plan
@@ -105,7 +94,7 @@ triangle =
     }
 
 -- 1. "No link, no event, t = 10^18: examined 1, bounds 10^18 and 10^18."
-abbrev pub number1 : Entry
+abbrev pub number1 : MarkedEntry
 number1 = planned (record {
   plan = two [] [] 1000000000000000000 100;
   examined = 1;
@@ -117,7 +106,7 @@ number1 = planned (record {
 })
 
 -- 2. "e, t = 10^17: examined 2, both bounds 10^17."
-abbrev pub number2 : Entry
+abbrev pub number2 : MarkedEntry
 number2 = planned (record {
   plan = two (line ∷ []) (e ∷ []) 100000000000000000 100;
   examined = 2;
@@ -129,7 +118,7 @@ number2 = planned (record {
 })
 
 -- 3. "e, t = 10^17 + 1: examined 1, bounds 0 and 10^17."
-abbrev pub number3 : Entry
+abbrev pub number3 : MarkedEntry
 number3 = planned (record {
   plan = two (line ∷ []) (e ∷ []) 100000000000000001 100;
   examined = 1;
@@ -141,7 +130,7 @@ number3 = planned (record {
 })
 
 -- 4. "e, cap 1: examined 1, complete 0, bounds 0 and 10^17."
-abbrev pub number4 : Entry
+abbrev pub number4 : MarkedEntry
 number4 = planned (record {
   plan = two (line ∷ []) (e ∷ []) 1 1;
   examined = 1;
@@ -153,7 +142,7 @@ number4 = planned (record {
 })
 
 -- 5. "Two parallel links, one event on both, q = 10^8: both bounds 10^17."
-abbrev pub number5 : Entry
+abbrev pub number5 : MarkedEntry
 number5 = planned (record {
   plan = two (line ∷ line ∷ []) (on 3 100000000 ∷ []) 1 100;
   examined = 2;
@@ -165,7 +154,7 @@ number5 = planned (record {
 })
 
 -- 6. "The same links, an event each, q = 10^8: both bounds 10^16."
-abbrev pub number6 : Entry
+abbrev pub number6 : MarkedEntry
 number6 = planned (record {
   plan = two (line ∷ line ∷ []) (on 1 100000000 ∷ on 2 100000000 ∷ []) 1 100;
   examined = 4;
@@ -177,7 +166,7 @@ number6 = planned (record {
 })
 
 -- 7. "An event without members, q = 10^8: both bounds 0."
-abbrev pub number7 : Entry
+abbrev pub number7 : MarkedEntry
 number7 = planned (record {
   plan = two (line ∷ []) (on 0 100000000 ∷ []) 1 100;
   examined = 2;
@@ -189,7 +178,7 @@ number7 = planned (record {
 })
 
 -- 8. "Node 0 fails, q = 10^9, t = 10^18: examined 1, both bounds 10^18."
-abbrev pub number8 : Entry
+abbrev pub number8 : MarkedEntry
 number8 = planned (record {
   plan = two (line ∷ []) (record { probability = 1000000000; nodes = 1; links = 0 } ∷ []) 1000000000000000000 100;
   examined = 1;
@@ -201,7 +190,7 @@ number8 = planned (record {
 })
 
 -- 9. "e with q = 5 × 10^8, t = 10^18: examined 0, bounds 0 and 10^18, no figure."
-abbrev pub number9 : Entry
+abbrev pub number9 : MarkedEntry
 number9 = planned (record {
   plan = two (line ∷ []) (on 1 500000000 ∷ []) 1000000000000000000 100;
   examined = 0;
@@ -213,7 +202,7 @@ number9 = planned (record {
 })
 
 -- 10. "N = 1, no link, no event: no pairs."
-abbrev pub number10 : Entry
+abbrev pub number10 : MarkedEntry
 number10 = planned (record {
   plan = record { nodes = 1; links = []; events = []; threshold = 1; limit = 100 };
   examined = 1;
@@ -225,11 +214,11 @@ number10 = planned (record {
 })
 
 -- 11. "Mass 1 split at q = 1: 0 and 0."
-abbrev pub number11 : Entry
+abbrev pub number11 : MarkedEntry
 number11 = parted (record { mass = 1; q = 1; fails = 0; works = 0 })
 
 -- 12. "The triangle above."
-abbrev pub number12 : Entry
+abbrev pub number12 : MarkedEntry
 number12 = planned (record {
   plan = triangle;
   examined = 4;
@@ -241,7 +230,7 @@ number12 = planned (record {
 })
 
 -- the twelve, in document 01's order
-abbrev pub marked : List Entry
+abbrev pub marked : List MarkedEntry
 marked =
     number1
     ∷ number2
@@ -256,24 +245,3 @@ marked =
     ∷ number11
     ∷ number12
     ∷ []
-
--- the theorem: every entry is right
-pub marked-right : Each Right marked
-unfolding first splitOf
-    linkBytes little value elements memberBytes members memberCount eventBytes headerBytes layout
-    headerRefusal linksRefusal memberRefusal membersRefusal eventRefusal eventsRefusal refusal
-    ends table rows row disconnected via nodeWorks linkWorks joins adjacent anyBelow unionOf bit
-marked-right =
-    (refl, refl, refl, refl, refl)
-    and (refl, refl, refl, refl, refl)
-    and (refl, refl, refl, refl, refl)
-    and (refl, refl, refl, refl, refl)
-    and (refl, refl, refl, refl, refl)
-    and (refl, refl, refl, refl, refl)
-    and (refl, refl, refl, refl, refl)
-    and (refl, refl, refl, refl, refl)
-    and (refl, refl, refl, refl, refl)
-    and (refl, refl, refl, refl, refl)
-    and refl
-    and (refl, refl, refl, refl, refl)
-    and tt

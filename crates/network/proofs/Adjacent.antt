@@ -10,9 +10,9 @@ use Rattle.sets.proofs.Laws.{bit-none}
 use Rattle.sets.proofs.Bools.{and-left, and-right, and-both, same-bool}
 use Rattle.plan.specs.Plan.{Link}
 use Rattle.plan.specs.Lists.{linksOf}
-use Rattle.layout.proofs.ListTheorems.{length-links-of}
+use Rattle.layout.proofs.ListLaws.{length-links-of}
 use Rattle.network.specs.Outage.{Outage}
-use Rattle.network.specs.Topology.{networkOf, linkWorks, ends, joins, adjacent}
+use Rattle.network.specs.Topology.{networkOf, linkWorks, hasEnds, joins, adjacent}
 use Rattle.network.proofs.Works.{adjacent-link, link-adjacent, link-below}
 use Rattle.network.specs.Table.{joinedBy}
 use Rattle.network.proofs.LinkBytes.{link-at}
@@ -45,7 +45,7 @@ module _ (n count : ℕ) (bytes : List ℕ) (out : Outage) (low high : ℕ) (fl 
               f .0,
               and-both (linkWorks (networkOf n (linksOf count bytes) out) (f .0)) _
                   (sym (up (f .0)) ∙ f .1)
-                  (ap (λ (l : Link). ends l v w) (link-at count bytes (f .0) (up-below (f .0) (f .1))) ∙ f .2),
+                  (ap (λ (l : Link). hasEnds l v w) (link-at count bytes (f .0) (up-below (f .0) (f .1))) ∙ f .2),
             )
 
         back : adjacent (networkOf n (linksOf count bytes) out) v w ≡ true → (joinedBy bytes 0 low v w || joinedBy bytes 64 high v w) ≡ true
@@ -53,7 +53,7 @@ module _ (n count : ℕ) (bytes : List ℕ) (out : Outage) (low high : ℕ) (fl 
             let s = adjacent-link (networkOf n (linksOf count bytes) out) v w e in
             let b = up (s .0) ∙ and-left (linkWorks (networkOf n (linksOf count bytes) out) (s .0)) _ (s .1) in
             two-here low high fl fh bytes v w (s .0) b
-            (sym (ap (λ (l : Link). ends l v w) (link-at count bytes (s .0) (up-below (s .0) b)))
+            (sym (ap (λ (l : Link). hasEnds l v w) (link-at count bytes (s .0) (up-below (s .0) b)))
             ∙ and-right (linkWorks (networkOf n (linksOf count bytes) out) (s .0)) _ (s .1))
 
     -- the rows with no link, with the links of the low word, and with those of both

@@ -6,10 +6,10 @@ use Prim.Native.Nat.{ℕ, zero, suc, _+_, _*_, _<_}
 use native.Mathlib.Omega.{arith}
 use lib.ListN.{getD, drop}
 use lib.Seq.{getD-drop}
-use Rattle.plan.specs.Plan.{Link}
+use Rattle.plan.specs.Plan.{Link, linkAt}
 use Rattle.plan.specs.Lists.{linksOf}
-use Rattle.layout.proofs.ListTheorems.{length-links-of}
-use Rattle.plan.specs.Held.{linkAt, EndsBelow}
+use Rattle.layout.proofs.ListLaws.{length-links-of}
+use Rattle.plan.specs.Held.{EndsBelow}
 use Rattle.network.specs.Table.{linkIn}
 
 byte-later : (bytes : List ℕ) (i k : ℕ) → getD (drop 2 bytes) (2 * i + k) 0 ≡ getD bytes (2 * suc i + k) 0
@@ -28,11 +28,11 @@ link-at (suc count) bytes (suc i) h =
 -- its ends are nodes
 pub link-below : (n count : ℕ) (bytes : List ℕ) (i : ℕ) → EndsBelow n (linksOf count bytes) → i < count
     → (linkIn bytes i .low < n) × (linkIn bytes i .high < n)
-link-below n count bytes i ends h =
-    subst (λ (x : Link). (x .low < n) × (x .high < n)) (link-at count bytes i h) (ends i (omega (arith, length-links-of count bytes)))
+link-below n count bytes i hasEnds h =
+    subst (λ (x : Link). (x .low < n) × (x .high < n)) (link-at count bytes i h) (hasEnds i (omega (arith, length-links-of count bytes)))
 
 pub end-below : (n count : ℕ) (bytes : List ℕ) (i side : ℕ) → EndsBelow n (linksOf count bytes) → i < count → side < 2
     → getD bytes (2 * i + side) 0 < n
-end-below n count bytes i zero ends h l = link-below n count bytes i ends h .0
-end-below n count bytes i (suc zero) ends h l = link-below n count bytes i ends h .1
-end-below n count bytes i (suc (suc side)) ends h l = absurd (omega arith)
+end-below n count bytes i zero hasEnds h l = link-below n count bytes i hasEnds h .0
+end-below n count bytes i (suc zero) hasEnds h l = link-below n count bytes i hasEnds h .1
+end-below n count bytes i (suc (suc side)) hasEnds h l = absurd (omega arith)

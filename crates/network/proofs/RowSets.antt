@@ -12,7 +12,7 @@ use lib.Seq.{getD-set-same, getD-set-other}
 use borrow.Author.Tests.{eqb-true, eq-eqb, ne-eqb}
 use Rattle.sets.specs.Sets.{bit}
 use Rattle.sets.proofs.Bools.{same-bool}
-use Rattle.network.specs.Topology.{ends}
+use Rattle.network.specs.Topology.{hasEnds}
 use Rattle.network.specs.Table.{endsOf, linkIn, joinedBy}
 use Rattle.network.proofs.Rest.{rest-in}
 use Rattle.network.proofs.Words.{any-rest, any-none}
@@ -46,7 +46,7 @@ row-put rows a b new h law v w = at (ℕ-discrete v a)
 pub both-put : (rows : List ℕ) (a b new new′ : ℕ) → length rows ≡ 64 → a < 64 → b < 64
     → ((j : ℕ) → bit new j ≡ (bit (getD rows a 0) j || eqb j b))
     → ((j : ℕ) → bit new′ j ≡ (bit (getD (set rows a new) b 0) j || eqb j a)) → (v w : ℕ)
-    → bit (getD (set (set rows a new) b new′) v 0) w ≡ (bit (getD rows v 0) w || ends (endsOf a b) v w)
+    → bit (getD (set (set rows a new) b new′) v 0) w ≡ (bit (getD rows v 0) w || hasEnds (endsOf a b) v w)
 both-put rows a b new new′ size ha hb one other v w =
     row-put (set rows a new) b a new′ (omega (arith, length-set rows a new)) other v w
     ∙ ap (λ (x : Bool). x || (eqb b v && eqb a w)) (row-put rows a b new (omega arith) one v w)
@@ -70,19 +70,19 @@ module _ (bytes : List ℕ) (base s : ℕ) (before : List ℕ) where
       (ea : a ≡ linkIn bytes (base + found) .low)
       (eb : b ≡ linkIn bytes (base + found) .high)
     where
-      next : (v w : ℕ) → joinedBy bytes base left v w ≡ (ends (endsOf a b) v w || joinedBy bytes base rest v w)
+      next : (v w : ℕ) → joinedBy bytes base left v w ≡ (hasEnds (endsOf a b) v w || joinedBy bytes base rest v w)
       next v w =
-          any-rest (λ i. ends (linkIn bytes (base + i)) v w) left rest t found is small there law
-          ∙ ap₂ (λ (x y : ℕ). ends (endsOf x y) v w || joinedBy bytes base rest v w) (sym ea) (sym eb)
+          any-rest (λ i. hasEnds (linkIn bytes (base + i)) v w) left rest t found is small there law
+          ∙ ap₂ (λ (x y : ℕ). hasEnds (endsOf x y) v w || joinedBy bytes base rest v w) (sym ea) (sym eb)
 
-      pub putting-next : length after ≡ 64 → ((v w : ℕ) → bit (getD after v 0) w ≡ (bit (getD rows v 0) w || ends (endsOf a b) v w))
+      pub putting-next : length after ≡ 64 → ((v w : ℕ) → bit (getD after v 0) w ≡ (bit (getD rows v 0) w || hasEnds (endsOf a b) v w))
           → Putting rows left → Putting after rest
       putting-next sized one old = record {
         size = sized;
         within = λ i e. old .within i (rest-in left rest t found is law i e);
         rest = λ v w.
             ap (λ (x : Bool). x || joinedBy bytes base rest v w) (one v w)
-            ∙ or-twice (bit (getD rows v 0) w) (ends (endsOf a b) v w) (joinedBy bytes base rest v w)
+            ∙ or-twice (bit (getD rows v 0) w) (hasEnds (endsOf a b) v w) (joinedBy bytes base rest v w)
             ∙ ap (λ (x : Bool). bit (getD rows v 0) w || x) (sym (next v w))
             ∙ old .rest v w;
       }
@@ -92,6 +92,6 @@ module _ (bytes : List ℕ) (base s : ℕ) (before : List ℕ) where
       → (v w : ℕ) → bit (getD rows v 0) w ≡ (bit (getD before v 0) w || joinedBy bytes base s v w)
   putting-all rows left e old v w =
       sym
-      (ap (λ (x : Bool). bit (getD rows v 0) w || x) (any-none (λ i. ends (linkIn bytes (base + i)) v w) left e)
+      (ap (λ (x : Bool). bit (getD rows v 0) w || x) (any-none (λ i. hasEnds (linkIn bytes (base + i)) v w) left e)
       ∙ or-false (bit (getD rows v 0) w))
       ∙ old .rest v w

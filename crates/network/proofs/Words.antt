@@ -12,7 +12,7 @@ use lib.Dec.{eqb}
 use Rattle.sets.specs.Sets.{bit, joined, anyBelow}
 use Rattle.sets.proofs.Laws.{bit-none, bit-below, bit-joined-low, bit-joined-high}
 use Rattle.sets.proofs.Bools.{and-left, and-right, and-both, or-either, or-left, or-right, clash, not-so, same-bool, any-found, any-here}
-use Rattle.network.specs.Topology.{ends}
+use Rattle.network.specs.Topology.{hasEnds}
 use Rattle.network.specs.Table.{linkIn, joinedBy}
 use Rattle.network.proofs.Rest.{rest-in, rest-or}
 
@@ -89,36 +89,36 @@ module _ (low high : ℕ) (fl : low < 2 ^ 64) (fh : high < 2 ^ 64) where
 
   module _ (bytes : List ℕ) (v w : ℕ) where
     -- a link of either word that joins v and w is a link of the set of both
-    pub two-found : (joinedBy bytes 0 low v w || joinedBy bytes 64 high v w) ≡ true → (i : ℕ) × (bit (joined low high) i ≡ true) × (ends (linkIn bytes i) v w ≡ true)
+    pub two-found : (joinedBy bytes 0 low v w || joinedBy bytes 64 high v w) ≡ true → (i : ℕ) × (bit (joined low high) i ≡ true) × (hasEnds (linkIn bytes i) v w ≡ true)
     two-found e = ⊎-elim lower upper (or-either (joinedBy bytes 0 low v w) (joinedBy bytes 64 high v w) e)
       where
-        lower : joinedBy bytes 0 low v w ≡ true → (i : ℕ) × (bit (joined low high) i ≡ true) × (ends (linkIn bytes i) v w ≡ true)
+        lower : joinedBy bytes 0 low v w ≡ true → (i : ℕ) × (bit (joined low high) i ≡ true) × (hasEnds (linkIn bytes i) v w ≡ true)
         lower h =
-            let f = any-found (λ i. bit low i && ends (linkIn bytes (0 + i)) v w) 64 h in
+            let f = any-found (λ i. bit low i && hasEnds (linkIn bytes (0 + i)) v w) 64 h in
             (0 + f .0, in-low-word (f .0) (and-left (bit low (f .0)) _ (f .2)), and-right (bit low (f .0)) _ (f .2))
 
-        upper : joinedBy bytes 64 high v w ≡ true → (i : ℕ) × (bit (joined low high) i ≡ true) × (ends (linkIn bytes i) v w ≡ true)
+        upper : joinedBy bytes 64 high v w ≡ true → (i : ℕ) × (bit (joined low high) i ≡ true) × (hasEnds (linkIn bytes i) v w ≡ true)
         upper h =
-            let f = any-found (λ i. bit high i && ends (linkIn bytes (64 + i)) v w) 64 h in
+            let f = any-found (λ i. bit high i && hasEnds (linkIn bytes (64 + i)) v w) 64 h in
             (64 + f .0, in-high-word (f .0) (and-left (bit high (f .0)) _ (f .2)), and-right (bit high (f .0)) _ (f .2))
 
     Here : ℕ → Type 0
-    Here i = bit (joined low high) i ≡ true → ends (linkIn bytes i) v w ≡ true → (joinedBy bytes 0 low v w || joinedBy bytes 64 high v w) ≡ true
+    Here i = bit (joined low high) i ≡ true → hasEnds (linkIn bytes i) v w ≡ true → (joinedBy bytes 0 low v w || joinedBy bytes 64 high v w) ≡ true
 
-    pub two-here : (i : ℕ) → bit (joined low high) i ≡ true → ends (linkIn bytes i) v w ≡ true → (joinedBy bytes 0 low v w || joinedBy bytes 64 high v w) ≡ true
+    pub two-here : (i : ℕ) → bit (joined low high) i ≡ true → hasEnds (linkIn bytes i) v w ≡ true → (joinedBy bytes 0 low v w || joinedBy bytes 64 high v w) ≡ true
     unfolding Here
     two-here i = at (decLt i 64)
       where
         lower : i < 64 → Here i
         lower l b e =
             or-left (joinedBy bytes 0 low v w) _
-            (any-here (λ i. bit low i && ends (linkIn bytes (0 + i)) v w) 64 i l (and-both (bit low i) _ (sym (bit-joined-low 64 low high i fl l) ∙ b) (ap (λ (x : ℕ). ends (linkIn bytes x) v w) (zero-add i) ∙ e)))
+            (any-here (λ i. bit low i && hasEnds (linkIn bytes (0 + i)) v w) 64 i l (and-both (bit low i) _ (sym (bit-joined-low 64 low high i fl l) ∙ b) (ap (λ (x : ℕ). hasEnds (linkIn bytes x) v w) (zero-add i) ∙ e)))
 
         upper : (m : ℕ) → Here (64 + m)
         upper m b e =
             let h : bit high m ≡ true = sym (bit-joined-high 64 low high m fl) ∙ b in
             or-right (joinedBy bytes 0 low v w) _
-            (any-here (λ i. bit high i && ends (linkIn bytes (64 + i)) v w) 64 m (bit-below high 64 m fh h) (and-both (bit high m) _ h e))
+            (any-here (λ i. bit high i && hasEnds (linkIn bytes (64 + i)) v w) 64 m (bit-below high 64 m fh h) (and-both (bit high m) _ h e))
 
         at : Dec (i < 64) → Here i
         at (yes l) = lower l

@@ -9,13 +9,12 @@ use lib.ListN.{length}
 use borrow.Author.Tests.{ltb-true, eqb-true}
 use Rattle.sets.specs.Sets.{bit}
 use Rattle.sets.proofs.Bools.{and-left, and-right, or-either, any-found, any-here, same-bool}
-use Rattle.plan.specs.Plan.{Link}
-use Rattle.network.specs.Topology.{Network, nodeWorks, linkWorks, ends, joins, adjacent, WorkingLink}
-use Rattle.plan.specs.Held.{linkAt}
+use Rattle.plan.specs.Plan.{Link, linkAt}
+use Rattle.network.specs.Topology.{Network, nodeWorks, linkWorks, hasEnds, joins, adjacent, WorkingLink}
 
 -- a link joins its ends both ways
-pub ends-sym : (l : Link) (v w : ℕ) → ends l v w ≡ ends l w v
-ends-sym l v w =
+pub has-ends-sym : (l : Link) (v w : ℕ) → hasEnds l v w ≡ hasEnds l w v
+has-ends-sym l v w =
     or-comm (eqb (l .low) v && eqb (l .high) w) (eqb (l .high) v && eqb (l .low) w)
     ∙ ap₂ _||_ (and-comm (eqb (l .high) v) (eqb (l .low) w)) (and-comm (eqb (l .low) v) (eqb (l .high) w))
 
@@ -48,7 +47,7 @@ module _ (net : Network) where
     ap (nodeWorks net) (sym (eqb-true b w (and-right (eqb a v) (eqb b w) h))) ∙ f,
   )
 
-  end-nodes : (i v w : ℕ) → linkWorks net i ≡ true → ends (linkAt (net .links) i) v w ≡ true → (nodeWorks net v ≡ true) × (nodeWorks net w ≡ true)
+  end-nodes : (i v w : ℕ) → linkWorks net i ≡ true → hasEnds (linkAt (net .links) i) v w ≡ true → (nodeWorks net v ≡ true) × (nodeWorks net w ≡ true)
   end-nodes i v w e h =
       let l = linkAt (net .links) i in
       ⊎-elim
@@ -60,13 +59,13 @@ module _ (net : Network) where
   unfolding joins
   link-nodes v w s =
       let up = linkWorks net (s .0) in
-      let at = ends (linkAt (net .links) (s .0)) v w in
+      let at = hasEnds (linkAt (net .links) (s .0)) v w in
       end-nodes (s .0) v w (and-left up at (s .1)) (and-right up at (s .1))
 
   -- a working link joins both ways
   pub link-back : (v w : ℕ) → WorkingLink net v w → WorkingLink net w v
   unfolding joins
-  link-back v w s = (s .0, ap (λ (x : Bool). linkWorks net (s .0) && x) (ends-sym (linkAt (net .links) (s .0)) w v) ∙ s .1)
+  link-back v w s = (s .0, ap (λ (x : Bool). linkWorks net (s .0) && x) (has-ends-sym (linkAt (net .links) (s .0)) w v) ∙ s .1)
 
   -- `adjacent` is true exactly where a working link joins the two nodes
   pub adjacent-link : (v w : ℕ) → adjacent net v w ≡ true → WorkingLink net v w

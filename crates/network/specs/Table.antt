@@ -8,7 +8,7 @@ use lib.Dec.{eqb, ltb}
 use lib.ListN.{getD}
 use Rattle.sets.specs.Sets.{bit, anyBelow}
 use Rattle.plan.specs.Plan.{Link}
-use Rattle.network.specs.Topology.{ends}
+use Rattle.network.specs.Topology.{hasEnds}
 
 -- the link between two nodes
 abbrev pub endsOf : ℕ → ℕ → Link
@@ -20,7 +20,7 @@ linkIn bytes i = endsOf (getD bytes (2 * i + 0) 0) (getD bytes (2 * i + 1) 0)
 
 -- whether a link base + i joins v and w, for an element i of a word
 abbrev pub joinedBy : List ℕ → ℕ → ℕ → ℕ → ℕ → Bool
-joinedBy bytes base set v w = anyBelow (λ i. bit set i && ends (linkIn bytes (base + i)) v w) 64
+joinedBy bytes base set v w = anyBelow (λ i. bit set i && hasEnds (linkIn bytes (base + i)) v w) 64
 
 -- whether v is an end of link i
 abbrev pub isEnd : List ℕ → ℕ → ℕ → Bool

@@ -7,8 +7,7 @@ use Prim.Native.Nat.{ℕ}
 use lib.Dec.{eqb, ltb}
 use lib.ListN.{length}
 use Rattle.sets.specs.Sets.{bit, anyBelow}
-use Rattle.plan.specs.Plan.{Link}
-use Rattle.plan.specs.Held.{linkAt}
+use Rattle.plan.specs.Plan.{Link, linkAt}
 use Rattle.network.specs.Outage.{Outage}
 
 -- a plan's nodes (N) and links, and what has failed of them
@@ -28,12 +27,12 @@ linkWorks net i =
     && (nodeWorks net (linkAt (net .links) i .low) && nodeWorks net (linkAt (net .links) i .high))
 
 -- v and w are the two ends of a link
-abbrev pub ends : Link → ℕ → ℕ → Bool
-ends l v w = (eqb (l .low) v && eqb (l .high) w) || (eqb (l .high) v && eqb (l .low) w)
+abbrev pub hasEnds : Link → ℕ → ℕ → Bool
+hasEnds l v w = (eqb (l .low) v && eqb (l .high) w) || (eqb (l .high) v && eqb (l .low) w)
 
 -- link i works and joins v and w
 unfoldable pub joins : Network → ℕ → ℕ → ℕ → Bool
-joins net i v w = linkWorks net i && ends (linkAt (net .links) i) v w
+joins net i v w = linkWorks net i && hasEnds (linkAt (net .links) i) v w
 
 -- a working link that joins v and w
 abbrev pub WorkingLink : Network → ℕ → ℕ → Type 0

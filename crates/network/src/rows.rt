@@ -7,7 +7,7 @@ ghost use mathlib.Core.Bool.{true, _||_};
 ghost use Prim.Native.Nat.{ℕ, _+_, _<_};
 ghost use lib.ListN.{length, getD};
 ghost use Rattle.sets.specs.Sets.{bit};
-ghost use Rattle.network.specs.Topology.{ends, adjacent};
+ghost use Rattle.network.specs.Topology.{hasEnds, adjacent};
 ghost use Rattle.network.specs.Code.{networkIn};
 ghost use Rattle.plan.specs.Held.{LinksHeld};
 ghost use Rattle.network.specs.Table.{endsOf, joinedBy, LinksAt};
@@ -18,7 +18,7 @@ fn join(rows: &mut [u64; 64], a: usize, b: usize)
     requires { ⌜ (a < 64) × (b < 64) ⌝ }
     ensures size { λ _. ⌜ length (now (rows .exit)) ≡ 64 ⌝ }
     ensures rows { λ _. ⌜ ((v w : ℕ) →
-        bit (getD (now (rows .exit)) v 0) w ≡ (bit (getD (now (rows .entry)) v 0) w || ends (endsOf a b) v w)) ⌝ }
+        bit (getD (now (rows .exit)) v 0) w ≡ (bit (getD (now (rows .entry)) v 0) w || hasEnds (endsOf a b) v w)) ⌝ }
 {
     rows[a] = sets::union(rows[a], sets::only(1, b));
     rows[b] = sets::union(rows[b], sets::only(1, a));

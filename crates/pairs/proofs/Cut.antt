@@ -16,12 +16,12 @@ use Rattle.topology.proofs.Chains.{chain-append, chain-back, chain-keeps}
 use Rattle.topology.specs.Paths.{here}
 use Rattle.topology.specs.RowPaths.{RowPath, Reached}
 use Rattle.pairs.specs.Pairs.{place, pairCount}
-use Rattle.pairs.specs.Adding.{AddingRows, AddedRows, Joined, AddingCut, AddedCut}
+use Rattle.pairs.specs.Adding.{AddingRows, AddedRows, JoinedByRows, AddingCut, AddedCut}
 
 -- what the pair (v, w) is to gain
 pub record Settled (nodes mass : ℕ) (rows : List ℕ) (v w old new : ℕ) : Type 0 where
-  pub joined : Joined nodes rows v w → new ≡ old
-  pub apart : (Joined nodes rows v w → ⊥) → new ≡ old + mass
+  pub joined : JoinedByRows nodes rows v w → new ≡ old
+  pub apart : (JoinedByRows nodes rows v w → ⊥) → new ≡ old + mass
 
 -- in the loop: the pairs of the working nodes that are not left are done, the others untouched, and no path leads out of what is left
 pub record CutTurn (list₀ : List ℕ) (n nodes mass : ℕ) (rows list : List ℕ) (left : ℕ) : Type 0 where
@@ -74,10 +74,10 @@ module _ (list₀ : List ℕ) (n nodes mass : ℕ) (rows list : List ℕ) (left 
     has-first = in-part t here
 
     -- a node of it is joined exactly with its nodes
-    same : (v w : ℕ) → bit part v ≡ true → Joined nodes rows v w → bit part w ≡ true
+    same : (v w : ℕ) → bit part v ≡ true → JoinedByRows nodes rows v w → bit part w ≡ true
     same v w e j = in-part w (chain-append (to v e) (j .1))
 
-    within : (v w : ℕ) → bit part v ≡ true → bit part w ≡ true → Joined nodes rows v w
+    within : (v w : ℕ) → bit part v ≡ true → bit part w ≡ true → JoinedByRows nodes rows v w
     within v w e f = (g .sub v (part-left v e), chain-append (back-way t v (to v e)) (to w f))
 
     module _ (others : ℕ) (rest : (w : ℕ) → bit others w ≡ (bit all w && not (bit part w))) where

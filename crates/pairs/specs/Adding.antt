@@ -37,8 +37,8 @@ pub record AddedRows (n set others mass : ℕ) (list list′ : List ℕ) : Type 
   pub past : (i : ℕ) → pairCount n ≤ i → getD list′ i 0 ≡ getD list i 0
 
 -- v is one of the nodes that work, and a path by the rows of neighbours joins it and w
-abbrev pub Joined : ℕ → List ℕ → ℕ → ℕ → Type 0
-Joined nodes rows v w = (bit nodes v ≡ true) × RowPath rows v w
+abbrev pub JoinedByRows : ℕ → List ℕ → ℕ → ℕ → Type 0
+JoinedByRows nodes rows v w = (bit nodes v ≡ true) × RowPath rows v w
 
 -- all pairs that the rows of neighbours do not join
 pub record AddingCut (n nodes mass : ℕ) (rows list : List ℕ) : Type 0 where
@@ -50,6 +50,6 @@ pub record AddingCut (n nodes mass : ℕ) (rows list : List ℕ) : Type 0 where
 
 pub record AddedCut (n nodes mass : ℕ) (rows list list′ : List ℕ) : Type 0 where
   pub sized : length list′ ≡ 2016
-  pub joined : (v w : ℕ) → v < w → w < n → Joined nodes rows v w → getD list′ (place n v w) 0 ≡ getD list (place n v w) 0
-  pub apart : (v w : ℕ) → v < w → w < n → (Joined nodes rows v w → ⊥) → getD list′ (place n v w) 0 ≡ getD list (place n v w) 0 + mass
+  pub joined : (v w : ℕ) → v < w → w < n → JoinedByRows nodes rows v w → getD list′ (place n v w) 0 ≡ getD list (place n v w) 0
+  pub apart : (v w : ℕ) → v < w → w < n → (JoinedByRows nodes rows v w → ⊥) → getD list′ (place n v w) 0 ≡ getD list (place n v w) 0 + mass
   pub past : (i : ℕ) → pairCount n ≤ i → getD list′ i 0 ≡ getD list i 0

@@ -1,4 +1,4 @@
 -- What the contracts of the crate `pairs` cite.
 pub mod Pairs
 pub mod Adding
-pub mod Giving
+pub mod BoundsFit

@@ -1,6 +1,5 @@
 // Adding a scenario's mass to the entries of the pairs that its topology disconnects. Only those pairs are visited.
 use crate::places::start_of;
-ghost use mathlib.Core.Path.{_≡_};
 ghost use Rattle.pairs.specs.Adding.{AddingRow, AddedRow, AddingRows, AddedRows, AddingCut, AddedCut};
 
 // Adds to the entry start + (w - skip) for each element w of a set.
@@ -16,8 +15,8 @@ fn add_row(lower: &mut [u64; 2016], start: usize, skip: usize, set: u64, mass: u
     }
 }
 
-// Adds to the entries of the pairs of each node of a set, of n nodes, with the nodes after it of another set. Where no node comes after one, none comes
-// after those that are left.
+// Adds to the entries of the pairs of each node of a set, of n nodes, with the nodes after it of another set. Where no node comes after
+// one, none comes after those that are left.
 fn add_rows(lower: &mut [u64; 2016], n: usize, set: u64, others: u64, mass: u64)
     requires { ⌜ AddingRows n set others mass (now lower) ⌝ }
     ensures { λ r. ⌜ AddedRows n set others mass (now (lower .entry)) (now (lower .exit)) ⌝ }

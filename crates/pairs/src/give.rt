@@ -7,7 +7,7 @@ ghost use lib.ListN.{length, getD, take};
 ghost use lib.Seq.{sets};
 ghost use Rattle.mass.specs.Split.{whole};
 ghost use Rattle.pairs.specs.Pairs.{pairCount};
-ghost use Rattle.pairs.specs.Giving.{Giving};
+ghost use Rattle.pairs.specs.BoundsFit.{BoundsFit};
 
 // The first `count` entries, each with `rest` added.
 fn copy_raised(from: &[u64], to: &mut [u64], count: usize, rest: u64)
@@ -24,9 +24,10 @@ fn copy_raised(from: &[u64], to: &mut [u64], count: usize, rest: u64)
 
 // Lays the bounds of all pairs down: the lower ones are the sums, the upper ones add what was not examined.
 pub fn give_bounds(n: usize, mass: u64, sums: &[u64; 2016], lower: &mut [u64], upper: &mut [u64])
-    requires { ⌜ Giving n mass (now sums) (now lower) (now upper) ⌝ }
+    requires { ⌜ BoundsFit n mass (now sums) (now lower) (now upper) ⌝ }
     ensures { λ r. ⌜ now (lower .exit) ≡ sets (now (lower .entry)) 0 (take (pairCount n) (now (sums .entry))) ⌝ }
-    ensures { λ r. ⌜ now (upper .exit) ≡ sets (now (upper .entry)) 0 (map (λ x. (whole - mass) + x) (take (pairCount n) (now (sums .entry)))) ⌝ }
+    ensures { λ r. ⌜ now (upper .exit) ≡ sets (now (upper .entry)) 0
+        (map (λ x. (whole - mass) + x) (take (pairCount n) (now (sums .entry)))) ⌝ }
 {
     let pairs = start_of(n, n);
     lent::copy_words(sums, lower, pairs);

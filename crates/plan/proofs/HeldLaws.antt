@@ -8,7 +8,7 @@ use lib.Dec.{ltb}
 use Rattle.mass.proofs.RefusalLaws.{first-none, refuse-none}
 use Rattle.mass.specs.Split.{certain}
 use Rattle.plan.specs.Plan.{Plan, Event}
-use Rattle.plan.specs.Records.{eventListRefusal, planRefusal}
+use Rattle.plan.specs.LentLists.{eventListRefusal, planRefusal}
 use Rattle.plan.specs.Held.{Falling}
 
 -- law: probabilities that no test refuses never rise

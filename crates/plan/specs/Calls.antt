@@ -2,16 +2,14 @@
 -- For each case of an answer, `readAnswer`, `writeAnswer` and `stepAnswer` say which number and values it stands for.
 -- Assumes nothing.
 use mathlib.Core.List.{List, [], _∷_}
-use Prim.Native.Nat.{ℕ, zero, suc, _+_, _*_, _/_}
-use lib.ListN.{length, getD, take, drop}
+use Prim.Native.Nat.{ℕ, zero, suc, _*_, _/_}
+use lib.ListN.{length, getD}
 use lib.Seq.{sets}
 use Rattle.mass.specs.Refusal.{first}
-use Rattle.plan.specs.Plan.{Plan}
-use Rattle.plan.specs.Lists.{linkBytes, eventWords}
 use Rattle.refusals.specs.Tests.{roomTest}
 use Rattle.plan.specs.Layout.{layout}
-use Rattle.plan.specs.File.{refusal, memberRefusal, planOf, nodesIn, linksIn, eventsIn, thresholdIn, limitIn}
-use Rattle.plan.specs.Records.{listsRefusal, planOfLists}
+use Rattle.plan.specs.File.{refusal, memberRefusal, nodesIn, linksIn, eventsIn, thresholdIn, limitIn}
+use Rattle.plan.specs.LentLists.{listsRefusal, planOfLists}
 use Rattle.plan.specs.declared.Header.{Header}
 use Rattle.plan.specs.declared.Element.{Element}
 use Rattle.plan.specs.declared.Element.the-variants.{Node, Link}
@@ -60,6 +58,10 @@ headerOf b =
 unfoldable pub readRefusal : ℕ → ℕ → List ℕ → ℕ
 readRefusal linkRoom eventRoom b = first (refusal b ∷ roomTest linkRoom (2 * linksIn b) ∷ roomTest eventRoom (eventsIn b) ∷ [])
 
+-- the number with which reading into lent lists is refused: an event takes four words
+abbrev pub readNumber : List ℕ → List ℕ → List ℕ → ℕ
+readNumber s links events = readRefusal (length links) (length events / 4) s
+
 abbrev pub readAnswer : ℕ → Header → Reading
 readAnswer zero header = reading.Accepted header
 readAnswer (suc number) header = reading.Refused (suc number)
@@ -76,6 +78,10 @@ writeRefusal h linkRoom eventRoom links words room =
     (listsRefusal h linkRoom eventRoom links words
     ∷ roomTest room (length (layout (planOfLists h links words)))
     ∷ [])
+
+-- the number with which writing from lent lists is refused
+abbrev pub writeNumber : Header → List ℕ → List ℕ → List ℕ → ℕ
+writeNumber h links events out = writeRefusal h (length links) (length events / 4) links events (length out)
 
 abbrev pub writeAnswer : ℕ → ℕ → Writing
 writeAnswer zero count = writing.Written count

@@ -2,15 +2,11 @@
 -- Assumes nothing.
 use mathlib.Core.List.{List, [], _∷_}
 use Prim.Native.Nat.{ℕ, _<_, _≤_}
-use lib.ListN.{length, getD}
+use lib.ListN.{length}
 use Rattle.mass.specs.Split.{certain}
-use Rattle.plan.specs.Plan.{Link, Event}
+use Rattle.plan.specs.Plan.{Link, Event, linkAt}
 use Rattle.plan.specs.Lists.{linksOf, eventsOf}
 use Rattle.plan.specs.declared.Header.{Header}
-
--- link i of a list
-abbrev pub linkAt : List Link → ℕ → Link
-linkAt links i = getD links i (record { low = 0; high = 0 })
 
 -- both ends of each link are nodes
 abbrev pub EndsBelow : ℕ → List Link → Type 0

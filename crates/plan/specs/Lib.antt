@@ -3,6 +3,6 @@ pub mod Plan
 pub mod Lists
 pub mod Layout
 pub mod File
-pub mod Records
+pub mod LentLists
 pub mod Calls
 pub mod Held

@@ -1,7 +1,7 @@
--- Lent lists: document 01, section "Plan file". Links are handed over as bytes, two for each link as in the file; events as words, four to an
--- event: probability, set of nodes, links 0 to 63, links 64 to 127.
+-- Lent lists: document 01, section "Plan file". Links are handed over as bytes, two for each link as in the file; events as words, four to
+-- an event: probability, set of nodes, links 0 to 63, links 64 to 127.
 -- Assumes nothing.
-use mathlib.Core.List.{List, [], _∷_, _++_}
+use mathlib.Core.List.{List, [], _∷_}
 use Prim.Native.Nat.{ℕ, zero, suc, _/_, _%_, _^_}
 use lib.ListN.{getD, drop}
 use Rattle.sets.specs.Sets.{joined}

@@ -2,6 +2,7 @@
 -- Assumes nothing.
 use mathlib.Core.List.{List}
 use Prim.Native.Nat.{ℕ}
+use lib.ListN.{getD}
 
 -- a link: its end nodes, the smaller number first
 pub record Link : Type 0 where
@@ -14,10 +15,15 @@ pub record Event : Type 0 where
   pub nodes : ℕ
   pub links : ℕ
 
--- a plan: the number of nodes (N), the links, the events, the threshold t in units of mass, and the greatest number of ends of the walk (cap)
+-- a plan: the number of nodes (N), the links, the events, the threshold t in units of mass, and the greatest number of ends of the walk
+-- (cap)
 pub record Plan : Type 0 where
   pub nodes : ℕ
   pub links : List Link
   pub events : List Event
   pub threshold : ℕ
   pub limit : ℕ
+
+-- link i of a list
+abbrev pub linkAt : List Link → ℕ → Link
+linkAt links i = getD links i (record { low = 0; high = 0 })

@@ -13,11 +13,11 @@ use Rattle.readings.specs.Witness.{witnessAnswer}
 use Rattle.readings.specs.Downtime.{downtimeAnswer}
 use Rattle.readings.specs.declared.Shares.{Shares}
 use Rattle.readings.specs.declared.Seconds.{Seconds}
-use Rattle.topologies.specs.Calls.{listedAnswer}
-use Rattle.answers.specs.Answers.{readNumber, writtenNumber, ranNumber, pairedNumber, listedNumber}
-use Rattle.answers.specs.Answers.{figuredNumber, timedNumber, witnessedNumber}
+use Rattle.topology_list.specs.Calls.{listedAnswer}
+use Rattle.answers.specs.Answers.{readingNumber, writtenNumber, ranNumber, pairedNumber, listedNumber, figuredNumber, timedNumber}
+use Rattle.answers.specs.Answers.{witnessedNumber}
 
-pub read-back : (n : ℕ) (h : Header) → readNumber (readAnswer n h) ≡ n
+pub read-back : (n : ℕ) (h : Header) → readingNumber (readAnswer n h) ≡ n
 read-back zero h = refl
 read-back (suc n) h = refl
 

@@ -6,7 +6,7 @@ ghost use Rattle.plan.specs.Calls.{filled, writeAnswer};
 ghost use Rattle.bounds.specs.Bounds.{lowerList, upperList};
 ghost use Rattle.bounds.specs.Calls.{totalsOf, ranAnswer};
 ghost use Rattle.reader.specs.Copying.{copyRefusal};
-ghost use Rattle.runs.specs.Running.{fileNumber};
+ghost use Rattle.record_runs.specs.Running.{fileNumber};
 ghost use Rattle.answers.specs.Laid.{laid};
 ghost use Rattle.answers.specs.Answers.{sizeValues, totalsValues};
 
@@ -23,7 +23,7 @@ pub extern "C" fn probe_run_plan(
     ensures result { λ r. ⌜ now (result .exit) ≡ laid
         (totalsValues (ranAnswer r (totalsOf (planOf (now (plan .entry)))))) (now (result .entry)) ⌝ }
 {
-    answers::give_totals(runs::run_plan(plan, lower, upper), result)
+    answers::give_totals(record_runs::run_plan(plan, lower, upper), result)
 }
 
 #[no_mangle]

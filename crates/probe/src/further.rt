@@ -1,13 +1,13 @@
 // Exports of the further readings. A figure is handed out as 1 and the bits of its two floats.
 use crate::header;
 ghost use mathlib.Core.Path.{_≡_};
-ghost use Rattle.plan.specs.Records.{planOfLists};
+ghost use Rattle.plan.specs.LentLists.{planOfLists};
 ghost use Rattle.bounds.specs.Calls.{pairNumber};
 ghost use Rattle.readings.specs.Figure.{figureOf};
 ghost use Rattle.readings.specs.Witness.{witnessNumber};
 ghost use Rattle.readings.specs.Downtime.{downtimeAnswer, downtimeRefusal, secondsOf};
 ghost use Rattle.answers.specs.Laid.{laid};
-ghost use Rattle.answers.specs.Answers.{headerWith, figureValues, secondsValues, Handed};
+ghost use Rattle.answers.specs.Answers.{headerWith, figureValues, secondsValues, WitnessHanded};
 
 #[no_mangle]
 pub extern "C" fn probe_figure(
@@ -47,7 +47,7 @@ pub extern "C" fn probe_witness(
 ) -> u32
     ensures number { λ r. ⌜ r ≡ witnessNumber (headerWith nodes «links_count» «events_count» threshold limit)
         (now (links .entry)) (now (events .entry)) v w ⌝ }
-    ensures result { λ r. ⌜ Handed
+    ensures result { λ r. ⌜ WitnessHanded
         (planOfLists (headerWith nodes «links_count» «events_count» threshold limit) (now (links .entry)) (now (events .entry))) v w
         r (now (result .entry)) (now (result .exit)) ⌝ }
 {

@@ -4,7 +4,7 @@
 // Assumes nothing.
 mod by_records;
 mod further;
-mod topology_list;
+mod list;
 
 use plan::Header;
 ghost use mathlib.Core.Path.{_≡_};
@@ -13,7 +13,7 @@ ghost use lib.ListN.{length};
 ghost use Rattle.plan.specs.File.{refusal, planOf};
 ghost use Rattle.plan.specs.Layout.{layout};
 ghost use Rattle.plan.specs.Lists.{linkBytes, eventWords};
-ghost use Rattle.plan.specs.Records.{planOfLists};
+ghost use Rattle.plan.specs.LentLists.{planOfLists};
 ghost use Rattle.plan.specs.Calls.{filled, headerOf, readRefusal, readAnswer, writeRefusal, writeAnswer};
 ghost use Rattle.bounds.specs.Bounds.{lowerList, upperList};
 ghost use Rattle.bounds.specs.Calls.{totalsOf, ranAnswer, runNumber, boundsOf, pairAnswer, pairNumber};

@@ -13,15 +13,15 @@ use Rattle.plan.specs.Lists.{linkBytes, eventsOf}
 use Rattle.plan.specs.Layout.{layout, Bytes}
 use Rattle.refusals.specs.Tests.{roomTest}
 use Rattle.plan.specs.File.{refusal, planOf, nodesIn, linksIn, eventsIn}
-use Rattle.plan.specs.Records.{planOfLists, listsRefusal, planRefusal, eventListRefusal}
+use Rattle.plan.specs.LentLists.{planOfLists, listsRefusal, planRefusal, eventListRefusal}
 use Rattle.plan.specs.Calls.{filled, headerOf, headerIn, readRefusal, readAnswer, writeRefusal, writeAnswer}
 use Rattle.plan.specs.declared.Header.{Header}
 use Rattle.plan.specs.declared.Reading.{Reading}
 use Rattle.plan.specs.declared.Writing.{Writing}
 use Rattle.plan.proofs.FileLawsAccepted.{accepted-counts}
 use Rattle.layout.proofs.LayoutFile.{file-none, valid-none}
-use Rattle.layout.proofs.ListTheorems.{length-links-of, read-denotes}
-use Rattle.layout.proofs.Theorems.{read-writes-again}
+use Rattle.layout.proofs.ListLaws.{length-links-of}
+use Rattle.layout.proofs.Theorems.{read-denotes, read-writes-again}
 use Rattle.files.proofs.ReaderLawsAnswer.{length-links}
 use Rattle.writer.proofs.WriterAnswer.{Outcome}
 use Rattle.records.specs.Events.{wordsOf}

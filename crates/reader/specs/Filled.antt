@@ -2,8 +2,10 @@
 -- Assumes nothing.
 use mathlib.Core.List.{List, [], _∷_}
 use Prim.Native.Nat.{ℕ, zero, suc, _/_, _%_, _^_}
+use lib.ListN.{length}
 use lib.Seq.{sets}
 use Rattle.plan.specs.Plan as plan
+use Rattle.plan.specs.Calls.{readRefusal}
 use Rattle.records.specs.declared.Event.{Event}
 
 -- the record of an event of a plan, and those of a list of events
@@ -19,6 +21,10 @@ recordOf e =
 unfoldable pub eventRecords : List plan.Event → List Event
 eventRecords [] = []
 eventRecords (e ∷ es) = recordOf e ∷ eventRecords es
+
+-- the number with which reading into a lent list of records is refused: a record holds an event
+abbrev pub recordsNumber : List ℕ → List ℕ → List Event → ℕ
+recordsNumber s links events = readRefusal (length links) (length events) s
 
 -- what a call leaves in a lent list of records: with number 0 the records laid down from the start, else the list as it was
 abbrev pub filledRecords : ℕ → List Event → List Event → List Event

@@ -22,7 +22,8 @@ pub fn answer_of(answer: Reading, written: Writing) -> Writing
 // Reads a plan into a list of records of its own, and writes it again: the bytes that are accepted are copied. A refusal changes nothing.
 pub fn copy_plan(s: &[u8], out: &mut [u8]) -> Writing
     ensures answer { λ r. ⌜ r ≡ writeAnswer (copyRefusal (now (s .entry)) (length (now (out .entry)))) (length (now (s .entry))) ⌝ }
-    ensures out { λ r. ⌜ now (out .exit) ≡ filled (copyRefusal (now (s .entry)) (length (now (out .entry)))) (now (s .entry)) (now (out .entry)) ⌝ }
+    ensures out { λ r. ⌜ now (out .exit) ≡ filled (copyRefusal (now (s .entry)) (length (now (out .entry))))
+        (now (s .entry)) (now (out .entry)) ⌝ }
 {
     let mut links = [0u8; 256];
     let mut events = [Event {

@@ -1,6 +1,6 @@
-// A reader that keeps the caller's bytes and its position in them together, and hands the events over as a lent list of records: document 01, section
-// "Plan file". Every function that takes a list of records, or a reader, is proved by hand; each is thin over covered functions on slices, arrays and
-// numbers. Assumes nothing.
+// A reader that keeps the caller's bytes and its position in them together, and hands the events over as a lent list of records: document
+// 01, section "Plan file". Every function that takes a list of records, or a reader, is proved by hand; each is thin over covered
+// functions on slices, arrays and numbers. Assumes nothing.
 mod copying;
 mod words;
 
@@ -12,11 +12,11 @@ use records::fill;
 use words::events_in;
 use words::read_words_at;
 ghost use mathlib.Core.Path.{_≡_};
-ghost use lib.ListN.{length, drop};
+ghost use lib.ListN.{drop};
 ghost use Rattle.plan.specs.Lists.{linkBytes};
 ghost use Rattle.plan.specs.File.{planOf};
-ghost use Rattle.plan.specs.Calls.{filled, headerOf, readRefusal, readAnswer, stepOf};
-ghost use Rattle.reader.specs.Filled.{eventRecords, filledRecords};
+ghost use Rattle.plan.specs.Calls.{filled, headerOf, readAnswer, stepOf};
+ghost use Rattle.reader.specs.Filled.{eventRecords, recordsNumber, filledRecords};
 
 pub struct Reader<'a> {
     pub src: &'a [u8],
@@ -38,17 +38,17 @@ impl<'a> Reader<'a> {
         plan::member_at(self.src, self.at, nodes, links, least)
     }
 
-    // Reads the plan that begins at the reader's position into lent lists: the links' bytes, and a record to an event. A refusal changes nothing; a
-    // position past the end leaves no byte, and 1 is given.
+    // Reads the plan that begins at the reader's position into lent lists: the links' bytes, and a record to an event. A refusal changes
+    // nothing; a position past the end leaves no byte, and 1 is given.
     pub fn read(self, links: &mut [u8], events: &mut [Event]) -> Reading
         ensures answer { λ r. ⌜ r ≡ readAnswer
-            (readRefusal (length (now (links .entry))) (length (now (events .entry))) (drop (self .entry .at) (now (self .entry .src))))
+            (recordsNumber (drop (self .entry .at) (now (self .entry .src))) (now (links .entry)) (now (events .entry)))
             (headerOf (drop (self .entry .at) (now (self .entry .src)))) ⌝ }
         ensures links { λ r. ⌜ now (links .exit) ≡ filled
-            (readRefusal (length (now (links .entry))) (length (now (events .entry))) (drop (self .entry .at) (now (self .entry .src))))
+            (recordsNumber (drop (self .entry .at) (now (self .entry .src))) (now (links .entry)) (now (events .entry)))
             (linkBytes ((planOf (drop (self .entry .at) (now (self .entry .src)))) .links)) (now (links .entry)) ⌝ }
         ensures events { λ r. ⌜ now (events .exit) ≡ filledRecords
-            (readRefusal (length (now (links .entry))) (length (now (events .entry))) (drop (self .entry .at) (now (self .entry .src))))
+            (recordsNumber (drop (self .entry .at) (now (self .entry .src))) (now (links .entry)) (now (events .entry)))
             (eventRecords ((planOf (drop (self .entry .at) (now (self .entry .src)))) .events)) (now (events .entry)) ⌝ }
     {
         let mut words = [0u64; 512];
@@ -68,9 +68,11 @@ pub fn read_member(s: &[u8], at: usize, nodes: u64, links: u64, least: u64) -> S
 
 // Reads a plan into lent lists: the links' bytes, and a record to an event. A refusal changes nothing.
 pub fn read_records(s: &[u8], links: &mut [u8], events: &mut [Event]) -> Reading
-    ensures answer { λ r. ⌜ r ≡ readAnswer (readRefusal (length (now (links .entry))) (length (now (events .entry))) (now (s .entry))) (headerOf (now (s .entry))) ⌝ }
-    ensures links { λ r. ⌜ now (links .exit) ≡ filled (readRefusal (length (now (links .entry))) (length (now (events .entry))) (now (s .entry))) (linkBytes ((planOf (now (s .entry))) .links)) (now (links .entry)) ⌝ }
-    ensures events { λ r. ⌜ now (events .exit) ≡ filledRecords (readRefusal (length (now (links .entry))) (length (now (events .entry))) (now (s .entry))) (eventRecords ((planOf (now (s .entry))) .events)) (now (events .entry)) ⌝ }
+    ensures answer { λ r. ⌜ r ≡ readAnswer (recordsNumber (now (s .entry)) (now (links .entry)) (now (events .entry))) (headerOf (now (s .entry))) ⌝ }
+    ensures links { λ r. ⌜ now (links .exit) ≡ filled (recordsNumber (now (s .entry)) (now (links .entry)) (now (events .entry)))
+        (linkBytes ((planOf (now (s .entry))) .links)) (now (links .entry)) ⌝ }
+    ensures events { λ r. ⌜ now (events .exit) ≡ filledRecords (recordsNumber (now (s .entry)) (now (links .entry)) (now (events .entry)))
+        (eventRecords ((planOf (now (s .entry))) .events)) (now (events .entry)) ⌝ }
 {
     Reader::new(s, 0).read(links, events)
 }

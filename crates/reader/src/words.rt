@@ -6,8 +6,8 @@ ghost use Rattle.plan.specs.Lists.{linkBytes, eventWords};
 ghost use Rattle.plan.specs.File.{planOf};
 ghost use Rattle.plan.specs.Calls.{filled, headerOf, headerIn, readRefusal, readAnswer};
 
-// Reads the plan that begins at a position into a lent list of bytes and an array of words, where the lent list of events has room for `event_room` of
-// them.
+// Reads the plan that begins at a position into a lent list of bytes and an array of words, where the lent list of events has room for
+// `event_room` of them.
 pub fn read_words_at(
     s: &[u8],
     at: usize,

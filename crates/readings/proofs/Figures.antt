@@ -10,9 +10,9 @@ use lib.ListN.{length}
 use lib.Ieee.{Float, binary64, add, mul, div, ofInt, ofBits, inFloat}
 use Rattle.mass.specs.Split.{certain, whole}
 use Rattle.plan.specs.Plan.{Plan}
-use Rattle.plan.specs.Records.{planOfLists, planRefusal}
+use Rattle.plan.specs.LentLists.{planOfLists, planRefusal}
 use Rattle.plan.specs.declared.Header.{Header}
-use Rattle.layout.proofs.ListTheorems.{lists-denote}
+use Rattle.layout.proofs.Theorems.{lists-denote}
 use Rattle.walk.specs.Walk.{massExamined}
 use Rattle.walk.proofs.Valid.{plan-probable}
 use Rattle.sums.proofs.BoundsLaws.{upper-le}

@@ -1,8 +1,7 @@
 -- Laws that the proofs of the crate `readings` share.
-pub mod Told
+pub mod Refusing
 pub mod Seek
-pub mod Shown
+pub mod WitnessPromise
 pub mod Figures
 pub mod FigureLaws
-pub mod DowntimeLaws
-pub mod WitnessLaws
+pub mod Theorems

@@ -9,7 +9,7 @@ use Rattle.mass.specs.Refusal.{refuse}
 use Rattle.sets.specs.Sets.{joined}
 use Rattle.plan.specs.Plan.{Plan}
 use Rattle.plan.specs.Lists.{linksOf, eventsOf}
-use Rattle.plan.specs.Records.{planOfLists}
+use Rattle.plan.specs.LentLists.{planOfLists}
 use Rattle.plan.specs.declared.Header.{Header}
 use Rattle.network.specs.Outage.{Outage, outageOf}
 use Rattle.network.specs.Topology.{networkOf}
@@ -24,7 +24,8 @@ use Rattle.walk.specs.declared.Failing.{Failing}
 use Rattle.walk.specs.declared.Step.{Step}
 use Rattle.walk.proofs.Resume.{scenarios-found, scenarios-none}
 use Rattle.bounds.specs.Bounds.{intact, cuts}
-use Rattle.readings.specs.Witness.{some, noneTest, witnessAnswer, failingIn, reached, Searched, Seeking}
+use Rattle.readings.specs.Witness.{some, noneTest, witnessAnswer, failingIn}
+use Rattle.readings.specs.Search.{reached, Searched, Seeking}
 use Rattle.readings.specs.declared.Witnessed.{Witnessed}
 use Rattle.readings.specs.declared.Witnessed.the-variants as witnessed
 

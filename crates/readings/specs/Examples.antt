@@ -38,7 +38,8 @@ unfolding ends disconnected via nodeWorks linkWorks joins adjacent anyBelow unio
 example-none = (refl, refl, refl, refl)
 
 -- the witness of marked plan 2 is event 0 alone, the set of value 1
-example-shown : Shows (line 100000000 100000000000000000 100) 0 1 (examined (line 100000000 100000000000000000 100)) (record { low = 1; high = 0 })
+example-shown : Shows (line 100000000 100000000000000000 100) 0 1
+    (examined (line 100000000 100000000000000000 100)) (record { low = 1; high = 0 })
 unfolding ends disconnected via nodeWorks linkWorks joins adjacent anyBelow unionOf bit
 example-shown = record { scenario = true ∷ []; failing = refl; member = refl; disconnects = refl }
 

@@ -3,3 +3,4 @@ pub mod Downtime
 pub mod Witness
 pub mod Figure
 pub mod Examples
+pub mod Search

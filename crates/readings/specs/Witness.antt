@@ -3,22 +3,19 @@
 use mathlib.Core.Path.{_≡_}
 use mathlib.Core.Bool.{Bool, true, false, not, _||_}
 use mathlib.Core.List.{List, [], _∷_}
-use Prim.Native.Nat.{ℕ, zero, suc, _/_, _<_}
-use lib.ListN.{length, take}
+use Prim.Native.Nat.{ℕ, zero, suc, _/_}
+use lib.ListN.{length}
 use Rattle.mass.specs.Refusal.{refuse, first}
 use Rattle.sets.specs.Sets.{joined}
 use Rattle.plan.specs.Plan.{Plan}
-use Rattle.plan.specs.Records.{listsRefusal, planOfLists}
+use Rattle.plan.specs.LentLists.{listsRefusal, planOfLists}
 use Rattle.plan.specs.declared.Header.{Header}
 use Rattle.walk.specs.Scenario.{Scenario, number}
-use Rattle.walk.specs.Ends.{scenarios}
 use Rattle.walk.specs.Member.{among}
 use Rattle.walk.specs.Walk.{examined}
-use Rattle.walk.specs.Stack.{toCome, Stack}
 use Rattle.walk.specs.declared.Failing.{Failing}
 use Rattle.bounds.specs.Bounds.{cuts}
 use Rattle.pairs.specs.Pairs.{pairTest}
-use Rattle.plan.specs.Held.{Held}
 use Rattle.readings.specs.declared.Witnessed.{Witnessed}
 use Rattle.readings.specs.declared.Witnessed.the-variants as witnessed
 
@@ -60,22 +57,3 @@ pub record Shows (p : Plan) (v w : ℕ) (list : List Scenario) (set : Failing) :
   pub failing : joined (set .low) (set .high) ≡ number scenario
   pub member : among scenario list ≡ true
   pub disconnects : cuts p v w scenario ≡ true
-
--- what a search for a witness among the scenarios of a list answers, where it is refused with a number, 0 if it is not
-pub record Answers (p : Plan) (v w : ℕ) (list : List Scenario) (number : ℕ) (r : Witnessed) : Type 0 where
-  pub answer : r ≡ witnessAnswer number (failingIn r)
-  pub found : number ≡ 0 → Shows p v w list (failingIn r)
-
--- what a search among the scenarios of a list answers, where nothing else is tested
-abbrev pub Searched : Plan → ℕ → ℕ → List Scenario → Witnessed → Type 0
-Searched p v w list r = Answers p v w list (noneTest p v w list) r
-
--- the relevant scenarios among the next k ends of a walk
-abbrev pub reached : Header → List ℕ → ℕ → List ℕ → ℕ → List Scenario
-reached h words at stack k = scenarios (take k (toCome (h .events) (h .threshold) words at stack))
-
--- what a search asks: lists of a valid plan, a stack that denotes the ends to come, and two nodes
-pub record Seeking (h : Header) (links words : List ℕ) (at : ℕ) (stack : List ℕ) (v w : ℕ) : Type 0 where
-  pub held : Held h links words
-  pub stacked : Stack (h .events) at stack
-  pub inside : (v < 64) × (w < 64)

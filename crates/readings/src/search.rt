@@ -6,14 +6,14 @@ use walk::Failing;
 ghost use mathlib.Core.Path.{_≡_};
 ghost use Prim.Native.Nat.{_^_, _<_};
 ghost use Rattle.sets.specs.Sets.{joined};
-ghost use Rattle.plan.specs.Records.{planOfLists};
+ghost use Rattle.plan.specs.LentLists.{planOfLists};
 ghost use Rattle.walk.specs.Scenario.{scenarioOf};
 ghost use Rattle.walk.specs.Walk.{examined};
 ghost use Rattle.network.specs.Table.{LinksAt};
 ghost use Rattle.bounds.specs.Bounds.{cuts};
 ghost use Rattle.plan.specs.Held.{Held};
-ghost use Rattle.readings.specs.Witness.{reached, Seeking, Searched};
-ghost use Rattle.readings.specs.Witness.{witnessNumber, witnessAnswer, failingIn, Shows, Answers};
+ghost use Rattle.readings.specs.Witness.{witnessNumber, witnessAnswer, failingIn, Shows};
+ghost use Rattle.readings.specs.Search.{reached, Seeking, Searched};
 
 // Whether the topology of a scenario, by its failing events, disconnects the pair.
 fn cut_by(

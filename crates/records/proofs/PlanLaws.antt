@@ -18,7 +18,7 @@ use Rattle.plan.specs.Plan.{Plan}
 use Rattle.plan.specs.Lists.{linksOf, eventsOf}
 use Rattle.plan.specs.Layout.{layout}
 use Rattle.refusals.specs.Tests.{roomTest}
-use Rattle.plan.specs.Records.{planOfLists, listsRefusal, linkListRefusal, eventListRefusal}
+use Rattle.plan.specs.LentLists.{planOfLists, listsRefusal, linkListRefusal, eventListRefusal}
 use Rattle.plan.specs.Calls.{filled, writeRefusal, writeAnswer}
 use Rattle.plan.specs.declared.Header.{Header}
 use Rattle.plan.specs.declared.Writing.{Writing}

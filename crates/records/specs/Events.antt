@@ -1,14 +1,25 @@
--- Lists of records of events: document 01, section "Plan file". A record is four words: probability, set of nodes, links 0 to 63, links 64 to 127.
+-- Lists of records of events: document 01, section "Plan file". A record is four words: probability, set of nodes, links 0 to 63, links 64
+-- to 127.
 -- Assumes nothing.
 use mathlib.Core.List.{List, [], _∷_}
-use Prim.Native.Nat.{ℕ, zero, suc}
-use lib.ListN.{getD, drop}
+use Prim.Native.Nat.{ℕ, zero, suc, min, _*_}
+use lib.ListN.{length, getD, take, drop}
+use Rattle.plan.specs.Calls.{writeRefusal}
+use Rattle.plan.specs.declared.Header.{Header}
 use Rattle.records.specs.declared.Event.{Event}
 
 -- the words of a list of records
 unfoldable pub wordsOf : List Event → List ℕ
 wordsOf [] = []
 wordsOf (e ∷ es) = e .probability ∷ e .nodes ∷ e .«links_low» ∷ e .«links_high» ∷ wordsOf es
+
+-- the number with which writing from a lent list of records is refused: a record holds an event
+abbrev pub writeRecordsNumber : Header → List ℕ → List Event → List ℕ → ℕ
+writeRecordsNumber h links events out = writeRefusal h (length links) (length events) links (wordsOf events) (length out)
+
+-- the words of the first `count` events that stand in an array of 128
+abbrev pub wordsUsed : ℕ → List ℕ → List ℕ
+wordsUsed count words = take (4 * min count 128) words
 
 -- the record whose words stand first in a list of words
 abbrev pub recordIn : List ℕ → Event

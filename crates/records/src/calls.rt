@@ -4,14 +4,15 @@ use crate::lists::flatten;
 use plan::Header;
 use plan::Writing;
 ghost use mathlib.Core.Path.{_≡_};
-ghost use Prim.Native.Nat.{_*_, _/_, min};
-ghost use lib.ListN.{length, take};
+ghost use Prim.Native.Nat.{_*_};
+ghost use lib.ListN.{length};
 ghost use Rattle.plan.specs.Layout.{layout};
-ghost use Rattle.plan.specs.Records.{planOfLists};
-ghost use Rattle.plan.specs.Calls.{filled, writeRefusal, writeAnswer};
-ghost use Rattle.records.specs.Events.{wordsOf};
+ghost use Rattle.plan.specs.LentLists.{planOfLists};
+ghost use Rattle.plan.specs.Calls.{filled, writeNumber, writeAnswer};
+ghost use Rattle.records.specs.Events.{wordsOf, wordsUsed, writeRecordsNumber};
 
-// Writes a plan whose events stand in an array of words: the lent list of events has `count` of them, of which the first 128 stand in the array.
+// Writes a plan whose events stand in an array of words: the lent list of events has `count` of them, of which the first 128 stand in the
+// array.
 pub fn write_words(
     h: Header,
     links: &[u8],
@@ -20,13 +21,11 @@ pub fn write_words(
     out: &mut [u8],
 ) -> Writing
     ensures { λ r. ⌜ r ≡ writeAnswer
-        (writeRefusal h (length (now (links .entry))) (length (take (4 * min count 128) (now (words .entry))) / 4)
-        (now (links .entry)) (take (4 * min count 128) (now (words .entry))) (length (now (out .entry))))
-        (length (layout (planOfLists h (now (links .entry)) (take (4 * min count 128) (now (words .entry)))))) ⌝ }
+        (writeNumber h (now (links .entry)) (wordsUsed count (now (words .entry))) (now (out .entry)))
+        (length (layout (planOfLists h (now (links .entry)) (wordsUsed count (now (words .entry)))))) ⌝ }
     ensures { λ r. ⌜ now (out .exit) ≡ filled
-        (writeRefusal h (length (now (links .entry))) (length (take (4 * min count 128) (now (words .entry))) / 4)
-        (now (links .entry)) (take (4 * min count 128) (now (words .entry))) (length (now (out .entry))))
-        (layout (planOfLists h (now (links .entry)) (take (4 * min count 128) (now (words .entry))))) (now (out .entry)) ⌝ }
+        (writeNumber h (now (links .entry)) (wordsUsed count (now (words .entry))) (now (out .entry)))
+        (layout (planOfLists h (now (links .entry)) (wordsUsed count (now (words .entry))))) (now (out .entry)) ⌝ }
 {
     let used = 4 * lent::smaller(count, 128);
     let all = &words[..];
@@ -36,10 +35,10 @@ pub fn write_words(
 // Writes a plan from lent lists: links two bytes each, events a record each.
 pub fn write_records(h: Header, links: &[u8], events: &[Event], out: &mut [u8]) -> Writing
     ensures { λ r. ⌜ r ≡ writeAnswer
-        (writeRefusal h (length (now (links .entry))) (length (now (events .entry))) (now (links .entry)) (wordsOf (now (events .entry))) (length (now (out .entry))))
+        (writeRecordsNumber h (now (links .entry)) (now (events .entry)) (now (out .entry)))
         (length (layout (planOfLists h (now (links .entry)) (wordsOf (now (events .entry)))))) ⌝ }
     ensures { λ r. ⌜ now (out .exit) ≡ filled
-        (writeRefusal h (length (now (links .entry))) (length (now (events .entry))) (now (links .entry)) (wordsOf (now (events .entry))) (length (now (out .entry))))
+        (writeRecordsNumber h (now (links .entry)) (now (events .entry)) (now (out .entry)))
         (layout (planOfLists h (now (links .entry)) (wordsOf (now (events .entry))))) (now (out .entry)) ⌝ }
 {
     let mut words = [0u64; 512];

@@ -5,15 +5,16 @@ use mathlib.Core.List.{List, [], _∷_, _++_, append-nil, append-assoc}
 use Prim.Native.Nat.{ℕ, zero, suc, _+_, _-_, _*_, _/_, _^_, _≤_, _<_}
 use native.Mathlib.Omega.{arith}
 use lib.ListN.{length, take, drop, length-append}
-use Rattle.layout.proofs.ListTheorems.{length-links-of}
+use Rattle.layout.proofs.ListLaws.{length-links-of}
 use Rattle.lent.proofs.ListLaws.{eventAt, events-next}
 use Rattle.sets.specs.Sets.{joined}
 use Rattle.plan.specs.Plan.{Plan, Link, Event}
 use Rattle.plan.specs.Lists.{linksOf, eventOf, eventsOf, linkBytes}
-use Rattle.plan.specs.Records.{planOfLists}
+use Rattle.plan.specs.LentLists.{planOfLists}
 use Rattle.plan.specs.declared.Header.{Header}
 use Rattle.plan.specs.Layout.{little, elements, memberBytes, members, memberCount, eventBytes, headerBytes, layout}
-use Rattle.sizes.proofs.ElementLaws.{length-from, length-most, link-elements, members-counted, memberBytes-append, length-memberBytes}
+use Rattle.sizes.proofs.ElementLaws.{length-from, length-most, link-elements, members-counted, memberBytes-append}
+use Rattle.sizes.proofs.ElementLaws.{length-memberBytes}
 
 pub length-little : (width x : ℕ) → length (little width x) ≡ width
 unfolding little

@@ -12,7 +12,7 @@ use Rattle.plan.specs.Held.{Probabilities}
 use Rattle.sets.specs.Sets.{digit}
 use Rattle.walk.specs.Walk.{firstEnds, massExamined, count}
 use Rattle.walk.proofs.EndsLaws.{count-sum}
-use Rattle.walk.proofs.Laws.{massExamined-le}
+use Rattle.walk.proofs.Theorems.{massExamined-le}
 use Rattle.sums.specs.Exact.{scale, exactCut, exactMissed}
 use Rattle.sums.proofs.Enclosure.{Enclosed, enclosure, weighed-split, one-or-other}
 use Rattle.sums.specs.Bounds.{lower, connected, upper, Demand3}

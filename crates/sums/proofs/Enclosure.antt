@@ -49,14 +49,14 @@ seen-both e events xs ys w =
 
 -- from above: the exact sum over the scenarios of the list is at most the sum of weights times 10^(9n), since no set has more units than that;
 -- and m times it is at most the weighed masses and, for the units lost, n times the sum of weights
-pub record Above (m : ℕ) (events : List Event) (list : List End) (w : Scenario → ℕ) : Type 0 where
+pub record UpperSide (m : ℕ) (events : List Event) (list : List End) (w : Scenario → ℕ) : Type 0 where
   pub spread : exactSum events (λ s. seen list s * w s) ≤ sumEnds (λ s x. w s) list * scale (length events)
   pub mass : m * exactSum events (λ s. seen list s * w s) ≤ (weighed w list + length events * sumEnds (λ s x. w s) list) * scale (length events)
 
-above-none : (m : ℕ) (events : List Event) (list : List End) (w : Scenario → ℕ) → exactSum events (λ s. seen list s * w s) ≡ 0 → Above m events list w
+above-none : (m : ℕ) (events : List Event) (list : List End) (w : Scenario → ℕ) → exactSum events (λ s. seen list s * w s) ≡ 0 → UpperSide m events list w
 above-none m events list w none = record { spread = omega arith; mass = omega (arith, ap (λ (x : ℕ). m * x) none) }
 
-above-leaf : (m : ℕ) (w : Scenario → ℕ) → Above m [] (relevant [] m ∷ []) w
+above-leaf : (m : ℕ) (w : Scenario → ℕ) → UpperSide m [] (relevant [] m ∷ []) w
 above-leaf m w =
     record {
       spread = rw (scale-zero, exactSum-none (λ s. seen (relevant [] m ∷ []) s * w s)) (omega arith);
@@ -64,8 +64,8 @@ above-leaf m w =
     }
 
 above-node : (m : ℕ) (e : Event) (events : List Event) (xs ys : List End) (w : Scenario → ℕ) → e .probability ≤ certain
-    → Above (working m (e .probability)) events xs (λ s. w (false ∷ s)) → Above (failing m (e .probability)) events ys (λ s. w (true ∷ s))
-    → Above m (e ∷ events) (both xs ys) w
+    → UpperSide (working m (e .probability)) events xs (λ s. w (false ∷ s)) → UpperSide (failing m (e .probability)) events ys (λ s. w (true ∷ s))
+    → UpperSide m (e ∷ events) (both xs ys) w
 above-node m e events xs ys w q works fails =
     record {
       spread =
@@ -109,11 +109,11 @@ module _ (t : ℕ) where
       )))
 
   -- law: from above, for any weight
-  pub upper-bound : (k m : ℕ) (events : List Event) → Probabilities events → (w : Scenario → ℕ) → Above m events (take k (ends t m events)) w
+  pub upper-bound : (k m : ℕ) (events : List Event) → Probabilities events → (w : Scenario → ℕ) → UpperSide m events (take k (ends t m events)) w
   upper-bound =
       first-ends
       t
-      (λ m events list. Probabilities events → (w : Scenario → ℕ) → Above m events list w)
+      (λ m events list. Probabilities events → (w : Scenario → ℕ) → UpperSide m events list w)
       (λ m events p w. above-none m events [] w (seen-none events w))
       (λ m events h p w. above-none m events (dropped ∷ []) w (seen-none events w))
       (λ m h p w. above-leaf m w)

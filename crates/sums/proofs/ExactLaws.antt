@@ -9,7 +9,7 @@ use native.Mathlib.Omega.{arith}
 use lib.ListN.{length}
 use lib.Pow.{pow-add}
 use Rattle.mass.specs.Split.{certain}
-use Rattle.mass.proofs.Laws.{products}
+use Rattle.mass.proofs.Theorems.{products}
 use Rattle.plan.specs.Plan.{Event}
 use Rattle.walk.specs.Scenario.{Scenario}
 use Rattle.plan.specs.Held.{Probabilities}

@@ -4,7 +4,7 @@ use mathlib.Core.Path.{_≡_}
 use mathlib.Core.Bool.{Bool}
 use lib.ListN.{length}
 use Rattle.plan.specs.Plan.{Plan}
-use Rattle.plan.specs.Records.{planRefusal}
+use Rattle.plan.specs.LentLists.{planRefusal}
 use Rattle.walk.specs.Scenario.{Scenario}
 use Rattle.walk.specs.Walk.{count}
 use Rattle.walk.proofs.Valid.{plan-probable}

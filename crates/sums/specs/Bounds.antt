@@ -35,19 +35,20 @@ pub record Demand3 (n lower upper d r count : ℕ) : Type 0 where
 
 -- examples: one event of probability 1/10 that cuts the pair, with room for both ends of the walk and for one
 abbrev example : ℕ → Plan
-example limit = record { nodes = 2; links = []; events = record { probability = 100000000; nodes = 0; links = 1 } ∷ []; threshold = 1; limit = limit }
+example limit =
+    record { nodes = 2; links = []; events = record { probability = 100000000; nodes = 0; links = 1 } ∷ []; threshold = 1; limit = limit }
 
-abbrev cuts : Scenario → Bool
-cuts s = getD s 0 false
+abbrev firstFails : Scenario → Bool
+firstFails s = getD s 0 false
 
-example-both : (lower (example 2) cuts ≡ 100000000000000000) × (upper (example 2) cuts ≡ 100000000000000000)
+example-both : (lower (example 2) firstFails ≡ 100000000000000000) × (upper (example 2) firstFails ≡ 100000000000000000)
 unfolding ends
 example-both = (refl, refl)
 
-example-one : (lower (example 1) cuts ≡ 0) × (upper (example 1) cuts ≡ 100000000000000000)
+example-one : (lower (example 1) firstFails ≡ 0) × (upper (example 1) firstFails ≡ 100000000000000000)
 unfolding ends
 example-one = (refl, refl)
 
-example-exact : (exactCut (example 2) cuts ≡ 100000000) × (exactMissed (example 2) ≡ 0) × (exactMissed (example 1) ≡ 100000000)
+example-exact : (exactCut (example 2) firstFails ≡ 100000000) × (exactMissed (example 2) ≡ 0) × (exactMissed (example 1) ≡ 100000000)
 unfolding ends exactSum
 example-exact = (refl, refl, refl)

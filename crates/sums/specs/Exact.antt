@@ -20,8 +20,8 @@ abbrev pub factor : Bool → ℕ → ℕ
 factor true q = q
 factor false q = certain - q
 
--- the exact probability of a set in units of 10^-9n: the product over the n events (1 if n = 0); a list that is too short is no set of these
--- events
+-- the exact probability of a set in units of 10^-9n: the product over the n events (1 if n = 0); a list that is too short is no set of
+-- these events
 abbrev pub exact : List Event → Scenario → ℕ
 exact [] s = 1
 exact (e ∷ events) [] = 0

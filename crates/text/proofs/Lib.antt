@@ -5,3 +5,4 @@ pub mod TextLaws
 pub mod MostLaws
 pub mod Examples
 pub mod DecimalLaws
+pub mod Theorems

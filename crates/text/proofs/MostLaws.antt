@@ -1,41 +1,35 @@
 -- No listing is longer than 92,789 bytes: 2,016 lines of 46 bytes, and a first line of 53.
 -- Assumes nothing.
-use mathlib.Core.Path.{_≡_, refl, sym, ap, subst, _∙_}
+use mathlib.Core.Path.{_≡_, sym, ap, _∙_}
 use mathlib.Core.Bool.{Bool, true, false, not, _||_, _&&_}
 use mathlib.Core.List.{List, [], _∷_}
 use Prim.Native.Nat.{ℕ, zero, suc, _+_, _-_, _*_, _^_, _<_, _≤_}
 use native.Mathlib.Omega.{arith}
-use borrow.Author.Tests.{ltb-false, le-ltb}
+use borrow.Author.Tests.{ltb-false}
 use lib.Dec.{ltb, leb, eqb}
-use lib.ListN.{length, getD, take, drop, length-append, replicate, length-replicate}
-use lib.Seq.{take-all}
+use lib.ListN.{length, getD, drop, length-append}
 use Rattle.mass.specs.Refusal.{refuse, first}
 use Rattle.mass.proofs.RefusalLaws.{refuse-none}
 use Rattle.mass.specs.Split.{whole, certain, probabilityTest}
 use Rattle.plan.specs.Plan.{Plan}
-use Rattle.plan.specs.Layout.{Bytes}
 use Rattle.refusals.specs.Tests.{shortTest, markTest, versionTest, countsTest, thresholdTest, limitTest, endsTest, orderTest, memberTest}
-use Rattle.refusals.specs.Tests.{countOfKind, rank, roomTest}
+use Rattle.refusals.specs.Tests.{countOfKind, rank}
 use Rattle.plan.specs.File.{headerRefusal, linksRefusal, memberRefusal, membersRefusal, eventRefusal, eventsRefusal, refusal, planOf}
 use Rattle.plan.specs.File.{nodesIn, linksIn, eventsIn, versionIn, thresholdIn, limitIn, probabilityIn, membersIn, eventSize}
-use Rattle.plan.specs.Records.{planRefusal}
+use Rattle.plan.specs.LentLists.{planRefusal}
 use Rattle.refusals.proofs.TestLaws.{counts-none, Ranges, or-none}
 use Rattle.layout.proofs.LayoutFile.{valid-none}
-use Rattle.layout.proofs.Theorems.{read-writes-again, longest, prefix-decides}
 use Rattle.sets.specs.Sets.{digit}
 use Rattle.walk.specs.Walk.{count, complete, massExamined, planEnds}
-use Rattle.walk.proofs.Laws.{massExamined-le, count-le}
+use Rattle.walk.proofs.Theorems.{massExamined-le, count-le}
 use Rattle.walk.proofs.Valid.{plan-probable}
 use Rattle.sums.proofs.BoundsLaws.{upper-le, lower-upper}
 use Rattle.pairs.specs.Pairs.{start}
 use Rattle.pairs.proofs.PairLaws.{start-suc, start-zero, pairs-most}
 use Rattle.bounds.specs.Bounds.{cuts, lowerOf, upperOf}
-use Rattle.input.proofs.LoadedLaws.{bytes-each}
 use Rattle.text.proofs.DecimalLaws.{decimal-most}
 use Rattle.text.specs.Listing.{field, line, rowText, rowsText, pairsText, pairLine, planText, answerText, listing}
-use Rattle.text.specs.Calls.{listedAnswer}
-use Rattle.text.specs.declared.Listed.the-variants as listed
-use Rattle.text.proofs.FieldLaws.{field-long, line-long, head-long, refused-long}
+use Rattle.text.proofs.FieldLaws.{field-long, line-long, head-long}
 
 -- ---- no file is refused with a number above 11
 
@@ -134,13 +128,13 @@ refusal-most b =
 
 -- ---- refused files
 
-refused-same : (b c : List ℕ) (n : ℕ) → refusal b ≡ suc n → refusal c ≡ suc n → listing c ≡ listing b
+pub refused-same : (b c : List ℕ) (n : ℕ) → refusal b ≡ suc n → refusal c ≡ suc n → listing c ≡ listing b
 unfolding listing answerText
 refused-same b c n e f = ap (λ (k : ℕ). answerText k (planOf c)) f ∙ sym (ap (λ (k : ℕ). answerText k (planOf b)) e)
 
 -- ---- the lines of a plan
 
-field-most : (k x end : ℕ) → x < 10 ^ suc k → length (field x end) ≤ suc (suc k)
+pub field-most : (k x end : ℕ) → x < 10 ^ suc k → length (field x end) ≤ suc (suc k)
 field-most k x end h = omega (arith, field-long x end, decimal-most k x h)
 
 module _ (f : ℕ → ℕ → List ℕ) (n : ℕ) (most : (v w : ℕ) → v < w → w < n → length (f v w) ≤ 46) where
@@ -221,31 +215,3 @@ module _ (p : Plan) (valid : planRefusal p ≡ 0) where
       let rows = pairs-most-long (pairLine p) (p .nodes) pair-most (ranges .nodes-fit) in
       rw (length-append (line (p .nodes ∷ length (p .links) ∷ length (p .events) ∷ count p ∷ complete p ∷ massExamined p ∷ [])) (pairsText (pairLine p) (p .nodes)))
       (omega (arith, head, rows))
-
--- THE LONGEST LISTING: the program's buffer has this length
-pub listing-most : (b : List ℕ) → Bytes b → length (listing b) ≤ 92789
-unfolding listing answerText
-listing-most b bytes = go (refusal b) refl
-  where
-    go : (n : ℕ) → refusal b ≡ n → length (answerText n (planOf b)) ≤ 92789
-    go zero e = plan-most (planOf b) (read-writes-again b bytes e .0)
-    go (suc n) e =
-        let small : suc n ≤ 11 = subst (λ (x : ℕ). x ≤ 11) e (refusal-most b) in
-        omega (arith, refused-long (suc n), field-most 1 (suc n) 10 (omega arith))
-
--- an array of that length has room for every listing
-pub array-room : (b : List ℕ) → ((i : ℕ) → getD b i 0 < 256) → length (listing b) ≤ length (replicate {A = ℕ} 92789 0)
-array-room b bytes =
-    subst (λ (k : ℕ). length (listing b) ≤ k) (sym (length-replicate {A = ℕ} 92789 0)) (listing-most b (bytes-each b bytes))
-
--- a buffer of that length is never refused
-pub program-holds : (b : List ℕ) → Bytes b → listedAnswer (roomTest 92789 (length (listing b))) (length (listing b)) ≡ listed.Text (length (listing b))
-program-holds b bytes = rw (le-ltb 92789 (length (listing b)) (listing-most b bytes))
-
--- the listing of any list of bytes is that of its first 50,070: they decide a refusal, and an accepted list has no more
-pub listing-prefix : (b : List ℕ) → listing (take 50070 b) ≡ listing b
-listing-prefix b = go (refusal b) refl
-  where
-    go : (n : ℕ) → refusal b ≡ n → listing (take 50070 b) ≡ listing b
-    go zero e = ap listing (take-all 50070 b (omega (arith, longest b e)))
-    go (suc n) e = refused-same b (take 50070 b) n e (prefix-decides b ∙ e)

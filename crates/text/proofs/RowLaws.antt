@@ -12,7 +12,7 @@ use Rattle.pairs.specs.Pairs.{place, start}
 use Rattle.pairs.proofs.PairLaws.{place-is, place-lt, pairs-most}
 use Rattle.text.specs.Listing.{line, rowText, rowsText, pairsText}
 use Rattle.text.specs.Sums.{sumLine}
-use Rattle.text.proofs.FieldLaws.{Laid}
+use Rattle.text.proofs.FieldLaws.{TextLaid}
 
 -- ---- what is left of a text to be laid down
 
@@ -29,7 +29,7 @@ module _ (out₀ : List ℕ) (at : ℕ) (all out : List ℕ) (i : ℕ) where
   pub left-room : (a rest : List ℕ) → Left out₀ at all out i (a ++ rest) → at + length all ≤ length out₀ → i + length a ≤ length out
   left-room a rest l h = omega (arith, l .sized, l .ends, length-append a rest)
 
-  pub left-next : (a rest out′ : List ℕ) (i′ : ℕ) → Left out₀ at all out i (a ++ rest) → Laid out i a out′ i′ → length out′ ≡ length out
+  pub left-next : (a rest out′ : List ℕ) (i′ : ℕ) → Left out₀ at all out i (a ++ rest) → TextLaid out i a out′ i′ → length out′ ≡ length out
       → Left out₀ at all out′ i′ rest
   left-next a rest out′ i′ l e k =
       record {
@@ -38,7 +38,7 @@ module _ (out₀ : List ℕ) (at : ℕ) (all out : List ℕ) (i : ℕ) where
         same = sets-then a rest out out′ i i′ (e .0) (e .1) ∙ l .same;
       }
 
-  pub left-end : (rest : List ℕ) → rest ≡ [] → Left out₀ at all out i rest → Laid out₀ at all out i
+  pub left-end : (rest : List ℕ) → rest ≡ [] → Left out₀ at all out i rest → TextLaid out₀ at all out i
   left-end rest e l =
       let m = subst (λ (x : List ℕ). Left out₀ at all out i x) e l in (m .same, omega (arith, m .ends))
 

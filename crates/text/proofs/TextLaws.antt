@@ -11,25 +11,26 @@ use Rattle.mass.specs.Split.{whole}
 use Rattle.plan.specs.Plan.{Plan}
 use Rattle.refusals.specs.Tests.{roomTest}
 use Rattle.plan.specs.File.{refusal, planOf}
-use Rattle.plan.specs.Records.{planRefusal, planOfLists, listsRefusal}
+use Rattle.plan.specs.LentLists.{planRefusal, planOfLists, listsRefusal}
 use Rattle.plan.specs.Calls.{filled, headerOf, readAnswer}
 use Rattle.plan.specs.declared.Header.{Header}
 use Rattle.plan.specs.declared.Reading.the-variants as reading
-use Rattle.layout.proofs.ListTheorems.{length-links-of, length-events-of}
+use Rattle.layout.proofs.ListLaws.{length-links-of, length-events-of}
 use Rattle.files.proofs.ReaderLawsAnswer.{take-sets}
 use Rattle.walk.specs.Walk.{count, complete, massExamined}
 use Rattle.pairs.specs.Pairs.{place}
 use Rattle.bounds.specs.Bounds.{lowerOf}
-use Rattle.pairs.specs.Giving.{Giving}
-use Rattle.bounds.specs.Calls.{totalsOf, Summed}
+use Rattle.pairs.specs.BoundsFit.{BoundsFit}
+use Rattle.bounds.specs.Calls.{totalsOf}
+use Rattle.bounds.specs.Tallied.{Summed}
 use Rattle.bounds.specs.declared.Totals.{Totals}
 use Rattle.bounds.proofs.Answers.{raised}
 use Rattle.input.specs.Loaded.{Loaded}
 use Rattle.text.specs.Listing.{line, rowText, rowsText, pairsText, pairLine, planText, refusedText, answerText, listing}
 use Rattle.text.specs.Sums.{Listable, sumLine, headLine, sumsText}
-use Rattle.text.specs.Calls.{listedAnswer}
-use Rattle.text.specs.declared.Listed.the-variants as listed
-use Rattle.text.proofs.FieldLaws.{Laid, then}
+use Rattle.text.specs.Calls.{formattedAnswer}
+use Rattle.text.specs.declared.Formatted.the-variants as formatted
+use Rattle.text.proofs.FieldLaws.{TextLaid, then}
 
 -- ---- the first line and the rows
 
@@ -40,7 +41,7 @@ sums-long h t sums = length-append (headLine h t) _
 
 pub sums-laid : (h : Header) (t : Totals) (sums out out₁ out₂ : List ℕ) (at r : ℕ)
     → (out₁ ≡ sets out 0 (headLine h t)) × (at ≡ length (headLine h t))
-    → Laid out₁ at (pairsText (sumLine (h .nodes) (whole - t .mass) sums) (h .nodes)) out₂ r
+    → TextLaid out₁ at (pairsText (sumLine (h .nodes) (whole - t .mass) sums) (h .nodes)) out₂ r
     → (out₂ ≡ sets out 0 (sumsText h t sums)) × (r ≡ length (sumsText h t sums))
 unfolding sumsText
 sums-laid h t sums out out₁ out₂ at r e f =
@@ -48,7 +49,7 @@ sums-laid h t sums out out₁ out₂ at r e f =
     then out out₁ out₂ 0 at r (headLine h t) (pairsText (sumLine (h .nodes) (whole - t .mass) sums) (h .nodes)) (e .0, omega (arith, e .1)) f in
     (l .0, omega (arith, l .1))
 
-pub listable : (n mass : ℕ) (sums : List ℕ) → Giving n mass sums sums sums → Listable n (whole - mass) sums
+pub listable : (n mass : ℕ) (sums : List ℕ) → BoundsFit n mass sums sums sums → Listable n (whole - mass) sums
 listable n mass sums g = record { few = g .few; sized = g .sized; fits = λ i. omega (arith, g .below i) }
 
 -- ---- texts that are the same for each pair
@@ -134,17 +135,17 @@ module _ (b links words : List ℕ) (h : Header) (e : reading.Accepted h ≡ rea
 -- ---- the answer
 
 pub short-answer : (room size : ℕ) (out text : List ℕ) → room < size
-    → (listed.Refused 12 ≡ listedAnswer (roomTest room size) size) × ((out ≡ filled (roomTest room size) text out) × (0 ≤ length out))
+    → (formatted.Refused 12 ≡ formattedAnswer (roomTest room size) size) × ((out ≡ filled (roomTest room size) text out) × (0 ≤ length out))
 short-answer room size out text h = rw (lt-ltb room size h) (refl, (refl, omega arith))
 
 pub text-answer : (size : ℕ) (buffer made text out out′ : List ℕ) → length text ≤ length buffer
     → made ≡ sets buffer 0 text → size ≡ length text → size ≤ length out → out′ ≡ sets out 0 (take size made)
-    → (listed.Text size ≡ listedAnswer (roomTest (length out) (length text)) (length text))
+    → (formatted.Text size ≡ formattedAnswer (roomTest (length out) (length text)) (length text))
     × ((out′ ≡ filled (roomTest (length out) (length text)) text out) × (size ≤ length out′))
 text-answer size buffer made text out out′ fit m s room e =
     let copy : take size made ≡ text = ap₂ (λ (n : ℕ) (x : List ℕ). take n x) s m ∙ take-sets buffer text fit in
     let enough : length text ≤ length out = omega arith in
-    rw (le-ltb (length out) (length text) enough) (ap listed.Text s, (e ∙ ap (sets out 0) copy, omega (arith, ap length e, length-sets out 0 (take size made))))
+    rw (le-ltb (length out) (length text) enough) (ap formatted.Text s, (e ∙ ap (sets out 0) copy, omega (arith, ap length e, length-sets out 0 (take size made))))
 
 -- what was laid down has room where it was laid down
 pub size-kept : (buffer made text : List ℕ) (size : ℕ) → made ≡ sets buffer 0 text → size ≡ length text → length text ≤ length buffer → size ≤ length made

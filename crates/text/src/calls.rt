@@ -1,5 +1,5 @@
 // The listing of a plan file.
-use crate::Listed;
+use crate::Formatted;
 use crate::fields::put_refused;
 use crate::rows::put_plan;
 use plan::Header;
@@ -9,10 +9,10 @@ ghost use Prim.Native.Nat.{_≤_};
 ghost use lib.ListN.{length};
 ghost use lib.Seq.{sets};
 ghost use Rattle.refusals.specs.Tests.{roomTest};
-ghost use Rattle.plan.specs.Records.{planOfLists, listsRefusal};
+ghost use Rattle.plan.specs.LentLists.{planOfLists, listsRefusal};
 ghost use Rattle.plan.specs.Calls.{filled};
 ghost use Rattle.text.specs.Listing.{planText, listing};
-ghost use Rattle.text.specs.Calls.{listedAnswer, sizeIn};
+ghost use Rattle.text.specs.Calls.{formattedAnswer, sizeIn};
 
 // The listing of a plan that stands in arrays and is accepted.
 fn put_accepted(out: &mut [u8], h: Header, links: &[u8; 256], words: &[u64; 512]) -> usize
@@ -42,8 +42,8 @@ fn put_listing(s: &[u8], out: &mut [u8]) -> usize
 
 // Lays down the listing of a plan file, and answers how many bytes it has; 12, and nothing is changed, where the buffer is too short. The
 // text is made in an array that holds the longest listing.
-pub fn listing_text(plan: &[u8], out: &mut [u8]) -> Listed
-    ensures answer { λ r. ⌜ r ≡ listedAnswer
+pub fn listing_text(plan: &[u8], out: &mut [u8]) -> Formatted
+    ensures answer { λ r. ⌜ r ≡ formattedAnswer
         (roomTest (length (now (out .entry))) (length (listing (now (plan .entry)))))
         (length (listing (now (plan .entry)))) ⌝ }
     ensures bytes { λ r. ⌜ now (out .exit) ≡ filled
@@ -54,8 +54,8 @@ pub fn listing_text(plan: &[u8], out: &mut [u8]) -> Listed
     let mut text = [0u8; 92789];
     let size = put_listing(plan, &mut text);
     if out.len() < size {
-        return Listed::Refused(12);
+        return Formatted::Refused(12);
     }
     lent::copy_bytes(&text, out, size);
-    Listed::Text(size)
+    Formatted::Text(size)
 }

@@ -7,7 +7,7 @@ ghost use mathlib.Core.Path.{_≡_};
 ghost use Prim.Native.Nat.{_+_, _-_, _≤_, _<_};
 ghost use lib.ListN.{length};
 ghost use lib.Seq.{sets};
-ghost use Rattle.pairs.specs.Giving.{Giving};
+ghost use Rattle.pairs.specs.BoundsFit.{BoundsFit};
 ghost use Rattle.text.specs.Listing.{line, rowText, pairsText};
 ghost use Rattle.text.specs.Sums.{Listable, sumLine, headLine, sumsText};
 
@@ -65,7 +65,7 @@ pub fn put_head(out: &mut [u8], h: Header, t: Totals) -> usize
 
 // The lines of a plan, from what the run gave.
 pub fn put_plan(out: &mut [u8], h: Header, t: Totals, sums: &[u64; 2016]) -> usize
-    requires { ⌜ Giving (h .nodes) (t .mass) (now sums) (now sums) (now sums) ⌝ }
+    requires { ⌜ BoundsFit (h .nodes) (t .mass) (now sums) (now sums) (now sums) ⌝ }
     requires { ⌜ length (sumsText h t (now sums)) ≤ length (now out) ⌝ }
     ensures { λ r. ⌜ (now (out .exit) ≡ sets (now (out .entry)) 0 (sumsText h t (now (sums .entry))))
         × (r ≡ length (sumsText h t (now (sums .entry)))) ⌝ }

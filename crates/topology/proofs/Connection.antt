@@ -8,9 +8,9 @@ use native.Mathlib.Omega.{arith}
 use native.Mathlib.Decide.{decLt}
 use lib.Dec.{eqb}
 use borrow.Author.Tests.{eqb-true, eq-eqb, not-false}
-use Rattle.sets.proofs.Bools.{and-left, and-right, and-both, or-either, or-left, or-right, which, clash}
+use Rattle.sets.proofs.Bools.{and-left, and-right, and-both, or-either, or-left, or-right}
 use Rattle.network.specs.Topology.{Network, nodeWorks, adjacent}
-use Rattle.topology.specs.Paths.{here, more, WorkingPath, Disconnected, via, disconnected}
+use Rattle.topology.specs.Paths.{here, more, WorkingPath, via, disconnected}
 use Rattle.topology.proofs.Chains.{chain-append}
 use Rattle.network.proofs.Works.{node-below, link-nodes, adjacent-link, link-adjacent}
 
@@ -113,22 +113,3 @@ module _ (net : Network) where
 
       back : (nodeWorks net v ≡ true) × (nodeWorks net w ≡ true) × WorkingPath net v w → not (both && path) ≡ false
       back h = ap not (and-both both path (and-both (nodeWorks net v) (nodeWorks net w) (h .0) (h .1)) (path-via (h .2)))
-
-  -- true exactly where they are disconnected
-  pub disconnected-is : (v w : ℕ) → (disconnected net v w ≡ true) ↔ Disconnected net v w
-  disconnected-is v w = (there, back)
-    where
-      there : disconnected net v w ≡ true → Disconnected net v w
-      there e =
-          ⊎-elim
-          (λ a. ⊎-elim (λ b. inr (inr (λ p. clash e (connected-is v w .1 (a, b, p))))) (λ b. inr (inl b)) (which (nodeWorks net w)))
-          (λ a. inl a)
-          (which (nodeWorks net v))
-
-      refuted : Disconnected net v w → (nodeWorks net v ≡ true) × (nodeWorks net w ≡ true) × WorkingPath net v w → ⊥
-      refuted (inl a) h = clash (h .0) a
-      refuted (inr (inl b)) h = clash (h .1) b
-      refuted (inr (inr n)) h = n (h .2)
-
-      back : Disconnected net v w → disconnected net v w ≡ true
-      back d = ⊎-elim (λ e. e) (λ e. absurd (refuted d (connected-is v w .0 e))) (which (disconnected net v w))

@@ -2,7 +2,8 @@
 pub mod Gather
 pub mod Round
 pub mod Shares
-pub mod Shown
+pub mod RowLinks
 pub mod Chains
 pub mod Connection
 pub mod Laws
+pub mod Theorems

@@ -1,8 +1,7 @@
-// The test program of the check of a plan file past its header: document 01, "Plan file" and "Refused".
-// A header is 20 bytes: RSG, version 1, nodes, links, events, the threshold in 8 bytes and the cap in 4, here 1 and 100
-// unless the vector is about them.
-// Each expected value stands beside its vector, taken from document 01 or worked out by hand; a difference is printed, and `trials ended` is the last
-// line. The stored output is that line alone.
+// The test program of the check of a plan file past its header: document 01, "Plan file" and "Refused". A header is 20 bytes: RSG, version
+// 1, nodes, links, events, the threshold in 8 bytes and the cap in 4, here 1 and 100 unless the vector is about them. Each expected value
+// stands beside its vector, taken from document 01 or worked out by hand; a difference is printed, and `trials ended` is the last line.
+// The stored output is that line alone.
 use vectors::same;
 
 fn main() {

@@ -1,7 +1,6 @@
-// The test program of the conditional figure, its floats by their bits, and of the downtime: document 01, "Further readings of a plan".
-// A mass is in units of 10^-18.
-// Each expected value stands beside its vector, taken from document 01 or worked out by hand; a difference is printed, and `trials ended` is the last
-// line. The stored output is that line alone.
+// The test program of the conditional figure, its floats by their bits, and of the downtime: document 01, "Further readings of a plan". A
+// mass is in units of 10^-18. Each expected value stands beside its vector, taken from document 01 or worked out by hand; a difference is
+// printed, and `trials ended` is the last line. The stored output is that line alone.
 use plan::Header;
 use readings::Figured;
 use readings::Shares;

@@ -91,8 +91,8 @@ pub fn top_bits() {
     );
 }
 
-// Links 63 (21-43) and 64 (21-44) of `many_links`, the last of the low word and the first of the high word, with nodes 21, 43 and 44 alone up:
-// 2^21 + 2^43 + 2^44 = 26,388,281,163,776, and 2^64 - 1 less that is 18,446,717,685,428,387,839.
+// Links 63 (21-43) and 64 (21-44) of `many_links`, the last of the low word and the first of the high word, with nodes 21, 43 and 44 alone
+// up: 2^21 + 2^43 + 2^44 = 26,388,281,163,776, and 2^64 - 1 less that is 18,446,717,685,428,387,839.
 pub fn word_ends() {
     let l = many_links();
     let down = 18_446_717_685_428_387_839;

@@ -90,8 +90,8 @@ pub fn islands() {
     pair(b"two islands", 5, &l, 3, failed(0, 0, 0), 0, 3, 1);
 }
 
-// Links 63 (21-43) and 64 (21-44) of `many_links`, the last of the low word and the first of the high word, with nodes 21, 43 and 44 alone up:
-// 2^64 - 1 less 2^21 + 2^43 + 2^44 is 18,446,717,685,428,387,839. Node 43 reaches node 44 by node 21, over both links.
+// Links 63 (21-43) and 64 (21-44) of `many_links`, the last of the low word and the first of the high word, with nodes 21, 43 and 44 alone
+// up: 2^64 - 1 less 2^21 + 2^43 + 2^44 is 18,446,717,685,428,387,839. Node 43 reaches node 44 by node 21, over both links.
 pub fn word_end_pairs() {
     let l = many_links();
     let down = 18_446_717_685_428_387_839;

@@ -1,7 +1,6 @@
-// The test program of copying a plan by way of records: what is accepted is copied byte for byte, and a refusal changes nothing.
-// The output holds a pattern, byte 170, before the call.
-// Each expected value stands beside its vector, taken from document 01 or worked out by hand; a difference is printed, and `trials ended` is the last
-// line. The stored output is that line alone.
+// The test program of copying a plan by way of records: what is accepted is copied byte for byte, and a refusal changes nothing. The
+// output holds a pattern, byte 170, before the call. Each expected value stands beside its vector, taken from document 01 or worked out by
+// hand; a difference is printed, and `trials ended` is the last line. The stored output is that line alone.
 use plan::Writing;
 use vectors::BYTE;
 use vectors::all_bytes;

@@ -1,7 +1,6 @@
-// The test program of plans that are written and read: document 01, "Plan file".
-// Lists and outputs hold a pattern, byte 170 and word 77, before the call.
-// Each expected value stands beside its vector, taken from document 01 or worked out by hand; a difference is printed, and `trials ended` is the last
-// line. The stored output is that line alone.
+// The test program of plans that are written and read: document 01, "Plan file". Lists and outputs hold a pattern, byte 170 and word 77,
+// before the call. Each expected value stands beside its vector, taken from document 01 or worked out by hand; a difference is printed,
+// and `trials ended` is the last line. The stored output is that line alone.
 use vectors::BYTE;
 use vectors::WORD;
 use vectors::accepted;
@@ -39,8 +38,8 @@ fn read_then_written() {
     same_bytes(b"what was read and written again", &out, &large_file());
 }
 
-// The longest plan, 50,068 bytes (document 01): 20, 256 for the links, and 128 events of 5 bytes and 192 members. What is written reads back
-// equal.
+// The longest plan, 50,068 bytes (document 01): 20, 256 for the links, and 128 events of 5 bytes and 192 members. What is written reads
+// back equal.
 fn longest() {
     let mut out = [BYTE; 50069];
     let answer = writer::write(

@@ -1,7 +1,6 @@
-// The test program of the reader's steps: the member that stands at a position, by the kind and the number of its element.
-// Document 01, "Plan file".
-// Each expected value stands beside its vector, taken from document 01 or worked out by hand; a difference is printed, and `trials ended` is the last
-// line. The stored output is that line alone.
+// The test program of the reader's steps: the member that stands at a position, by the kind and the number of its element. Document 01,
+// "Plan file". Each expected value stands beside its vector, taken from document 01 or worked out by hand; a difference is printed, and
+// `trials ended` is the last line. The stored output is that line alone.
 use plan::Element;
 use plan::Step;
 use vectors::same;

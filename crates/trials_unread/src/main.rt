@@ -1,7 +1,6 @@
-// The test program of what the reader refuses: document 01, "Plan file" and "Refused".
-// Lists hold a pattern, byte 170 and word 77, before the call.
-// Each expected value stands beside its vector, taken from document 01 or worked out by hand; a difference is printed, and `trials ended` is the last
-// line. The stored output is that line alone.
+// The test program of what the reader refuses: document 01, "Plan file" and "Refused". Lists hold a pattern, byte 170 and word 77, before
+// the call. Each expected value stands beside its vector, taken from document 01 or worked out by hand; a difference is printed, and
+// `trials ended` is the last line. The stored output is that line alone.
 use plan::Reading;
 use vectors::BYTE;
 use vectors::WORD;

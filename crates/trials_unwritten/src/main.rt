@@ -1,7 +1,6 @@
-// The test program of what the writer refuses: document 01, "Refused".
-// The output holds a pattern, byte 170, and is left as it was.
-// Each expected value stands beside its vector, taken from document 01 or worked out by hand; a difference is printed, and `trials ended` is the last
-// line. The stored output is that line alone.
+// The test program of what the writer refuses: document 01, "Refused". The output holds a pattern, byte 170, and is left as it was. Each
+// expected value stands beside its vector, taken from document 01 or worked out by hand; a difference is printed, and `trials ended` is
+// the last line. The stored output is that line alone.
 use plan::Header;
 use plan::Writing;
 use vectors::BYTE;

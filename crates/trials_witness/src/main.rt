@@ -1,6 +1,5 @@
-// The test program of the witness: document 01, "Further readings of a plan".
-// Each plan here has one witness only, or none.
-// Each expected value stands beside its vector, taken from document 01 or worked out by hand; a difference is printed, and `trials ended` is the last
+// The test program of the witness: document 01, "Further readings of a plan". Each plan here has one witness only, or none. Each expected
+// value stands beside its vector, taken from document 01 or worked out by hand; a difference is printed, and `trials ended` is the last
 // line. The stored output is that line alone.
 use plan::Header;
 use readings::Witnessed;

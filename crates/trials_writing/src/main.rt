@@ -1,7 +1,6 @@
-// The test program of writing plans from lent lists: document 01, "Plan file".
-// The output holds a pattern, byte 170, before the call.
-// Each expected value stands beside its vector, taken from document 01 or worked out by hand; a difference is printed, and `trials ended` is the last
-// line. The stored output is that line alone.
+// The test program of writing plans from lent lists: document 01, "Plan file". The output holds a pattern, byte 170, before the call. Each
+// expected value stands beside its vector, taken from document 01 or worked out by hand; a difference is printed, and `trials ended` is
+// the last line. The stored output is that line alone.
 use vectors::BYTE;
 use vectors::header;
 use vectors::large_events;

@@ -31,8 +31,9 @@ pub fn many_links() -> [u8; 256] {
     links
 }
 
-// The file of a plan of 64 nodes, these 128 links and two events, with t = 10^18 and cap = 1,000,000: 20 bytes, 256 for the links, 19 for the
-// first event and 7 for the second. The first has q = 10^9, nodes 0 and 63, and links 0, 63, 64, 66 and 127; the second q = 258 and link 65.
+// The file of a plan of 64 nodes, these 128 links and two events, with t = 10^18 and cap = 1,000,000: 20 bytes, 256 for the links, 19 for
+// the first event and 7 for the second. The first has q = 10^9, nodes 0 and 63, and links 0, 63, 64, 66 and 127; the second q = 258 and
+// link 65.
 pub fn large_file() -> [u8; 302] {
     let links = many_links();
     let mut file = [0u8; 302];
@@ -52,7 +53,8 @@ pub fn large_file() -> [u8; 302] {
     file
 }
 
-// The four words of each of those events: 9,223,372,036,854,775,808 is 2^63. In the high word link 64 is bit 0, link 65 bit 1, link 66 bit 2.
+// The four words of each of those events: 9,223,372,036,854,775,808 is 2^63. In the high word link 64 is bit 0, link 65 bit 1, link 66 bit
+// 2.
 pub fn large_events() -> [u64; 8] {
     [
         1_000_000_000,

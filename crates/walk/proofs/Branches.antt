@@ -16,7 +16,7 @@ use Rattle.walk.specs.Scenario.{Scenario, scenarioOf}
 use Rattle.walk.proofs.ScenarioLaws.{scenario-next}
 use Rattle.plan.specs.Held.{Probabilities}
 use Rattle.walk.specs.Pending.{branch}
-use Rattle.walk.specs.Stack.{entry}
+use Rattle.walk.specs.Stack.{branchOf}
 
 -- the events that a list of words denotes
 pub events-length : (count : ℕ) (words : List ℕ) → length (eventsOf count words) ≡ count
@@ -47,7 +47,7 @@ probability-le (suc count) words (suc i) p h =
 
 -- the two branches at the next event, in words
 pub next-works : (depth mass low high q : ℕ) → joined low high < 2 ^ depth
-    → branch (entry depth mass low high) q false ≡ entry (depth + 1) (working mass q) low high
+    → branch (branchOf depth mass low high) q false ≡ branchOf (depth + 1) (working mass q) low high
 next-works depth mass low high q h = ap (λ (s : Scenario). record { path = s; mass = working mass q }) same
   where
     same : scenarioOf depth (joined low high) ++ (false ∷ []) ≡ scenarioOf (depth + 1) (joined low high)
@@ -57,7 +57,7 @@ next-works depth mass low high q h = ap (λ (s : Scenario). record { path = s; m
         same-set = omega arith
 
 pub next-fails : (depth mass low high q low′ high′ : ℕ) → joined low high < 2 ^ depth → joined low′ high′ ≡ joined low high + 2 ^ depth
-    → branch (entry depth mass low high) q true ≡ entry (depth + 1) (failing mass q) low′ high′
+    → branch (branchOf depth mass low high) q true ≡ branchOf (depth + 1) (failing mass q) low′ high′
 next-fails depth mass low high q low′ high′ h e = ap (λ (s : Scenario). record { path = s; mass = failing mass q }) same
   where
     same : scenarioOf depth (joined low high) ++ (true ∷ []) ≡ scenarioOf (depth + 1) (joined low′ high′)

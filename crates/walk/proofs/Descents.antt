@@ -12,7 +12,7 @@ use lib.ListN.{length, getD, drop, replicate, length-drop, drop-of-length-le}
 use lib.Pow.{pow-pos, pow-mono}
 use lib.Seq.{drop-cons}
 use Rattle.mass.specs.Split.{certain, whole, failing, working}
-use Rattle.mass.proofs.Laws.{fails-le, works-le}
+use Rattle.mass.proofs.Theorems.{fails-le, works-le}
 use Rattle.sets.specs.Sets.{joined}
 use Rattle.plan.specs.Plan.{Event}
 use Rattle.plan.specs.Lists.{eventsOf}
@@ -22,10 +22,10 @@ use Rattle.plan.specs.Held.{Falling}
 use Rattle.walk.specs.Ends.{End, dropped, relevant, after, ends}
 use Rattle.walk.proofs.EndsLaws.{ends-cut, ends-leaf}
 use Rattle.walk.specs.Pending.{Branch, branch, branchEnds}
-use Rattle.walk.proofs.StackLaws.{branch-node, pathEnd-cut, pathEnd-enough, path-last, path-cut, path-on, entry-run, entry-branch}
+use Rattle.walk.proofs.StackLaws.{branch-node, pathEnd-cut, pathEnd-enough, path-last, path-cut, path-on, words-run, words-branch}
 use Rattle.walk.proofs.StackLaws.{descent-cut, descent-enough}
 use Rattle.walk.specs.WorksPath.{pathSteps, pathMass, pathEnd}
-use Rattle.walk.specs.Stack.{entry, Entry, toCome, Laid, Entries, Stack}
+use Rattle.walk.specs.Stack.{branchOf, SoundBranch, toCome, SoundEntry, SoundEntries, Stack}
 use Rattle.walk.specs.Steps.{Stopped, Pushed, Delayed, Descended, descentOf}
 use Rattle.walk.specs.declared.Stop.{Stop}
 use Rattle.walk.proofs.Branches.{events-length, events-probability, probability-le, next-works, next-fails}
@@ -98,9 +98,9 @@ module _ (count : ℕ) (words : List ℕ) (falls : Falling certain (eventsOf cou
 
 -- on the way down: a branch in hand, the pending entries on the stack, and the same ends to come as at the start
 pub record Going (count threshold : ℕ) (words : List ℕ) (all : List End) (depth mass low high top : ℕ) (stack : List ℕ) : Type 0 where
-  pub hand : Entry count depth mass low high (length (drop top stack))
+  pub hand : SoundBranch count depth mass low high (length (drop top stack))
   pub held : Stack count top stack
-  pub ahead : all ≡ branchEnds threshold (eventsOf count words) (entry depth mass low high) ++ toCome count threshold words top stack
+  pub ahead : all ≡ branchEnds threshold (eventsOf count words) (branchOf depth mass low high) ++ toCome count threshold words top stack
 
 module _ (count threshold : ℕ) (words : List ℕ) where
   module _ (all : List End) (depth mass low high top : ℕ) (stack : List ℕ) (g : Going count threshold words all depth mass low high top stack) where
@@ -213,7 +213,7 @@ module _ (count threshold : ℕ) (words : List ℕ) where
                 };
             held =
                 record {
-                  whole-entries = omega (arith, g .held .whole-entries, room);
+                  fours = omega (arith, g .held .fours, room);
                   within = omega (arith, g .held .within);
                   sized = d .sized;
                   entries = rw (d .laid, again) (laid, g .held .entries);
@@ -233,7 +233,7 @@ module _ (count threshold : ℕ) (words : List ℕ) where
           path : Scenario
           path = scenarioOf depth (joined low high)
 
-          laid : Laid count (depth + 1) fails (d .setLow) (d .setHigh) (length (drop top stack))
+          laid : SoundEntry count (depth + 1) fails (d .setLow) (d .setHigh) (length (drop top stack))
           laid =
               record {
                 run = λ (z : 128 < depth + 1). omega arith;
@@ -251,42 +251,42 @@ module _ (count threshold : ℕ) (words : List ℕ) where
           same-q : getD events (length path) none .probability ≡ q
           same-q = ap (λ (n : ℕ). getD events n none .probability) (scenario-length depth (joined low high)) ∙ events-probability count words depth none l
 
-          parts : branchEnds threshold events (entry depth mass low high)
-              ≡ branchEnds threshold events (entry (depth + 1) works low high) ++ branchEnds threshold events (entry (depth + 1) fails (d .setLow) (d .setHigh))
+          parts : branchEnds threshold events (branchOf depth mass low high)
+              ≡ branchEnds threshold events (branchOf (depth + 1) works low high) ++ branchEnds threshold events (branchOf (depth + 1) fails (d .setLow) (d .setHigh))
           parts =
-              branch-node threshold events (entry depth mass low high) none h (omega (arith, events-length count words, scenario-length depth (joined low high)))
+              branch-node threshold events (branchOf depth mass low high) none h (omega (arith, events-length count words, scenario-length depth (joined low high)))
               ∙ ap₂ (λ (a b : Branch). branchEnds threshold events a ++ branchEnds threshold events b)
-              (ap (λ (x : ℕ). branch (entry depth mass low high) x false) same-q
+              (ap (λ (x : ℕ). branch (branchOf depth mass low high) x false) same-q
               ∙ next-works depth mass low high q (g .hand .decided)
-              ∙ ap (λ (x : ℕ). entry (depth + 1) x low high) (sym worked))
-              (ap (λ (x : ℕ). branch (entry depth mass low high) x true) same-q
+              ∙ ap (λ (x : ℕ). branchOf (depth + 1) x low high) (sym worked))
+              (ap (λ (x : ℕ). branch (branchOf depth mass low high) x true) same-q
               ∙ next-fails depth mass low high q (d .setLow) (d .setHigh) (g .hand .decided) (d .set)
-              ∙ ap (λ (x : ℕ). entry (depth + 1) x (d .setLow) (d .setHigh)) (sym failed))
+              ∙ ap (λ (x : ℕ). branchOf (depth + 1) x (d .setLow) (d .setHigh)) (sym failed))
 
-          both : branchEnds threshold events (entry depth mass low high) ++ toCome count threshold words top stack
-              ≡ branchEnds threshold events (entry (depth + 1) works low high) ++ toCome count threshold words (top - 4) stack′
-          both = rw (parts, append-assoc, d .laid, again, entry-branch threshold events (depth + 1) fails (d .setLow) (d .setHigh) (omega arith))
+          both : branchEnds threshold events (branchOf depth mass low high) ++ toCome count threshold words top stack
+              ≡ branchEnds threshold events (branchOf (depth + 1) works low high) ++ toCome count threshold words (top - 4) stack′
+          both = rw (parts, append-assoc, d .laid, again, words-branch threshold events (depth + 1) fails (d .setLow) (d .setHigh) (omega arith))
 
   -- the next entry is taken off the stack
   module _ (at : ℕ) (stack : List ℕ) (s : Stack count at stack) (h : at < 512) where
     fits : at + 4 ≤ length stack
-    fits = omega (arith, s .whole-entries, s .sized)
+    fits = omega (arith, s .fours, s .sized)
 
-    laid : Entries count (getD stack at 0 ∷ getD stack (at + 1) 0 ∷ getD stack (at + 2) 0 ∷ getD stack (at + 3) 0 ∷ drop (at + 4) stack)
+    laid : SoundEntries count (getD stack at 0 ∷ getD stack (at + 1) 0 ∷ getD stack (at + 2) 0 ∷ getD stack (at + 3) 0 ∷ drop (at + 4) stack)
     laid = rw (words-at stack at fits) at (s .entries)
 
     pub under : Stack count (at + 4) stack
-    under = record { whole-entries = omega (arith, s .whole-entries); within = omega (arith, s .whole-entries); sized = s .sized; entries = laid .1 }
+    under = record { fours = omega (arith, s .fours); within = omega (arith, s .fours); sized = s .sized; entries = laid .1 }
 
     pub taken : getD stack at 0 ≤ 128
-        → Entry count (getD stack at 0) (getD stack (at + 1) 0) (getD stack (at + 2) 0) (getD stack (at + 3) 0) (length (drop (at + 4) stack))
+        → SoundBranch count (getD stack at 0) (getD stack (at + 1) 0) (getD stack (at + 2) 0) (getD stack (at + 3) 0) (length (drop (at + 4) stack))
     taken l = laid .0 .branch l
 
     pub taken-ends : getD stack at 0 ≤ 128
         → toCome count threshold words at stack
-        ≡ branchEnds threshold (eventsOf count words) (entry (getD stack at 0) (getD stack (at + 1) 0) (getD stack (at + 2) 0) (getD stack (at + 3) 0))
+        ≡ branchEnds threshold (eventsOf count words) (branchOf (getD stack at 0) (getD stack (at + 1) 0) (getD stack (at + 2) 0) (getD stack (at + 3) 0))
         ++ toCome count threshold words (at + 4) stack
-    taken-ends l = rw (words-at stack at fits, entry-branch threshold (eventsOf count words) (getD stack at 0) (getD stack (at + 1) 0) (getD stack (at + 2) 0) (getD stack (at + 3) 0) l)
+    taken-ends l = rw (words-at stack at fits, words-branch threshold (eventsOf count words) (getD stack at 0) (getD stack (at + 1) 0) (getD stack (at + 2) 0) (getD stack (at + 3) 0) l)
 
     pub run-some : 128 < getD stack at 0 → 0 < getD stack (at + 1) 0
     run-some l = laid .0 .run l
@@ -297,7 +297,7 @@ module _ (count threshold : ℕ) (words : List ℕ) where
     taken-run l =
         record {
           ends =
-              rw (words-at stack at fits, entry-run threshold (eventsOf count words) (getD stack at 0) (getD stack (at + 1) 0) (getD stack (at + 2) 0) (getD stack (at + 3) 0) l)
+              rw (words-at stack at fits, words-run threshold (eventsOf count words) (getD stack at 0) (getD stack (at + 1) 0) (getD stack (at + 2) 0) (getD stack (at + 3) 0) l)
               (ap (λ (n : ℕ). replicate n dropped ++ toCome count threshold words (at + 4) stack) more);
           held = under;
           room = λ (z : 0 < getD stack (at + 1) 0 - 1). omega arith;
@@ -316,11 +316,11 @@ pub delayed-some : (number at : ℕ) (stack stack′ : List ℕ) → 0 < number 
     → drop (at - 4) stack′ ≡ 129 ∷ number ∷ 0 ∷ 0 ∷ drop (at - 4 + 4) stack → length stack′ ≡ 512 → Delayed number at stack stack′ (at - 4)
 delayed-some number at stack stack′ some room laid sized =
     record {
-      ahead = λ count threshold words. rw (laid, again, entry-run threshold (eventsOf count words) 129 number 0 0 (omega arith));
+      ahead = λ count threshold words. rw (laid, again, words-run threshold (eventsOf count words) 129 number 0 0 (omega arith));
       held =
           λ count (s : Stack count at stack).
           record {
-            whole-entries = omega (arith, s .whole-entries);
+            fours = omega (arith, s .fours);
             within = omega (arith, s .within);
             sized = sized;
             entries = rw (laid, again) (record { run = λ (z : 128 < 129). some; branch = λ (z : 129 ≤ 128). absurd (omega arith) }, s .entries);

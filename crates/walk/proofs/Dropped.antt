@@ -11,7 +11,7 @@ use lib.Dec.{ltb}
 use lib.ListN.{length, replicate, replicate-append-replicate}
 use borrow.Author.Tests.{ltb-true, ltb-false}
 use Rattle.mass.specs.Split.{certain, failing, working}
-use Rattle.mass.proofs.Laws.{works-le}
+use Rattle.mass.proofs.Theorems.{works-le}
 use Rattle.plan.specs.Plan.{Event}
 use Rattle.walk.specs.Scenario.{Scenario}
 use Rattle.plan.specs.Held.{Falling}

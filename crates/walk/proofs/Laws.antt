@@ -1,28 +1,24 @@
 -- Sanity laws of the walk: what is relevant, what is examined, and how much of it there can be.
 -- Assumes nothing.
-use mathlib.Core.Path.{_≡_, refl, ap, sym, subst₂}
+use mathlib.Core.Path.{_≡_, ap, sym, subst₂}
 use mathlib.Core.Bool.{Bool, true, false}
-use mathlib.Core.Logic.{_≢_, _↔_, ⊎-elim}
+use mathlib.Core.Logic.{_≢_, ⊎-elim}
 use mathlib.Core.List.{List·Nodup, Pairwise·nil, pairwise-singleton, List, [], _∷_, map, List·Memᴰ, List·Memᴰ·head, List·Memᴰ·tail}
 use mathlib.Core.List.{List·Memᴰ·not-nil, List·Memᴰ·cases-cons, List·Memᴰ·append-cases, Memᴰ·of-map, Memᴰ·map, Memᴰ·append-left}
 use mathlib.Core.List.{Memᴰ·append-right}
 use Prim.Native.Nat.{ℕ, suc, _*_, _≤_}
 use native.Mathlib.Omega.{arith}
-use lib.Dec.{leb}
 use lib.ListN.{length, take}
-use lib.Seq.{take-all, take-length}
-use borrow.Author.Tests.{leb-true}
 use Rattle.mass.specs.Split.{whole, failing, working}
-use Rattle.mass.proofs.Laws.{parts-le}
+use Rattle.mass.proofs.Theorems.{parts-le}
 use Rattle.plan.specs.Plan.{Plan, Event}
 use Rattle.walk.specs.Scenario.{Scenario, part, finalMass}
 use Rattle.walk.proofs.ScenarioLaws.{finalMass-le}
 use Rattle.plan.specs.Held.{Probabilities}
-use Rattle.sets.specs.Sets.{digit}
 use Rattle.walk.specs.Ends.{End, dropped, relevant, after, ends, endsAfter, sumEnds, scenarios, both}
-use Rattle.walk.proofs.EndsLaws.{ends-leaf, ends-node, sumEnds-both, scenarios-both, first-ends, count-sum}
-use Rattle.walk.proofs.MemberLaws.{among-member, member-among, distinct-both}
-use Rattle.walk.specs.Walk.{planEnds, firstEnds, examined, isExamined, complete, massExamined, count}
+use Rattle.walk.proofs.EndsLaws.{ends-leaf, ends-node, sumEnds-both, scenarios-both, first-ends}
+use Rattle.walk.proofs.MemberLaws.{among-member, distinct-both}
+use Rattle.walk.specs.Walk.{firstEnds, examined, isExamined}
 
 -- a scenario that the walk from the mass m finds relevant: one entry for each event, and a final mass of at least t
 pub record Relevant (t m : ℕ) (events : List Event) (s : Scenario) (x : ℕ) : Type 0 where
@@ -112,15 +108,6 @@ relevant-all t m (e ∷ events) (true ∷ s) x p r =
     (endsAfter (false ∷ []) t (working m (e .probability)) events)
     (Memᴰ·map (after (true ∷ [])) (relevant-all t (failing m (e .probability)) events s x (p .1) (nearer t m e events true s x r))))
 
--- law: a set is a relevant end of the whole walk exactly where its final mass is at least t, and the mass handed out is that mass
-pub relevant-iff : (p : Plan) → Probabilities (p .events) → (s : Scenario) (x : ℕ)
-    → List·Memᴰ (relevant s x) (planEnds p) ↔ Relevant (p .threshold) whole (p .events) s x
-relevant-iff p q s x = (
-  λ (h : List·Memᴰ (relevant s x) (planEnds p)).
-      relevant-sound (p .threshold) (length (planEnds p)) whole (p .events) s x (rw (take-length (planEnds p)) h),
-  relevant-all (p .threshold) whole (p .events) s x q,
-)
-
 -- a scenario of a list of ends is one of its relevant ends
 scenario-end : (s : Scenario) (list : List End) → List·Memᴰ s (scenarios list) → (x : ℕ) × List·Memᴰ (relevant s x) list
 scenario-end s [] h = absurd (List·Memᴰ·not-nil h)
@@ -134,7 +121,7 @@ scenario-end s (relevant r m ∷ list) h = ⊎-elim here (later (scenario-end s 
         → (x : ℕ) × List·Memᴰ (relevant s x) (relevant r m ∷ list)
     later known there = let r = known there in (r .0, List·Memᴰ·tail (r .1))
 
-end-scenario : (s : Scenario) (x : ℕ) (list : List End) → List·Memᴰ (relevant s x) list → List·Memᴰ s (scenarios list)
+pub end-scenario : (s : Scenario) (x : ℕ) (list : List End) → List·Memᴰ (relevant s x) list → List·Memᴰ s (scenarios list)
 end-scenario s x [] h = absurd (List·Memᴰ·not-nil h)
 end-scenario s x (dropped ∷ list) h = ⊎-elim (never s x) (end-scenario s x list) (List·Memᴰ·cases-cons h)
 end-scenario s x (relevant r m ∷ list) h = ⊎-elim here (later (end-scenario s x list)) (List·Memᴰ·cases-cons h)
@@ -154,27 +141,6 @@ examined-sound p s h = (r .entries, omega (arith, r .mass, r .enough))
 
     r : Relevant (p .threshold) whole (p .events) s (found .0)
     r = relevant-sound (p .threshold) (p .limit) whole (p .events) s (found .0) (found .1)
-
--- law: where complete is 1, examined means a final mass of at least t
-pub examined-iff : (p : Plan) → Probabilities (p .events) → complete p ≡ 1 → (s : Scenario)
-    → (isExamined p s ≡ true) ↔ ((length s ≡ length (p .events)) × (p .threshold ≤ finalMass whole (p .events) s))
-examined-iff p q c s = (examined-sound p s, back)
-  where
-    enough : (b : Bool) → leb (length (planEnds p)) (p .limit) ≡ b → digit b ≡ 1 → length (planEnds p) ≤ p .limit
-    enough true e d = leb-true (length (planEnds p)) (p .limit) e
-    enough false e d = absurd (omega arith)
-
-    back : (length s ≡ length (p .events)) × (p .threshold ≤ finalMass whole (p .events) s) → isExamined p s ≡ true
-    back h =
-        rw (take-all (p .limit) (planEnds p) (enough (leb (length (planEnds p)) (p .limit)) refl c))
-        (member-among
-        s
-        (scenarios (planEnds p))
-        (end-scenario
-        s
-        (finalMass whole (p .events) s)
-        (planEnds p)
-        (relevant-all (p .threshold) whole (p .events) s (finalMass whole (p .events) s) q (record { entries = h .0; mass = refl; enough = h .1 }))))
 
 -- law: the masses of the first k ends sum to at most the mass that the walk starts from
 pub masses-le : (t k m : ℕ) (events : List Event) → Probabilities events → sumEnds (λ s x. x) (take k (ends t m events)) ≤ m
@@ -200,20 +166,6 @@ masses-enough t =
     (λ m e events xs ys h works fails.
     rw (sumEnds-both (λ s x. 1) xs ys, sumEnds-both (λ s x. x) xs ys) (omega (arith, works, fails)))
 
--- law: E is at most 10^18
-pub massExamined-le : (p : Plan) → Probabilities (p .events) → massExamined p ≤ whole
-massExamined-le p q = masses-le (p .threshold) (p .limit) whole (p .events) q
-
--- law: "Examined count × t is at most 10^18."
-pub count-le : (p : Plan) → Probabilities (p .events) → count p * p .threshold ≤ whole
-count-le p q =
-    omega (
-      arith,
-      ap (λ (x : ℕ). x * p .threshold) (count-sum p),
-      masses-enough (p .threshold) (p .limit) whole (p .events),
-      massExamined-le p q,
-    )
-
 -- law: no scenario is examined twice
 pub ends-distinct : (t k m : ℕ) (events : List Event) → List·Nodup (scenarios (take k (ends t m events)))
 ends-distinct t =
@@ -224,10 +176,3 @@ ends-distinct t =
     (λ m events h. Pairwise·nil)
     (λ m h. pairwise-singleton (λ (a b : Scenario). a ≢ b) [])
     (λ m e events xs ys h works fails. rw (scenarios-both xs ys) (distinct-both (scenarios xs) (scenarios ys) works fails))
-
-pub examined-distinct : (p : Plan) → List·Nodup (examined p)
-examined-distinct p = ends-distinct (p .threshold) (p .limit) whole (p .events)
-
--- law: the test for an examined scenario is membership
-pub examined-member : (p : Plan) (s : Scenario) → (isExamined p s ≡ true) ↔ List·Memᴰ s (examined p)
-examined-member p s = (among-member s (examined p), member-among s (examined p))

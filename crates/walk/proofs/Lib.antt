@@ -12,3 +12,4 @@ pub mod MemberLaws
 pub mod StackLaws
 pub mod Laws
 pub mod Valid
+pub mod Theorems

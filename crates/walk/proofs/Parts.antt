@@ -5,7 +5,7 @@ use Prim.Native.Nat.{ℕ, _+_, _-_, _*_, _/_, _%_, _^_, _≤_, _<_}
 use native.Mathlib.Nat.{mul-le-mul}
 use native.Mathlib.Omega.{arith}
 use Rattle.mass.specs.Split.{certain, whole, working}
-use Rattle.mass.proofs.Laws.{works-le}
+use Rattle.mass.proofs.Theorems.{works-le}
 use Rattle.walk.specs.Steps.{TwoParts}
 use Rattle.walk.specs.declared.Parted.{Parted}
 

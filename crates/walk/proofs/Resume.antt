@@ -20,9 +20,9 @@ use Rattle.walk.specs.Scenario.{Scenario, scenarioOf}
 use Rattle.walk.proofs.ScenarioLaws.{scenario-length}
 use Rattle.walk.specs.Ends.{End, dropped, relevant, after, ends, endsAfter, sumEnds, scenarios}
 use Rattle.walk.proofs.EndsLaws.{ends-cut, ends-leaf, ends-node}
-use Rattle.walk.proofs.StackLaws.{root-ends, entry-run, entry-branch}
+use Rattle.walk.proofs.StackLaws.{root-ends, words-run, words-branch}
 use Rattle.walk.specs.Walk.{planEnds, complete}
-use Rattle.walk.specs.Stack.{Begun, Entry, entryEnds, stackEnds, toCome, Laid, Entries, Stack}
+use Rattle.walk.specs.Stack.{Begun, SoundBranch, wordsEnds, stackEnds, toCome, SoundEntry, SoundEntries, Stack}
 use Rattle.walk.specs.Steps.{Handed}
 use Rattle.walk.specs.declared.Step.{Step}
 
@@ -30,10 +30,10 @@ use Rattle.walk.specs.declared.Step.{Step}
 
 module _ (depth mass low high at : ℕ) (stack : List ℕ) (b : Begun depth mass low high at stack) (few : depth ≤ 128) where
   -- a walk that begins at a branch may be gone on with
-  pub begun-stack : (count : ℕ) → Entry count depth mass low high 0 → Stack count at stack
+  pub begun-stack : (count : ℕ) → SoundBranch count depth mass low high 0 → Stack count at stack
   begun-stack count e =
       record {
-        whole-entries = rw (b .place);
+        fours = rw (b .place);
         within = omega (arith, b .place);
         sized = b .sized;
         entries = rw (b .alone) (record { run = λ (z : 128 < depth). absurd (omega arith); branch = λ (z : depth ≤ 128). e }, tt);
@@ -43,15 +43,15 @@ module _ (depth mass low high at : ℕ) (stack : List ℕ) (b : Begun depth mass
   pub begun-ends : (count threshold : ℕ) (words : List ℕ)
       → toCome count threshold words at stack ≡ endsAfter (scenarioOf depth (joined low high)) threshold mass (drop depth (eventsOf count words))
   begun-ends count threshold words =
-      rw (b .alone, entry-branch threshold (eventsOf count words) depth mass low high few, append-nil, scenario-length)
+      rw (b .alone, words-branch threshold (eventsOf count words) depth mass low high few, append-nil, scenario-length)
 
 -- at the root: the whole walk
 pub begun-whole : (at : ℕ) (stack : List ℕ) → Begun 0 whole 0 0 at stack → (count threshold : ℕ) (words : List ℕ)
     → toCome count threshold words at stack ≡ ends threshold whole (eventsOf count words)
 begun-whole at stack b count threshold words =
-    rw (b .alone, entry-branch threshold (eventsOf count words) 0 whole 0 0 (omega arith), append-nil) (root-ends threshold whole (eventsOf count words))
+    rw (b .alone, words-branch threshold (eventsOf count words) 0 whole 0 0 (omega arith), append-nil) (root-ends threshold whole (eventsOf count words))
 
-pub root-entry : (count : ℕ) → Entry count 0 whole 0 0 0
+pub root-entry : (count : ℕ) → SoundBranch count 0 whole 0 0 0
 root-entry count = record { deep = omega arith; light = omega arith; word = omega arith; decided = omega arith; room = omega arith }
 
 -- ---- nothing is to come exactly where the stack is empty, at 512
@@ -70,24 +70,24 @@ ends-some t m (x ∷ events) = step (ends-some t (working m (x .probability)) ev
         rw (ends-node t m x events (ltb-false m t e), length-append, length-map (ends t (working m (x .probability)) events) (after (false ∷ [])))
         (omega arith)
 
-entry-some : (count t : ℕ) (events : List Event) (depth mass low high below : ℕ) → Laid count depth mass low high below
-    → 0 < length (entryEnds t events depth mass low high)
+entry-some : (count t : ℕ) (events : List Event) (depth mass low high below : ℕ) → SoundEntry count depth mass low high below
+    → 0 < length (wordsEnds t events depth mass low high)
 entry-some count t events depth mass low high below laid = step (decLt 128 depth)
   where
-    step : Dec (128 < depth) → 0 < length (entryEnds t events depth mass low high)
-    step (yes h) = rw (entry-run t events depth mass low high h, length-replicate mass dropped) (laid .run h)
+    step : Dec (128 < depth) → 0 < length (wordsEnds t events depth mass low high)
+    step (yes h) = rw (words-run t events depth mass low high h, length-replicate mass dropped) (laid .run h)
     step (no h) =
         let left : List Event = drop (length (scenarioOf depth (joined low high))) events in
-        rw (entry-branch t events depth mass low high (omega arith), length-map (ends t mass left) (after (scenarioOf depth (joined low high))))
+        rw (words-branch t events depth mass low high (omega arith), length-map (ends t mass left) (after (scenarioOf depth (joined low high))))
         (ends-some t mass left)
 
-stack-some : (count t : ℕ) (events : List Event) (words : List ℕ) → Entries count words → 0 < length words → 0 < length (stackEnds t events words)
+stack-some : (count t : ℕ) (events : List Event) (words : List ℕ) → SoundEntries count words → 0 < length words → 0 < length (stackEnds t events words)
 stack-some count t events [] e h = absurd (omega arith)
 stack-some count t events (a ∷ []) e h = absurd e
 stack-some count t events (a ∷ b ∷ []) e h = absurd e
 stack-some count t events (a ∷ b ∷ c ∷ []) e h = absurd e
 stack-some count t events (a ∷ b ∷ c ∷ d ∷ rest) e h =
-    rw (length-append (entryEnds t events a b c d) (stackEnds t events rest)) (omega (arith, entry-some count t events a b c d (length rest) (e .0)))
+    rw (length-append (wordsEnds t events a b c d) (stackEnds t events rest)) (omega (arith, entry-some count t events a b c d (length rest) (e .0)))
 
 module _ (count threshold : ℕ) (words : List ℕ) where
   pub none-to-come : (stack : List ℕ) → length stack ≡ 512 → toCome count threshold words 512 stack ≡ []

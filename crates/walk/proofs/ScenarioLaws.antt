@@ -12,7 +12,7 @@ use lib.ListN.{length, getD, drop, replicate, length-append}
 use lib.Pow.{shr-shr}
 use borrow.Author.Tests.{eq-eqb, ne-eqb, eqb-true, eqb-false}
 use Rattle.mass.specs.Split.{certain, failing, working}
-use Rattle.mass.proofs.Laws.{fails-le, works-le}
+use Rattle.mass.proofs.Theorems.{fails-le, works-le}
 use Rattle.sets.specs.Sets.{bit, digit}
 use Rattle.plan.specs.Plan.{Event}
 use Rattle.plan.specs.Held.{Probabilities, Falling}

@@ -14,7 +14,7 @@ use Rattle.walk.specs.Pending.{Branch, branch, branchEnds, root}
 use borrow.Author.Tests.{lt-ltb, le-ltb}
 use Rattle.mass.specs.Split.{working}
 use Rattle.walk.specs.WorksPath.{pathSteps, pathMass, pathEnd}
-use Rattle.walk.specs.Stack.{entry, entryEnds}
+use Rattle.walk.specs.Stack.{branchOf, wordsEnds}
 use Rattle.walk.specs.Steps.{descentOf}
 
 -- law: where its mass is at least the threshold and events are left, a branch is its two parts at the next event, "works" before "fails"
@@ -66,13 +66,13 @@ module _ (t m : ℕ) where
 
 module _ (t : ℕ) (events : List Event) (depth mass low high : ℕ) where
   -- law: the two kinds of an entry
-  pub entry-run : 128 < depth → entryEnds t events depth mass low high ≡ replicate mass dropped
-  unfolding entryEnds
-  entry-run h = rw (lt-ltb 128 depth h, entryEnds)
+  pub words-run : 128 < depth → wordsEnds t events depth mass low high ≡ replicate mass dropped
+  unfolding wordsEnds
+  words-run h = rw (lt-ltb 128 depth h, wordsEnds)
 
-  pub entry-branch : depth ≤ 128 → entryEnds t events depth mass low high ≡ branchEnds t events (entry depth mass low high)
-  unfolding entryEnds
-  entry-branch h = rw (le-ltb 128 depth h, entryEnds)
+  pub words-branch : depth ≤ 128 → wordsEnds t events depth mass low high ≡ branchEnds t events (branchOf depth mass low high)
+  unfolding wordsEnds
+  words-branch h = rw (le-ltb 128 depth h, wordsEnds)
 
 module _ (threshold at mass low high number : ℕ) where
   pub descent-cut : mass < threshold

@@ -7,7 +7,7 @@ use native.Mathlib.Omega.{arith}
 use Rattle.mass.specs.Split.{certain}
 use Rattle.plan.specs.Plan.{Plan}
 use Rattle.plan.specs.Lists.{eventsOf}
-use Rattle.plan.specs.Records.{planRefusal}
+use Rattle.plan.specs.LentLists.{planRefusal}
 use Rattle.plan.specs.declared.Header.{Header}
 use Rattle.walk.proofs.ScenarioLaws.{falling-probable}
 use Rattle.plan.specs.Held.{Probabilities, Held}

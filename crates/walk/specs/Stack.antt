@@ -15,14 +15,14 @@ use Rattle.walk.specs.Ends.{End, dropped}
 use Rattle.walk.specs.Pending.{Branch, branchEnds}
 
 -- the pending branch that four words hold: its depth (how many events are decided), its mass, and the set of failing events in two words
-abbrev pub entry : ℕ → ℕ → ℕ → ℕ → Branch
-entry depth mass low high = record { path = scenarioOf depth (joined low high); mass = mass }
+abbrev pub branchOf : ℕ → ℕ → ℕ → ℕ → Branch
+branchOf depth mass low high = record { path = scenarioOf depth (joined low high); mass = mass }
 
 -- the ends that four words of the stack stand for: those of a pending branch; or, where the first word is above 128 (no branch has so many
 -- events decided), so many dropped ends as the second word says
-unfoldable pub entryEnds : ℕ → List Event → ℕ → ℕ → ℕ → ℕ → List End
-entryEnds t events depth mass low high =
-    elim (ltb 128 depth) [ true ↦ replicate mass dropped | false ↦ branchEnds t events (entry depth mass low high) ]
+unfoldable pub wordsEnds : ℕ → List Event → ℕ → ℕ → ℕ → ℕ → List End
+wordsEnds t events depth mass low high =
+    elim (ltb 128 depth) [ true ↦ replicate mass dropped | false ↦ branchEnds t events (branchOf depth mass low high) ]
 
 -- the ends that a list of words stands for, four words to an entry, the next one first
 abbrev pub stackEnds : ℕ → List Event → List ℕ → List End
@@ -30,14 +30,14 @@ stackEnds t events [] = []
 stackEnds t events (a ∷ []) = []
 stackEnds t events (a ∷ b ∷ []) = []
 stackEnds t events (a ∷ b ∷ c ∷ []) = []
-stackEnds t events (depth ∷ mass ∷ low ∷ high ∷ rest) = entryEnds t events depth mass low high ++ stackEnds t events rest
+stackEnds t events (depth ∷ mass ∷ low ∷ high ∷ rest) = wordsEnds t events depth mass low high ++ stackEnds t events rest
 
 -- the ends still to come: the stack is the words from `at` on; `count` events in `words`, four words to an event
 abbrev pub toCome : ℕ → ℕ → List ℕ → ℕ → List ℕ → List End
 toCome count threshold words at stack = stackEnds threshold (eventsOf count words) (drop at stack)
 
 -- what holds of a branch in four words, and of the words under them: no more entries lie under a branch than its depth says
-pub record Entry (count depth mass low high below : ℕ) : Type 0 where
+pub record SoundBranch (count depth mass low high below : ℕ) : Type 0 where
   pub deep : depth ≤ count
   pub light : mass ≤ whole
   pub word : low < 2 ^ 64
@@ -45,24 +45,24 @@ pub record Entry (count depth mass low high below : ℕ) : Type 0 where
   pub room : below ≤ 4 * depth
 
 -- what holds of four words of the stack and the words under them, whichever of the two they are
-pub record Laid (count depth mass low high below : ℕ) : Type 0 where
+pub record SoundEntry (count depth mass low high below : ℕ) : Type 0 where
   pub run : 128 < depth → 0 < mass
-  pub branch : depth ≤ 128 → Entry count depth mass low high below
+  pub branch : depth ≤ 128 → SoundBranch count depth mass low high below
 
 -- what holds of each entry of the stack
-abbrev pub Entries : ℕ → List ℕ → Type 0
-Entries count [] = Unit {0}
-Entries count (a ∷ []) = ⊥
-Entries count (a ∷ b ∷ []) = ⊥
-Entries count (a ∷ b ∷ c ∷ []) = ⊥
-Entries count (depth ∷ mass ∷ low ∷ high ∷ rest) = Laid count depth mass low high (length rest) × Entries count rest
+abbrev pub SoundEntries : ℕ → List ℕ → Type 0
+SoundEntries count [] = Unit {0}
+SoundEntries count (a ∷ []) = ⊥
+SoundEntries count (a ∷ b ∷ []) = ⊥
+SoundEntries count (a ∷ b ∷ c ∷ []) = ⊥
+SoundEntries count (depth ∷ mass ∷ low ∷ high ∷ rest) = SoundEntry count depth mass low high (length rest) × SoundEntries count rest
 
 -- a stack that the walk may go on with
 pub record Stack (count at : ℕ) (stack : List ℕ) : Type 0 where
-  pub whole-entries : at % 4 ≡ 0
+  pub fours : at % 4 ≡ 0
   pub within : at ≤ 512
   pub sized : length stack ≡ 512
-  pub entries : Entries count (drop at stack)
+  pub entries : SoundEntries count (drop at stack)
 
 -- a stack with one branch alone
 pub record Begun (depth mass low high at : ℕ) (stack : List ℕ) : Type 0 where

@@ -47,7 +47,8 @@ abbrev example : ℕ → ℕ → Plan
 example t limit =
     record { nodes = 2; links = []; events = record { probability = 100000000; nodes = 0; links = 1 } ∷ []; threshold = t; limit = limit }
 
-example-both : planEnds (example 100000000000000000 100) ≡ relevant (false ∷ []) 900000000000000000 ∷ relevant (true ∷ []) 100000000000000000 ∷ []
+example-both : planEnds (example 100000000000000000 100)
+    ≡ relevant (false ∷ []) 900000000000000000 ∷ relevant (true ∷ []) 100000000000000000 ∷ []
 unfolding ends
 example-both = refl
 
@@ -55,6 +56,7 @@ example-dropped : planEnds (example 100000000000000001 100) ≡ relevant (false 
 unfolding ends
 example-dropped = refl
 
-example-limit : (complete (example 1 2) ≡ 1) × (complete (example 1 1) ≡ 0) × (massExamined (example 1 1) ≡ 900000000000000000) × (count (example 1 1) ≡ 1)
+example-limit : (complete (example 1 2) ≡ 1) × (complete (example 1 1) ≡ 0)
+    × (massExamined (example 1 1) ≡ 900000000000000000) × (count (example 1 1) ≡ 1)
 unfolding ends
 example-limit = (refl, refl, refl, refl)

@@ -16,7 +16,7 @@ ghost use Rattle.plan.specs.Held.{Falling};
 ghost use mathlib.Core.List.{_++_};
 ghost use mathlib.Core.Bool.{false};
 ghost use Rattle.walk.specs.Pending.{branchEnds};
-ghost use Rattle.walk.specs.Stack.{entry, Entry, toCome, Stack};
+ghost use Rattle.walk.specs.Stack.{branchOf, SoundBranch, toCome, Stack};
 ghost use Rattle.walk.specs.Steps.{Handed, TwoParts, Stopped, Pushed, Delayed, Descended, descentOf};
 
 // The first word of an entry that is a number of dropped ends, and no branch.
@@ -139,8 +139,8 @@ fn come_to(threshold: u64, at: usize, mass: u64, low: u64, high: u64, number: u6
     }
 }
 
-// Goes down from a branch to its first end, leaving each "fails" side pending. From where a "fails" side falls below the threshold it leaves
-// none, since no later one on the "works" path has more mass: each is one dropped end.
+// Goes down from a branch to its first end, leaving each "fails" side pending. From where a "fails" side falls below the threshold it
+// leaves none, since no later one on the "works" path has more mass: each is one dropped end.
 fn go_down(
     count: u64,
     threshold: u64,
@@ -153,9 +153,9 @@ fn go_down(
     high: u64,
 ) -> Descent
     requires { ⌜ (count ≤ 128) × Falling certain (eventsOf count (now events)) ⌝ }
-    requires { ⌜ Entry count depth mass low high (length (drop at (now stack))) × Stack count at (now stack) ⌝ }
+    requires { ⌜ SoundBranch count depth mass low high (length (drop at (now stack))) × Stack count at (now stack) ⌝ }
     ensures { λ r. ⌜ Descended count threshold (now (events .entry))
-        (branchEnds threshold (eventsOf count (now (events .entry))) (entry depth mass low high)
+        (branchEnds threshold (eventsOf count (now (events .entry))) (branchOf depth mass low high)
         ++ toCome count threshold (now (events .entry)) at (now (stack .entry)))
         (now (stack .exit)) r ⌝ }
 {

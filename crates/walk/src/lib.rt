@@ -17,8 +17,8 @@ pub struct Failing {
     pub high: u64,
 }
 
-// What a step hands out: where the stack now begins, how many ends may still be reached, whether a relevant scenario was found, its mass and
-// its failing events (0 where none was).
+// What a step hands out: where the stack now begins, how many ends may still be reached, whether a relevant scenario was found, its mass
+// and its failing events (0 where none was).
 pub struct Step {
     pub at: usize,
     pub left: u64,

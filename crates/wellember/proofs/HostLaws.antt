@@ -12,7 +12,7 @@ use Rattle.plan.specs.Plan.{Plan}
 use Rattle.plan.specs.Layout.{little}
 use Rattle.refusals.specs.Tests.{roomTest}
 use Rattle.plan.specs.File.{refusal, planOf}
-use Rattle.plan.specs.Records.{planRefusal, planOfLists}
+use Rattle.plan.specs.LentLists.{planRefusal, planOfLists}
 use Rattle.plan.specs.Calls.{filled, headerOf, readAnswer}
 use Rattle.plan.specs.declared.Header.{Header}
 use Rattle.plan.specs.declared.Reading.the-variants as reading
@@ -20,7 +20,7 @@ use Rattle.refusals.proofs.OrderLaws.{stop}
 use Rattle.refusals.proofs.TestLaws.{room-none}
 use Rattle.lent.proofs.ListLaws.{first-last, sets-then}
 use Rattle.layout.proofs.LayoutNumbers.{length-little, value-little}
-use Rattle.layout.proofs.ListTheorems.{lists-denote}
+use Rattle.layout.proofs.Theorems.{lists-denote}
 use Rattle.walk.specs.Walk.{count}
 use Rattle.bounds.specs.Bounds.{lowerOf, upperOf, Encloses}
 use Rattle.bounds.specs.Calls.{pairRefusal, pairAnswer, boundsOf, boundsIn}
@@ -58,13 +58,13 @@ room-passed room number e = sym (first-skip _ _ e ∙ first-last number)
 
 module _ (b : List ℕ) (room v w : ℕ) where
   -- what the bounds of the pair promise
-  abbrev pub Told : Paired → Type 0
-  Told r =
+  abbrev pub HostPromised : Paired → Type 0
+  HostPromised r =
       (r ≡ pairAnswer (hostRefusal b room v w) (boundsOf (planOf b) v w))
       × (hostRefusal b room v w ≡ 0 → Encloses (planOf b) v w (boundsIn r .lower) (boundsIn r .upper) (count (planOf b)))
 
   -- a file that is refused
-  pub file-refused : (n : ℕ) (h : Header) → reading.Refused n ≡ readAnswer (refusal b) h → Told (paired.Refused n)
+  pub file-refused : (n : ℕ) (h : Header) → reading.Refused n ≡ readAnswer (refusal b) h → HostPromised (paired.Refused n)
   unfolding hostRefusal
   file-refused n h e =
       let r = reading-refused (refusal b) n h e in
@@ -84,7 +84,7 @@ module _ (b : List ℕ) (room v w : ℕ) where
     -- a file that is accepted
     pub file-told : (h : Header) → h ≡ headerOf b → (r : Paired)
         → r ≡ pairAnswer (first (roomTest room 16 ∷ pairRefusal h 256 128 links words v w ∷ [])) (boundsOf (planOfLists h links words) v w)
-        → Told r
+        → HostPromised r
     file-told h x r f =
         let e =
         subst
@@ -100,7 +100,7 @@ module _ (b : List ℕ) (room v w : ℕ) where
         )
 
   -- a refusal changes nothing
-  pub host-refused : (out news : List ℕ) (n : ℕ) (r : Paired) → r ≡ paired.Refused n → Told r
+  pub host-refused : (out news : List ℕ) (n : ℕ) (r : Paired) → r ≡ paired.Refused n → HostPromised r
       → (n ≡ hostRefusal b room v w)
       × ((out ≡ filled (hostRefusal b room v w) news out)
       × (hostRefusal b room v w ≡ 0 → Encloses (planOf b) v w (lowerIn out) (upperIn out) (count (planOf b))))
@@ -140,7 +140,7 @@ module _ (out : List ℕ) (lower upper : ℕ) (room : 16 ≤ length out) where
 
 -- an acceptance lays down the first sixteen bytes, and its bounds enclose the exact sum
 pub host-done : (b out out′ : List ℕ) (v w : ℕ) (found : PairBounds) (r : Paired)
-    → r ≡ paired.Done found → Told b (length out) v w r → out′ ≡ sets out 0 (sixteen (found .lower) (found .upper))
+    → r ≡ paired.Done found → HostPromised b (length out) v w r → out′ ≡ sets out 0 (sixteen (found .lower) (found .upper))
     → found .lower < 2 ^ 64 → found .upper < 2 ^ 64
     → (0 ≡ hostRefusal b (length out) v w)
     × ((out′ ≡ filled (hostRefusal b (length out) v w) (sixteen (lowerOf (planOf b) v w) (upperOf (planOf b) v w)) out)

@@ -11,7 +11,7 @@ ghost use lib.Seq.{sets};
 ghost use Rattle.mass.specs.Refusal.{first};
 ghost use Rattle.refusals.specs.Tests.{roomTest};
 ghost use Rattle.plan.specs.File.{refusal, planOf};
-ghost use Rattle.plan.specs.Records.{planOfLists};
+ghost use Rattle.plan.specs.LentLists.{planOfLists};
 ghost use Rattle.plan.specs.Calls.{filled};
 ghost use Rattle.walk.specs.Walk.{count};
 ghost use Rattle.bounds.specs.Bounds.{lowerOf, upperOf, Encloses};
@@ -71,7 +71,8 @@ pub extern "C" fn wellember_pair(plan: &[u8], v: u32, w: u32, out: &mut [u8]) ->
         (hostRefusal (now (plan .entry)) (length (now (out .entry))) v w)
         (sixteen (lowerOf (planOf (now (plan .entry))) v w) (upperOf (planOf (now (plan .entry))) v w)) (now (out .entry)) ⌝ }
     ensures demand3 { λ r. ⌜ (hostRefusal (now (plan .entry)) (length (now (out .entry))) v w ≡ 0
-        → Encloses (planOf (now (plan .entry))) v w (lowerIn (now (out .exit))) (upperIn (now (out .exit))) (count (planOf (now (plan .entry))))) ⌝ }
+        → Encloses (planOf (now (plan .entry))) v w (lowerIn (now (out .exit))) (upperIn (now (out .exit)))
+        (count (planOf (now (plan .entry))))) ⌝ }
 {
     match pair_of(plan, out.len(), v as u64, w as u64) {
         Paired::Refused(number) => number,

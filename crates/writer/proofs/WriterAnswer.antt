@@ -8,7 +8,7 @@ use lib.Seq.{sets}
 use Rattle.mass.proofs.RefusalLaws.{first-skip}
 use Rattle.refusals.specs.Tests.{roomTest}
 use Rattle.plan.specs.Layout.{layout}
-use Rattle.plan.specs.Records.{planOfLists, listsRefusal}
+use Rattle.plan.specs.LentLists.{planOfLists, listsRefusal}
 use Rattle.plan.specs.Calls.{filled, writeRefusal, writeAnswer}
 use Rattle.plan.specs.declared.Header.{Header}
 use Rattle.plan.specs.declared.Writing.{Writing}

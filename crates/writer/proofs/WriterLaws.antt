@@ -7,11 +7,11 @@ use native.Mathlib.Numerals.{add-one}
 use native.Mathlib.Omega.{arith}
 use lib.ListN.{length, take, drop, set}
 use lib.Seq.{sets, length-take-le}
-use Rattle.layout.proofs.ListTheorems.{length-links-of, length-events-of}
+use Rattle.layout.proofs.ListLaws.{length-links-of, length-events-of}
 use Rattle.lent.proofs.ListLaws.{less-one, sets-then, eventAt}
 use Rattle.sets.specs.Sets.{joined}
 use Rattle.plan.specs.Lists.{eventOf, eventsOf}
-use Rattle.plan.specs.Records.{planOfLists}
+use Rattle.plan.specs.LentLists.{planOfLists}
 use Rattle.plan.specs.declared.Header.{Header}
 use Rattle.plan.specs.Layout.{little, elements, memberBytes, eventBytes, headerBytes, layout}
 use Rattle.sizes.proofs.ElementLaws.{elements-left, elements-end, one-none, one-some, memberBytes-append, length-memberBytes}

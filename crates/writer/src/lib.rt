@@ -1,5 +1,5 @@
-// Writing a plan file from a header and lent lists: document 01, section "Plan file". All tests are made before the first byte is laid down, so
-// that a refusal changes nothing.
+// Writing a plan file from a header and lent lists: document 01, section "Plan file". All tests are made before the first byte is laid
+// down, so that a refusal changes nothing.
 // Assumes nothing.
 use lent::accept;
 use lent::put_bytes;
@@ -15,8 +15,8 @@ ghost use lib.ListN.{length};
 ghost use lib.Seq.{sets};
 ghost use Rattle.plan.specs.Lists.{eventOf, eventsOf};
 ghost use Rattle.plan.specs.Layout.{little, elements, memberBytes, eventBytes, layout};
-ghost use Rattle.plan.specs.Records.{planOfLists};
-ghost use Rattle.plan.specs.Calls.{filled, writeRefusal, writeAnswer};
+ghost use Rattle.plan.specs.LentLists.{planOfLists};
+ghost use Rattle.plan.specs.Calls.{filled, writeNumber, writeAnswer};
 
 // Lays down a number in `width` bytes, the lowest byte first.
 pub fn put_number(out: &mut [u8], at: usize, width: usize, x: u64)
@@ -136,10 +136,10 @@ fn put_plan(h: Header, links: &[u8], words: &[u64], out: &mut [u8])
 // Writes a plan from lent lists: links two bytes each, events four words each. All tests, then its bytes.
 pub fn write(h: Header, links: &[u8], events: &[u64], out: &mut [u8]) -> Writing
     ensures { λ r. ⌜ r ≡ writeAnswer
-        (writeRefusal h (length (now (links .entry))) (length (now (events .entry)) / 4) (now (links .entry)) (now (events .entry)) (length (now (out .entry))))
+        (writeNumber h (now (links .entry)) (now (events .entry)) (now (out .entry)))
         (length (layout (planOfLists h (now (links .entry)) (now (events .entry))))) ⌝ }
     ensures { λ r. ⌜ now (out .exit) ≡ filled
-        (writeRefusal h (length (now (links .entry))) (length (now (events .entry)) / 4) (now (links .entry)) (now (events .entry)) (length (now (out .entry))))
+        (writeNumber h (now (links .entry)) (now (events .entry)) (now (out .entry)))
         (layout (planOfLists h (now (links .entry)) (now (events .entry)))) (now (out .entry)) ⌝ }
 {
     let mut bytes = [0u8; 256];

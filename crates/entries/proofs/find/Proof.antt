@@ -3,15 +3,14 @@ use mathlib.Core.Path.{_≡_, sym, _∙_}
 use mathlib.Core.Bool.{false}
 use Prim.Native.Nat.{ℕ, _-_, _≤_, _<_}
 use native.Mathlib.Omega.{arith}
-use borrow.Author.Needs.{needs}
-use Rattle.entries.specs.Entries.{same}
+use Rattle.entries.specs.Entries.{sameTopology}
 use Rattle.entries.specs.Words.{topologyAt}
 use Rattle.entries.proofs.EntryLaws.{one-more}
 use Rattle.entries.proofs.find.Statement.{statement}
 use Rattle.entries.proofs.find.Tie as tie
 
 abbrev Inv-loop : tie.InvT-loop
-Inv-loop list count t i₀ i = (i ≤ count) × ((j : ℕ) → j < i → same (topologyAt list j) t ≡ false)
+Inv-loop list count t i₀ i = (i ≤ count) × ((j : ℕ) → j < i → sameTopology (topologyAt list j) t ≡ false)
 
 abbrev μ-loop : tie.MeasureT-loop
 μ-loop list count t i₀ i = count - i
@@ -36,7 +35,7 @@ loop-less c = omega arith
 loop-again : tie.Need-loop-again Inv-loop μ-loop
 loop-again c =
     let l = c .before .before .before .loop in
-    (omega arith, one-more (λ j. same (topologyAt (c .before .before .before .before .before .args .list .now) j) (c .before .before .before .before .before .args .t) ≡ false) (l .i) (l .inv .1) (sym (c .before .is-at .ensures) ∙ c .if1 .left))
+    (omega arith, one-more (λ j. sameTopology (topologyAt (c .before .before .before .before .before .args .list .now) j) (c .before .before .before .before .before .args .t) ≡ false) (l .i) (l .inv .1) (sym (c .before .is-at .ensures) ∙ c .if1 .left))
 
 returns-2 : tie.Need-returns-2 Inv-loop μ-loop
 returns-2 c =

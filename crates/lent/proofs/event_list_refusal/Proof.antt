@@ -6,7 +6,7 @@ use lib.ListN.{getD, drop}
 use Rattle.mass.specs.Split.{certain, probabilityTest}
 use Rattle.plan.specs.Lists.{eventsOf}
 use Rattle.refusals.specs.Tests.{orderTest}
-use Rattle.plan.specs.Records.{eventListRefusal}
+use Rattle.plan.specs.LentLists.{eventListRefusal}
 use Rattle.lent.proofs.ListLaws.{probability-decides, order-decides, sets-decide, event-passes, events-end}
 use Rattle.lent.proofs.event_list_refusal.Statement.{statement}
 use Rattle.lent.proofs.event_list_refusal.Tie as tie

@@ -5,7 +5,7 @@ use native.Mathlib.Omega.{arith}
 use lib.ListN.{getD, drop}
 use Rattle.plan.specs.Lists.{linksOf}
 use Rattle.refusals.specs.Tests.{endsTest}
-use Rattle.plan.specs.Records.{linkListRefusal}
+use Rattle.plan.specs.LentLists.{linkListRefusal}
 use Rattle.lent.proofs.ListLaws.{link-decides, link-passes, links-end}
 use Rattle.lent.proofs.link_list_refusal.Statement.{statement}
 use Rattle.lent.proofs.link_list_refusal.Tie as tie

@@ -9,7 +9,7 @@ use Rattle.mass.proofs.RefusalLaws.{first-skip}
 use Rattle.mass.specs.Split.{certain}
 use Rattle.plan.specs.Lists.{linksOf, eventsOf}
 use Rattle.refusals.specs.Tests.{countsTest, thresholdTest, limitTest, roomTest}
-use Rattle.plan.specs.Records.{linkListRefusal, eventListRefusal, listsRefusal}
+use Rattle.plan.specs.LentLists.{linkListRefusal, eventListRefusal, listsRefusal}
 use Rattle.lent.proofs.ListLaws.{decides, first-last}
 use Rattle.refusals.proofs.TestLaws.{Ranges, counts-none}
 use Rattle.lent.proofs.lists_refusal.Statement.{statement}

@@ -5,7 +5,7 @@ use native.Mathlib.Omega.{arith}
 use lib.ListN.{length}
 use lib.Seq.{length-take-le}
 use Rattle.text.specs.Calls.{sizeIn}
-use Rattle.text.specs.declared.Listed.{Listed}
+use Rattle.text.specs.declared.Formatted.{Formatted}
 use borrow.Author.Needs.{needs}
 use Rattle.listing.proofs.main.Statement.{statement}
 use Rattle.listing.proofs.main.Tie as tie
@@ -34,7 +34,7 @@ enum-known-size c = search needs
 -- the text fits the buffer
 fits : (c : tie.After-known-told) → c .before .size .given .0 .0 ≤ length (c .before .before .before .before .listing-text .last .1 .0)
 fits c =
-    subst (λ (r : Listed). sizeIn r ≤ length (c .before .before .before .before .listing-text .last .1 .0)) (c .before .size .given .1)
+    subst (λ (r : Formatted). sizeIn r ≤ length (c .before .before .before .before .listing-text .last .1 .0)) (c .before .size .given .1)
     (c .before .before .before .before .listing-text .ensures .1 .1)
 
 array-share-prefix-out : tie.Need-array-share-prefix-out

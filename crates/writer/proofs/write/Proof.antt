@@ -9,10 +9,10 @@ use lib.Seq.{sets, length-sets}
 use Rattle.plan.specs.Plan.{Plan}
 use Rattle.plan.specs.Lists.{eventsOf}
 use Rattle.plan.specs.Layout.{layout}
-use Rattle.plan.specs.Records.{planOfLists}
+use Rattle.plan.specs.LentLists.{planOfLists}
 use Rattle.lent.specs.Taken.{Taken, listsNumber}
 use Rattle.refusals.proofs.TestLaws.{room-none}
-use Rattle.layout.proofs.ListTheorems.{length-events-of}
+use Rattle.layout.proofs.ListLaws.{length-events-of}
 use Rattle.sizes.proofs.SizeLaws.{plan-size, events-most}
 use Rattle.writer.proofs.WriterAnswer.{lists-refuse, room-refuses, written}
 use Rattle.writer.proofs.write.Statement.{statement}

@@ -1,6 +1,6 @@
 -- `answers::calls::give_header` meets its contract: the five numbers one after the other. Assumes nothing.
 use mathlib.Core.Path.{sym, ap}
-use Rattle.answers.specs.Answers.{readNumber}
+use Rattle.answers.specs.Answers.{readingNumber}
 use borrow.Author.Needs.{needs}
 use Rattle.answers.proofs.calls.give_header.Statement.{statement}
 use Rattle.answers.proofs.calls.give_header.Tie as tie
@@ -31,7 +31,7 @@ returns c =
     let k = c .before .before .before .before .before in
     let j = k .before .before .before .before .before .before .before .before in
     let e = rw (j .give-three .ensures) at (k .before .before .before .before .put .ensures) in
-    (sym (ap readNumber (c .before .answer .given .1)), rw (j .before .before .header-in .ensures) at (rw e at (k .put2 .ensures)))
+    (sym (ap readingNumber (c .before .answer .given .1)), rw (j .before .before .header-in .ensures) at (rw e at (k .put2 .ensures)))
 
 same-length-2 : tie.Need-same-length-2
 same-length-2 c = search needs
@@ -41,7 +41,7 @@ returns-2 c =
     let k = c .before .before .before .before in
     let j = k .before .before .before .before .before .before .before .before in
     let e = rw (j .give-three .ensures) at (k .before .before .before .before .put .ensures) in
-    (sym (ap readNumber (c .enum-told .given .1)), rw (j .before .before .header-in .ensures) at (rw e at (k .put2 .ensures)))
+    (sym (ap readingNumber (c .enum-told .given .1)), rw (j .before .before .header-in .ensures) at (rw e at (k .put2 .ensures)))
 
 pub give-header-spec : {M : Type 1} → statement M
 give-header-spec =

@@ -18,9 +18,11 @@ use prog.Wp.{Heap, Calls, Loops, WpFn, Tables}
 use ghost.Atoms.{Atoms, sem}
 use contract.Monad.{Fun, fact}
 use contract.Running.{givenOf, tables, tablesOf}
-use types.Kit.{Given, ‵, raw, given, learn, _⊛_, some, later, ⋆, _$_, _∵_, !, qed, by, move, keep, use0, use1, use2, use3, split, join, pick, fsplit, fjoin, feqL, suffices, frame, await, done}
+use types.Kit.{Given, ‵, raw, given, learn, _⊛_, some, later, ⋆, _$_, _∵_, !, qed, by, move, keep, use0, use1, use2, use3, split, join}
+use types.Kit.{pick, fsplit, fjoin, feqL, suffices, frame, await, done}
 use types.Part.{agg, rep, whole, sub, look-in}
-use types.Run.{look, init, forget, stop, hop, fld, from, load, lit, addr, and-then, no-more, assigns, land, returns, enter, alloc1, alloc0, params1, pass1, pass0, free1, free0}
+use types.Run.{look, init, forget, stop, hop, fld, from, load, lit, addr, and-then, no-more, assigns, land, returns, enter, alloc1, alloc0}
+use types.Run.{params1, pass1, pass0, free1, free0}
 use types.Tokens.{lft-new, lft-end}
 use sound.WpLaws.{FmC, fmOf, WpFn-mono}
 use denote.RattleType.{owns}
@@ -48,7 +50,7 @@ use denote.Exit.{yes}
 use Rattle.plan.specs.Lists.{linkBytes}
 use Rattle.plan.specs.Layout.{layout, Bytes}
 use Rattle.plan.specs.File.{planOf}
-use Rattle.plan.specs.Records.{planOfLists}
+use Rattle.plan.specs.LentLists.{planOfLists}
 use Rattle.plan.specs.Calls.{filled, headerOf, headerIn, readRefusal, readAnswer, writeRefusal, writeAnswer}
 use Rattle.plan.specs.declared.Header.{Header}
 use Rattle.plan.specs.declared.Reading.{Reading}

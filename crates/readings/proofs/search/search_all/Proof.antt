@@ -1,6 +1,6 @@
 -- `readings::search::search_all` meets its contract. Assumes nothing.
 use borrow.Author.Needs.{needs}
-use Rattle.readings.proofs.Shown.{seeking-whole, answers-whole}
+use Rattle.readings.proofs.WitnessPromise.{seeking-whole, answers-whole}
 use Rattle.readings.proofs.search.search_all.Statement.{statement}
 use Rattle.readings.proofs.search.search_all.Tie as tie
 

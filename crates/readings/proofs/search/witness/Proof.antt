@@ -6,7 +6,7 @@ use Prim.Native.Nat.{ℕ}
 use native.Mathlib.Omega.{arith}
 use Rattle.lent.specs.Taken.{Taken}
 use Rattle.bounds.proofs.Answers.{pair-inside}
-use Rattle.readings.proofs.Shown.{lists-refused, pair-refused, searched}
+use Rattle.readings.proofs.WitnessPromise.{lists-refused, pair-refused, searched}
 use Rattle.readings.proofs.search.witness.Statement.{statement}
 use Rattle.readings.proofs.search.witness.Tie as tie
 

@@ -11,7 +11,7 @@ use Rattle.refusals.proofs.OrderLaws.{stop, skip}
 use Rattle.readings.specs.Downtime.{downtimeAnswer, downtimeRefusal, secondsOf}
 use Rattle.readings.specs.declared.Seconds.{Seconds}
 use Rattle.readings.specs.declared.Timed.the-variants as timed
-use Rattle.readings.proofs.Told.{refuses}
+use Rattle.readings.proofs.Refusing.{refuses}
 use Rattle.readings.proofs.yearly.downtime.Statement.{statement}
 use Rattle.readings.proofs.yearly.downtime.Tie as tie
 use Rattle.readings.proofs.yearly.downtime.Reads as reads

@@ -6,7 +6,7 @@ use borrow.Author.Needs.{needs}
 use lib.ListN.{length, replicate}
 use Rattle.text.specs.Listing.{listing}
 use Rattle.text.proofs.TextLaws.{short-answer, text-answer, size-kept}
-use Rattle.text.proofs.MostLaws.{array-room}
+use Rattle.text.proofs.Theorems.{array-room}
 use Rattle.text.proofs.calls.listing_text.Statement.{statement}
 use Rattle.text.proofs.calls.listing_text.Tie as tie
 

@@ -1,7 +1,7 @@
 -- `text::calls::put_accepted` meets its contract: the sums of the run give the listing of the plan. Assumes nothing.
 use mathlib.Core.Path.{ap}
 use native.Mathlib.Omega.{arith}
-use Rattle.layout.proofs.ListTheorems.{lists-denote}
+use Rattle.layout.proofs.Theorems.{lists-denote}
 use Rattle.pairs.proofs.PairLaws.{pairs-most}
 use Rattle.bounds.specs.declared.Totals.{Totals}
 use Rattle.lent.proofs.Accepted.{lists-held, limit-most}

@@ -1,7 +1,7 @@
 -- `topology::pairs::is_disconnected` meets its contract: w is not among what v reaches. Assumes nothing.
 use borrow.Author.Needs.{needs}
 use Rattle.network.specs.Code.{networkIn}
-use Rattle.topology.proofs.Shown.{absent, connected-bit}
+use Rattle.topology.proofs.RowLinks.{absent, connected-bit}
 use Rattle.topology.proofs.pairs.is_disconnected.Statement.{statement}
 use Rattle.topology.proofs.pairs.is_disconnected.Tie as tie
 

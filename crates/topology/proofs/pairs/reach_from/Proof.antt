@@ -2,7 +2,7 @@
 use borrow.Author.Needs.{needs}
 use Rattle.plan.specs.Lists.{linksOf}
 use Rattle.network.specs.Code.{outage, networkIn}
-use Rattle.topology.proofs.Shown.{nodes-shown, reached-is}
+use Rattle.topology.proofs.RowLinks.{nodes-shown, reached-is}
 use Rattle.topology.proofs.pairs.reach_from.Statement.{statement}
 use Rattle.topology.proofs.pairs.reach_from.Tie as tie
 

@@ -7,14 +7,14 @@ use borrow.Author.Needs.{needs}
 use native.Mathlib.Omega.{arith}
 use Rattle.plan.specs.Lists.{eventsOf}
 use Rattle.walk.specs.Pending.{branchEnds}
-use Rattle.walk.specs.Stack.{entry, toCome}
+use Rattle.walk.specs.Stack.{branchOf, toCome}
 use Rattle.walk.proofs.Descents.{probable, Going, come-cut, come-leaf, come-straight, worked-le, room, room-next, down}
 use Rattle.walk.proofs.ahead.go_down.Statement.{statement}
 use Rattle.walk.proofs.ahead.go_down.Tie as tie
 
 abbrev Inv-loop : tie.InvT-loop
 Inv-loop count threshold events stack₀ at depth mass low high top₀ d₀ m₀ stack top d m =
-    Going count threshold events (branchEnds threshold (eventsOf count events) (entry depth mass low high) ++ toCome count threshold events at stack₀) d m low high top stack
+    Going count threshold events (branchEnds threshold (eventsOf count events) (branchOf depth mass low high) ++ toCome count threshold events at stack₀) d m low high top stack
 
 abbrev μ-loop : tie.MeasureT-loop
 μ-loop count threshold events stack₀ at depth mass low high top₀ d₀ m₀ stack top d m = count - d

@@ -2,7 +2,7 @@
 use mathlib.Core.Path.{_≡_, sym, ap, ap₂, _∙_}
 use Prim.Native.Nat.{ℕ, _/_}
 use lib.ListN.{length}
-use Rattle.plan.specs.Records.{planOfLists}
+use Rattle.plan.specs.LentLists.{planOfLists}
 use Rattle.refusals.proofs.OrderLaws.{stop}
 use Rattle.bounds.specs.Calls.{pairRefusal, pairAnswer, boundsOf}
 use Rattle.bounds.proofs.Answers.{pair-refuses}

@@ -1,0 +1,2 @@
+-- Laws that the proofs of the crate `marked` share.
+pub mod Theorems

@@ -1,0 +1,41 @@
+-- `probe::list::probe_topologies` meets its contract: the answer of the call is handed out. Assumes nothing.
+use mathlib.Core.Path.{refl}
+use Rattle.probe.proofs.Handing.{list-back}
+use borrow.Author.Needs.{needs}
+use Rattle.probe.proofs.list.probe_topologies.Statement.{statement}
+use Rattle.probe.proofs.list.probe_topologies.Tie as tie
+
+header-requires : tie.Need-header-requires
+header-requires c κs = search needs
+
+topologies-requires : tie.Need-topologies-requires
+topologies-requires c κs = search needs
+
+give-entries-requires : tie.Need-give-entries-requires
+give-entries-requires c κs = search needs
+
+same-length : tie.Need-same-length
+same-length c = search needs
+
+same-length-2 : tie.Need-same-length-2
+same-length-2 c = search needs
+
+returns : tie.Need-returns
+returns c =
+    let f = c .before .before .give-entries .ensures in
+    let k = c .before .before .before .before .before .before in
+    let same = k .before .before .header .ensures in
+    let e = rw same at (k .topologies .ensures .0) in
+    let n = rw (e, list-back) at (f .0) in
+    rw n (refl, (rw same at (k .topologies .ensures .1), rw e at (f .1)))
+
+pub probe-topologies-spec : {M : Type 1} → statement M
+probe-topologies-spec =
+    tie.close
+    (tie.spec
+    header-requires
+    topologies-requires
+    give-entries-requires
+    same-length
+    same-length-2
+    returns)

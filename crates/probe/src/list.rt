@@ -1,0 +1,32 @@
+// The topology list, for the tests in Rust.
+use crate::header;
+ghost use mathlib.Core.Path.{_≡_};
+ghost use Prim.Native.Nat.{_/_};
+ghost use lib.ListN.{length};
+ghost use Rattle.topology_list.specs.Calls.{topologyListIn, topologiesNumber, listedAnswer, listAfter};
+ghost use Rattle.answers.specs.Laid.{laid};
+ghost use Rattle.answers.specs.Answers.{headerWith, entriesValues};
+
+#[no_mangle]
+pub extern "C" fn probe_topologies(
+    nodes: u64,
+    links_count: u64,
+    events_count: u64,
+    threshold: u64,
+    limit: u64,
+    links: &[u8],
+    events: &[u64],
+    list: &mut [u64],
+    result: &mut [u64],
+) -> u32
+    ensures number { λ r. ⌜ r ≡ topologiesNumber (headerWith nodes «links_count» «events_count» threshold limit)
+        (now (links .entry)) (now (events .entry)) (now (list .entry)) ⌝ }
+    ensures list { λ r. ⌜ now (list .exit) ≡ listAfter (headerWith nodes «links_count» «events_count» threshold limit)
+        (length (now (links .entry))) (length (now (events .entry)) / 4) (now (links .entry)) (now (events .entry)) (now (list .entry)) ⌝ }
+    ensures result { λ r. ⌜ now (result .exit) ≡ laid (entriesValues (listedAnswer r (length (topologyListIn
+        (headerWith nodes «links_count» «events_count» threshold limit)
+        (now (links .entry)) (now (events .entry)) (now (list .entry)) .entries)))) (now (result .entry)) ⌝ }
+{
+    let h = header(nodes, links_count, events_count, threshold, limit);
+    answers::give_entries(topology_list::topologies(h, links, events, list), result)
+}

@@ -1,0 +1,33 @@
+-- The search for a witness: what its loop asks and promises, from any state.
+-- Assumes nothing.
+use mathlib.Core.Path.{_≡_}
+use mathlib.Core.List.{List}
+use Prim.Native.Nat.{ℕ, _<_}
+use lib.ListN.{take}
+use Rattle.plan.specs.Plan.{Plan}
+use Rattle.plan.specs.declared.Header.{Header}
+use Rattle.walk.specs.Scenario.{Scenario, number}
+use Rattle.walk.specs.Ends.{scenarios}
+use Rattle.walk.specs.Stack.{toCome, Stack}
+use Rattle.plan.specs.Held.{Held}
+use Rattle.readings.specs.declared.Witnessed.{Witnessed}
+use Rattle.readings.specs.Witness.{noneTest, witnessAnswer, failingIn, Shows}
+
+-- what a search for a witness among the scenarios of a list answers, where it is refused with a number, 0 if it is not
+pub record WitnessAnswered (p : Plan) (v w : ℕ) (list : List Scenario) (number : ℕ) (r : Witnessed) : Type 0 where
+  pub answer : r ≡ witnessAnswer number (failingIn r)
+  pub found : number ≡ 0 → Shows p v w list (failingIn r)
+
+-- what a search among the scenarios of a list answers, where nothing else is tested
+abbrev pub Searched : Plan → ℕ → ℕ → List Scenario → Witnessed → Type 0
+Searched p v w list r = WitnessAnswered p v w list (noneTest p v w list) r
+
+-- the relevant scenarios among the next k ends of a walk
+abbrev pub reached : Header → List ℕ → ℕ → List ℕ → ℕ → List Scenario
+reached h words at stack k = scenarios (take k (toCome (h .events) (h .threshold) words at stack))
+
+-- what a search asks: lists of a valid plan, a stack that denotes the ends to come, and two nodes
+pub record Seeking (h : Header) (links words : List ℕ) (at : ℕ) (stack : List ℕ) (v w : ℕ) : Type 0 where
+  pub held : Held h links words
+  pub stacked : Stack (h .events) at stack
+  pub inside : (v < 64) × (w < 64)

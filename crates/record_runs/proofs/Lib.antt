@@ -1,0 +1,3 @@
+-- Laws that the proofs of the crate `record_runs` share.
+pub mod RunLaws
+pub mod FileLaws

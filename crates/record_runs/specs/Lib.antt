@@ -1,0 +1,2 @@
+-- What the contracts of the crate `record_runs` cite, beside the definitions of the crates below it.
+pub mod Running

@@ -1,0 +1,70 @@
+// The run over all pairs with the events in a lent list of records: document 01, sections "Plan file" and "Bounds of a pair".
+// `run_records` is proved by hand, and is thin over `run_words`; `run_plan` takes a plan file in their place.
+// Assumes nothing.
+mod running;
+
+use bounds::Ran;
+use plan::Header;
+use records::Event;
+use records::flatten;
+pub use running::run_plan;
+ghost use mathlib.Core.Path.{_≡_};
+ghost use Prim.Native.Nat.{_*_};
+ghost use Rattle.plan.specs.LentLists.{planOfLists};
+ghost use Rattle.plan.specs.Calls.{filled};
+ghost use Rattle.bounds.specs.Bounds.{lowerList, upperList, EnclosesAll};
+ghost use Rattle.bounds.specs.Calls.{runNumber, ranAnswer, totalsOf, totalsIn};
+ghost use Rattle.records.specs.Events.{wordsOf, wordsUsed};
+
+// The run on an array of words: the lent list of events has `count` of them, of which the first 128 stand in the array.
+pub fn run_words(
+    h: Header,
+    links: &[u8],
+    count: usize,
+    words: &[u64; 512],
+    lower: &mut [u64],
+    upper: &mut [u64],
+) -> Ran
+    ensures answer { λ r. ⌜ r ≡ ranAnswer
+        (runNumber h (now (links .entry)) (wordsUsed count (now (words .entry))) (now (lower .entry)) (now (upper .entry)))
+        (totalsOf (planOfLists h (now (links .entry)) (wordsUsed count (now (words .entry))))) ⌝ }
+    ensures lowers { λ r. ⌜ now (lower .exit) ≡ filled
+        (runNumber h (now (links .entry)) (wordsUsed count (now (words .entry))) (now (lower .entry)) (now (upper .entry)))
+        (lowerList (planOfLists h (now (links .entry)) (wordsUsed count (now (words .entry))))) (now (lower .entry)) ⌝ }
+    ensures uppers { λ r. ⌜ now (upper .exit) ≡ filled
+        (runNumber h (now (links .entry)) (wordsUsed count (now (words .entry))) (now (lower .entry)) (now (upper .entry)))
+        (upperList (planOfLists h (now (links .entry)) (wordsUsed count (now (words .entry))))) (now (upper .entry)) ⌝ }
+    ensures demand3 { λ r. ⌜ (runNumber h (now (links .entry)) (wordsUsed count (now (words .entry))) (now (lower .entry)) (now (upper .entry)) ≡ 0
+        → EnclosesAll (planOfLists h (now (links .entry)) (wordsUsed count (now (words .entry))))
+        (now (lower .exit)) (now (upper .exit)) (totalsIn r .count)) ⌝ }
+{
+    let used = 4 * lent::smaller(count, 128);
+    let all = &words[..];
+    bounds::run(h, links, &all[0..used], lower, upper)
+}
+
+// The run over all pairs: fills the two lists with the bounds of the pairs, in order, and answers the examined count, complete and E.
+pub fn run_records(
+    h: Header,
+    links: &[u8],
+    events: &[Event],
+    lower: &mut [u64],
+    upper: &mut [u64],
+) -> Ran
+    ensures answer { λ r. ⌜ r ≡ ranAnswer
+        (runNumber h (now (links .entry)) (wordsOf (now (events .entry))) (now (lower .entry)) (now (upper .entry)))
+        (totalsOf (planOfLists h (now (links .entry)) (wordsOf (now (events .entry))))) ⌝ }
+    ensures lowers { λ r. ⌜ now (lower .exit) ≡ filled
+        (runNumber h (now (links .entry)) (wordsOf (now (events .entry))) (now (lower .entry)) (now (upper .entry)))
+        (lowerList (planOfLists h (now (links .entry)) (wordsOf (now (events .entry))))) (now (lower .entry)) ⌝ }
+    ensures uppers { λ r. ⌜ now (upper .exit) ≡ filled
+        (runNumber h (now (links .entry)) (wordsOf (now (events .entry))) (now (lower .entry)) (now (upper .entry)))
+        (upperList (planOfLists h (now (links .entry)) (wordsOf (now (events .entry))))) (now (upper .entry)) ⌝ }
+    ensures demand3 { λ r. ⌜ (runNumber h (now (links .entry)) (wordsOf (now (events .entry))) (now (lower .entry)) (now (upper .entry)) ≡ 0
+        → EnclosesAll (planOfLists h (now (links .entry)) (wordsOf (now (events .entry))))
+        (now (lower .exit)) (now (upper .exit)) (totalsIn r .count)) ⌝ }
+{
+    let mut words = [0u64; 512];
+    flatten(events, &mut words);
+    run_words(h, links, events.len(), &words, lower, upper)
+}

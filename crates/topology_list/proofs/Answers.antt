@@ -1,0 +1,85 @@
+-- The answers of the topology list, and what it leaves in the lent list, from what the walk gave.
+-- Assumes nothing.
+use mathlib.Core.Path.{_≡_, refl, sym, ap, subst, _∙_}
+use mathlib.Core.List.{List, _++_}
+use Prim.Native.Nat.{ℕ, zero, suc, _+_, _*_, _/_}
+use native.Mathlib.Omega.{arith}
+use lib.ListN.{length, take, drop, take-append-drop}
+use lib.Seq.{sets, sets-eq, length-take-le}
+use Rattle.mass.specs.Refusal.{first}
+use Rattle.plan.specs.Plan.{Plan}
+use Rattle.plan.specs.LentLists.{planOfLists}
+use Rattle.plan.specs.Calls.{filled}
+use Rattle.plan.specs.declared.Header.{Header}
+use Rattle.refusals.proofs.OrderLaws.{stop, skip}
+use Rattle.lent.specs.Taken.{Taken, listsNumber}
+use Rattle.entries.specs.Entries.{TopologyList, entryWords}
+use Rattle.topology_list.specs.TopologyList.{topologyListOf}
+use Rattle.entries.specs.Words.{HoldsList}
+use Rattle.topology_list.specs.Calls.{topologyListIn, topologiesRefusal, topologiesNumber, listedAnswer, listAfter}
+use Rattle.entries.specs.declared.Placed.{Placed}
+use Rattle.topology_list.specs.declared.Listed.{Listed}
+use Rattle.topology_list.specs.declared.Listed.the-variants as listed
+use Rattle.entries.proofs.EntryLaws.{entries-length, words-of}
+
+-- the words hold the entries from the start, and stay as they were past the last one
+laid-down : (out : TopologyList) (words words′ : List ℕ) (q : Placed) → HoldsList out 0 words words′ q → words′ ≡ sets words 0 (entryWords (out .entries))
+laid-down out words words′ q g =
+    let n : ℕ = 4 * q .count in
+    let is : entryWords (out .entries) ≡ take (4 * q .count) words′ = ap entryWords (sym (g .entries)) ∙ words-of (q .count) words′ (g .room) in
+    let long : length (take (4 * q .count) words′) ≡ 4 * q .count = length-take-le (4 * q .count) words′ (g .room) in
+    let rest : drop (0 + length (take (4 * q .count) words′)) words ≡ drop (4 * q .count) words′ =
+    ap (λ (k : ℕ). drop (0 + k) words) long ∙ ap (λ (k : ℕ). drop k words) (zero-less (4 * q .count)) ∙ sym (g .others) in
+    rw is
+    (sym (sets-eq (take (4 * q .count) words′) words 0 (omega (arith, g .room, g .sized))
+    ∙ ap (λ (l : List ℕ). take (4 * q .count) words′ ++ l) rest
+    ∙ take-append-drop (4 * q .count) words′))
+  where
+    zero-less : (k : ℕ) → 0 + k ≡ k
+    zero-less k = omega arith
+
+refused-is : (number count : ℕ) → (number ≡ 0 → ⊥) → listed.Refused number ≡ listedAnswer number count
+refused-is zero count n = absurd (n refl)
+refused-is (suc number) count n = refl
+
+filled-kept : (number : ℕ) (news list : List ℕ) → (number ≡ 0 → ⊥) → list ≡ filled number news list
+filled-kept zero news list n = absurd (n refl)
+filled-kept (suc number) news list n = refl
+
+module _ (h : Header) (links events list : List ℕ) where
+  -- an answer, with what it leaves in the lent list
+  abbrev pub ListPromised : Listed → List ℕ → Type 0
+  ListPromised r list′ =
+      (r ≡ listedAnswer (topologiesNumber h links events list) (length (topologyListIn h links events list .entries)))
+      × (list′ ≡ listAfter h (length links) (length events / 4) links events list)
+
+  refused : (number : ℕ) (list′ : List ℕ) → number ≡ topologiesNumber h links events list → (number ≡ 0 → ⊥)
+      → list′ ≡ listAfter h (length links) (length events / 4) links events list → ListPromised (listed.Refused number) list′
+  refused number list′ is n e =
+      (refused-is number _ n ∙ ap (λ (x : ℕ). listedAnswer x (length (topologyListIn h links events list .entries))) is, e)
+
+  -- the lists are refused: nothing changes
+  pub lists-refused : (number : ℕ) → number ≡ listsNumber h links events → (number ≡ 0 → ⊥) → ListPromised (listed.Refused number) list
+  unfolding topologiesRefusal
+  lists-refused number e n = refused number list (stop _ e n) n (filled-kept _ _ list (λ z. n (e ∙ z)))
+
+  -- the walk of the arrays that accepted lists were taken into gave the list
+  module _ (number : ℕ) (e : number ≡ listsNumber h links events) (z : number ≡ 0) (bytes words : List ℕ) (t : Taken h links events bytes words)
+      (list′ : List ℕ) (q : Placed) (gave : HoldsList (topologyListOf (length list / 4) (planOfLists h bytes words)) 0 list list′ q) where
+    g : HoldsList (topologyListIn h links events list) 0 list list′ q
+    g = subst (λ (p : Plan). HoldsList (topologyListOf (length list / 4) p) 0 list list′ q) (t .denoted) gave
+
+    left-in : list′ ≡ listAfter h (length links) (length events / 4) links events list
+    left-in = rw (sym e ∙ z) (laid-down _ list list′ q g)
+
+    -- a topology found no entry left
+    pub list-full : (q .number ≡ 0 → ⊥) → ListPromised (listed.Refused (q .number)) list′
+    unfolding topologiesRefusal
+    list-full n = refused (q .number) list′ (skip _ e z (stop _ (g .number) n)) n left-in
+
+    pub list-done : q .number ≡ 0 → ListPromised (listed.Entries (q .count)) list′
+    unfolding topologiesRefusal first
+    list-done f =
+        let none : topologyListIn h links events list .number ≡ 0 = sym (g .number) ∙ f in
+        let many : q .count ≡ length (topologyListIn h links events list .entries) = sym (entries-length (q .count) list′) ∙ ap length (g .entries) in
+        (rw (sym e ∙ z, none) (ap listed.Entries many), left-in)

@@ -1,0 +1,9 @@
+-- Laws that the proofs of the crate `topology_list` share.
+pub mod WorkingSets
+pub mod Turn
+pub mod Answers
+pub mod Theorems
+pub mod SetLaws
+pub mod ListLaws
+pub mod RoomLaws
+pub mod ListBounds
