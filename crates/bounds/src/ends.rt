@@ -57,6 +57,8 @@ pub fn go_on(
     let mut number = so_far.number;
     let mut mass = so_far.mass;
     let mut left = k;
+    // Going on from here for `left` ends gives what the call is to give for k ends from the start.
+    // A scenario that is found takes one end or more, so `left` falls in each turn that does not return.
     loop {
         let step = walk::next_relevant(h.events, h.threshold, words, &mut *stack, at, left);
         at = step.at;

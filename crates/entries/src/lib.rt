@@ -43,6 +43,7 @@ fn find(list: &[u64], count: usize, t: Topology) -> usize
     ensures { λ r. ⌜ Found t count (now (list .entry)) r ⌝ }
 {
     let mut i = 0;
+    // None of the first i entries has the topology. Each turn raises i, up to `count`.
     while i < count {
         if is_at(list, i, t) {
             return i;

@@ -72,6 +72,8 @@ pub fn members_of(s: &[u8], start: usize, count: u64, nodes: u64, links: u64) ->
         low: 0,
         high: 0,
     };
+    // The `left` members from `at` on are accepted, and with theirs the sets are the whole sets. No element so far has rank `least`
+    // or more, so the next one is not in the sets yet. Each turn takes one of the `left` members.
     while 0 < left {
         let answer = plan::member_at(s, at, nodes, links, least);
         let Step::Member(element) = answer else {
@@ -105,6 +107,8 @@ fn fill_events(s: &[u8], start: usize, count: u64, nodes: u64, links: u64, words
     let mut at = start;
     let mut left = count;
     let mut done = 0;
+    // The `left` events from `at` on are accepted, and with their words laid down from `done` on the array is as with all events.
+    // Each turn takes one of the `left` events.
     while 0 < left {
         let members = members_of(s, at + 5, byte_at(s, at + 4), nodes, links);
         put_event(&mut *words, done, number_at(s, at, 4), members);
@@ -122,6 +126,8 @@ fn fill_links(s: &[u8], start: usize, count: u64, links: &mut [u8; 256])
     let mut at = start;
     let mut left = count;
     let mut done = 0;
+    // With the bytes of the `left` links from `at` on laid down from `done` on, the array is as with all links.
+    // Each turn takes one of the `left` links.
     while 0 < left {
         links[done] = s[at];
         links[done + 1] = s[at + 1];

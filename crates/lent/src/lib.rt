@@ -18,6 +18,7 @@ pub fn put_bytes(from: &[u8], to: &mut [u8], at: usize, count: usize)
     ensures { λ r. ⌜ now (to .exit) ≡ sets (now (to .entry)) at (take count (now (from .entry))) ⌝ }
 {
     let mut i = 0;
+    // The first i bytes are laid down, and no others. Each turn raises i, up to `count`.
     while i < count {
         to[at + i] = from[i];
         i += 1;
@@ -38,6 +39,7 @@ pub fn copy_words(from: &[u64], to: &mut [u64], count: usize)
     ensures { λ r. ⌜ now (to .exit) ≡ sets (now (to .entry)) 0 (take count (now (from .entry))) ⌝ }
 {
     let mut i = 0;
+    // The first i words are copied, and no others. Each turn raises i, up to `count`.
     while i < count {
         to[i] = from[i];
         i += 1;
@@ -73,6 +75,7 @@ fn link_list_refusal(links: &[u8], count: u64, nodes: u64) -> u32
 {
     let mut at = 0;
     let mut left = count;
+    // The `left` links from `at` on are refused as all links are: those before them pass. Each turn takes one of the `left` links.
     while 0 < left {
         let ends = refusals::ends_test(nodes, byte_at(links, at), byte_at(links, at + 1));
         if ends != 0 {
@@ -92,6 +95,8 @@ fn event_list_refusal(words: &[u64], count: u64, nodes: u64, links: u64) -> u32
     let mut at = 0;
     let mut left = count;
     let mut before = mass::CERTAIN;
+    // The `left` events from `at` on, after the probability `before`, are refused as all events are: those before them pass.
+    // Each turn takes one of the `left` events.
     while 0 < left {
         let q = words[at];
         let above = mass::probability_test(q);

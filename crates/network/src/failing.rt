@@ -37,6 +37,8 @@ fn failed_word(events: &[u64; 512], count: usize, base: usize, set: u64, start: 
 {
     let mut f = start;
     let mut left = set;
+    // When the events of `left` fail beside f, what has failed is what the call is to return.
+    // Each turn takes the lowest element out of `left`, which falls as a number.
     while left != 0 {
         f = with_event(events, base + sets::lowest(left), f);
         left = sets::rest(left);

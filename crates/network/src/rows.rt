@@ -34,6 +34,8 @@ fn put_in(rows: &mut [u64; 64], n: usize, links: &[u8; 256], count: usize, base:
         bit (getD (now (rows .exit)) v 0) w ≡ (bit (getD (now (rows .entry)) v 0) w || joinedBy (now (links .entry)) base set v w)) ⌝ }
 {
     let mut left = set;
+    // With the links of `left` put in, the rows are as with all links of the set. `left` has elements of the set only.
+    // Each turn takes the lowest element out of `left`, which falls as a number.
     while left != 0 {
         let i = base + sets::lowest(left);
         join(

@@ -27,6 +27,7 @@ pub fn links_at(n: usize, links: &[u8; 256], count: usize) -> [u64; 128]
 {
     let mut table = [0u64; 128];
     let mut i = 0;
+    // The table has the first i links, each at its two ends, and no others. Each turn raises i, up to `count`.
     while i < count {
         put_at(&mut table, end(n, links, count, i, 0), i);
         put_at(&mut table, end(n, links, count, i, 1), i);

@@ -70,6 +70,8 @@ fn apart_from(up: Links, nodes: u64, table: &[u64; 128]) -> Links
     let mut low = up.low;
     let mut high = up.high;
     let mut left = nodes;
+    // Without the links at the nodes of `left`, the links of `low` and `high` are those to be returned.
+    // Each turn takes the lowest element out of `left`, which falls as a number.
     while left != 0 {
         let v = sets::lowest(left);
         low = sets::less(low, word(table, 2 * v));

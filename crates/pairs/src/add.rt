@@ -8,6 +8,8 @@ fn add_row(lower: &mut [u64; 2016], start: usize, skip: usize, set: u64, mass: u
     ensures { λ r. ⌜ AddedRow start skip set mass (now (lower .entry)) (now (lower .exit)) ⌝ }
 {
     let mut left = set;
+    // With the mass added for the elements of `left`, the entries are as with it added for the whole set.
+    // Each turn takes the lowest element out of `left`, which falls as a number.
     while left != 0 {
         let i = start + sets::lowest(left) - skip;
         lower[i] = lower[i] + mass;
@@ -22,6 +24,8 @@ fn add_rows(lower: &mut [u64; 2016], n: usize, set: u64, others: u64, mass: u64)
     ensures { λ r. ⌜ AddedRows n set others mass (now (lower .entry)) (now (lower .exit)) ⌝ }
 {
     let mut left = set;
+    // With the mass added for the pairs of the nodes of `left`, the entries are as with it added for the whole set.
+    // Each turn takes the lowest element out of `left`, which falls as a number.
     while left != 0 {
         let v = sets::lowest(left);
         let later = sets::less(others, sets::first(v + 1));
@@ -41,6 +45,8 @@ pub fn add_cut(lower: &mut [u64; 2016], n: usize, rows: [u64; 64], nodes: u64, m
 {
     let all = sets::first(n);
     let mut left = nodes;
+    // The pairs whose first node works and is not in `left` are done, all others are untouched, and no path leads out of `left`.
+    // Each turn takes out of `left` a part that has its lowest element, so `left` falls as a number.
     while left != 0 {
         let part = topology::reach_by_rows(rows, nodes, sets::lowest(left)).set;
         let others = sets::less(all, part);

@@ -16,6 +16,7 @@ fn copy_raised(from: &[u64], to: &mut [u64], count: usize, rest: u64)
     ensures { λ r. ⌜ now (to .exit) ≡ sets (now (to .entry)) 0 (map (λ x. rest + x) (take count (now (from .entry)))) ⌝ }
 {
     let mut i = 0;
+    // The first i entries are laid down, each with `rest` added, and no others. Each turn raises i, up to `count`.
     while i < count {
         to[i] = rest + from[i];
         i += 1;

@@ -29,6 +29,7 @@ pub fn number_at(s: &[u8], at: usize, width: usize) -> u64
 {
     let mut i = width;
     let mut sum = 0;
+    // `sum` is the number in the last `width` - i of the bytes, those from `at` + i on. Each turn lowers i.
     while 0 < i {
         i -= 1;
         sum = byte_at(s, at + i) + 256 * sum;

@@ -60,6 +60,7 @@ pub fn links_refusal(s: &[u8], start: usize, count: u64, nodes: u64) -> u32
 {
     let mut at = start;
     let mut left = count;
+    // The `left` links from `at` on are refused as all links are: those before them pass. Each turn takes one of the `left` links.
     while 0 < left {
         let short = refusals::short_test(left_of(s, at), 2);
         if short != 0 {
@@ -127,6 +128,8 @@ pub fn members_refusal(s: &[u8], start: usize, count: u64, nodes: u64, links: u6
     let mut at = start;
     let mut left = count;
     let mut least = 0;
+    // The `left` members from `at` on, of rank `least` or more, are refused as all members are: those before them pass.
+    // Each turn takes one of the `left` members.
     while 0 < left {
         let number = step_number(member_at(s, at, nodes, links, least));
         if number != 0 {
@@ -174,6 +177,8 @@ pub fn events_refusal(s: &[u8], start: usize, count: u64, nodes: u64, links: u64
     let mut at = start;
     let mut left = count;
     let mut before = mass::CERTAIN;
+    // The `left` events from `at` on, after the probability `before`, and the bytes after them are refused as the whole is: the events
+    // before them pass. Each turn takes one of the `left` events.
     while 0 < left {
         let number = event_refusal(s, at, nodes, links, before);
         if number != 0 {

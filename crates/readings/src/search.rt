@@ -67,6 +67,8 @@ fn search_on(
 {
     let mut at = start;
     let mut left = k;
+    // What a search of the next `left` ends may answer from here, a search of the k ends from the start may answer.
+    // A scenario that is found takes one end or more, so `left` falls in each turn that does not return.
     loop {
         let r = walk::next_relevant(h.events, h.threshold, words, &mut *stack, at, left);
         if !r.found {

@@ -37,6 +37,7 @@ pub fn fill(words: &[u64; 512], events: &mut [Event], count: usize)
     ensures { λ r. ⌜ now (events .exit) ≡ sets (now (events .entry)) 0 (recordsOf count (now (words .entry))) ⌝ }
 {
     let mut i = 0;
+    // The first i records are laid down, and no others. Each turn raises i, up to `count`.
     while i < count {
         events[i] = event_at(words, i);
         i += 1;
@@ -49,6 +50,7 @@ pub fn flatten(events: &[Event], words: &mut [u64; 512])
 {
     let count = lent::smaller(events.len(), 128);
     let mut i = 0;
+    // The words of the first i records are laid down, and no others. Each turn raises i, up to `count`.
     while i < count {
         put_event(&mut *words, i, events[i]);
         i += 1;

@@ -14,6 +14,8 @@ fn count_elements(set: u64) -> u64
     let mut left: u64 = 64;
     let mut rest = set;
     let mut count = 0;
+    // `count` and the number of ones among the lowest `left` bits of `rest` make the number of elements of the set.
+    // Each turn lowers `left`.
     while 0 < left {
         count += rest % 2;
         rest = rest / 2;
@@ -37,6 +39,7 @@ pub fn events_size(words: &[u64], count: u64) -> usize
     let mut at = 0;
     let mut left = count;
     let mut size = 0;
+    // `size` and the bytes of the `left` events from word `at` on make the bytes of all events. Each turn takes one of those events.
     while 0 < left {
         let members = member_count(words[at + 1], words[at + 2], words[at + 3]);
         size += 5 + 2 * (members as usize);

@@ -28,6 +28,8 @@ pub fn put_row(
     let mut place = pairs::start_of(n, v);
     let mut i = at;
     let mut w = v + 1;
+    // `place` is that of the pair of v and w. With the lines of v with w and with the nodes after w laid down from i on, the row is
+    // whole. Each turn raises w, up to n.
     while w < n {
         let lower = sums[place];
         i = put_line(out, i, v as u64, w as u64, lower, rest + lower);
@@ -46,6 +48,7 @@ pub fn put_rows(out: &mut [u8], at: usize, n: usize, sums: &[u64; 2016], rest: u
 {
     let mut i = at;
     let mut v = 0;
+    // With the rows of v and of the nodes after it laid down from i on, the lines are those of all pairs. Each turn raises v, up to n.
     while v < n {
         i = put_row(out, i, n, v, sums, rest);
         v += 1;

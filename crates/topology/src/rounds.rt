@@ -13,6 +13,8 @@ pub fn rows_of(rows: &[u64; 64], set: u64) -> u64
 {
     let mut all = 0;
     let mut left = set;
+    // `all` has only elements of the set's rows, and has each of them that is not in a row of `left`.
+    // Each turn takes the lowest element out of `left`, which falls as a number.
     while left != 0 {
         all = sets::union(all, rows[sets::lowest(left)]);
         left = sets::rest(left);
@@ -27,6 +29,8 @@ pub fn reach(rows: [u64; 64], nodes: u64, v: usize) -> Reach
 {
     let mut seen = 0;
     let mut fresh = sets::both(nodes, sets::only(1, v));
+    // A path joins v to each seen or fresh node, v is one where it works, and each neighbour of a seen node is seen or fresh. No fresh
+    // node is seen, so each turn adds nodes to `seen`, which grows as a number.
     while fresh != 0 {
         seen = sets::union(seen, fresh);
         fresh = sets::less(rows_of(&rows, fresh), seen);

@@ -69,6 +69,8 @@ fn list_ends(
     let mut at = start;
     let mut left = h.limit;
     let mut count = 0;
+    // Placing the topologies of the next `left` ends into the list of `count` entries gives what the call is to give.
+    // A scenario that is found takes one end or more, so `left` falls in each turn that does not return.
     loop {
         let r = walk::next_relevant(h.events, h.threshold, words, &mut *stack, at, left);
         if !r.found {

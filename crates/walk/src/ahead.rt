@@ -88,6 +88,8 @@ fn straight(count: u64, threshold: u64, events: &[u64; 512], depth: u64, mass: u
 {
     let mut d = depth;
     let mut m = parted(mass);
+    // From depth d and mass m the "works" path stops where it stops from the start, and m is in two parts.
+    // Each turn raises d, up to `count`.
     loop {
         if m.units < threshold {
             return Stop {
@@ -162,6 +164,8 @@ fn go_down(
     let mut top = at;
     let mut d = depth;
     let mut m = mass;
+    // The ends of the branch at depth d with mass m, then those of the entries from `top` on, are the ends to come at the start.
+    // Each turn raises d, up to `count`.
     loop {
         if m < threshold {
             return come_to(threshold, top, m, low, high, 0);

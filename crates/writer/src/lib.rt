@@ -26,6 +26,7 @@ pub fn put_number(out: &mut [u8], at: usize, width: usize, x: u64)
     let mut i = at;
     let mut left = width;
     let mut rest = x;
+    // With the lowest `left` bytes of `rest` laid down from i on, the number is laid down whole. Each turn lowers `left`.
     while 0 < left {
         out[i] = (rest % 256) as u8;
         rest = rest / 256;
@@ -58,6 +59,8 @@ fn put_members(out: &mut [u8], at: usize, kind: u8, first: u8, set: u64) -> usiz
     let mut left: u64 = 64;
     let mut number = first;
     let mut rest = set;
+    // With the members among the lowest `left` bits of `rest` laid down from i on, all members are laid down. The lowest bit stands for
+    // `number`. Each turn lowers `left`.
     while 0 < left {
         i = put_member(out, i, kind, number, rest);
         number += 1;
@@ -89,6 +92,7 @@ fn put_events(out: &mut [u8], start: usize, words: &[u64], count: u64)
     let mut i = start;
     let mut at = 0;
     let mut left = count;
+    // With the `left` events from word `at` on laid down from i on, all events are laid down. Each turn takes one of the `left` events.
     while 0 < left {
         i = put_event(
             out,
