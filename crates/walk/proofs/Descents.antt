@@ -30,7 +30,7 @@ use Rattle.walk.specs.Steps.{Stopped, Pushed, Delayed, Descended, descen
 use Rattle.walk.specs.declared.Stop.{Stop}
 use Rattle.walk.proofs.Branches.{events-length, events-probability, probability-le, next-works, next-fails}
 use Rattle.walk.proofs.Dropped.{run-after, works-path}
-use Rattle.walk.proofs.Words.{words-at}
+use Rattle.walk.proofs.Words.{words-at, laid-size, laid-words}
 
 none : Event
 none = record { probability = 0; nodes = 0; links = 0 }
@@ -209,14 +209,14 @@ module _ (count threshold : ℕ) (words : List ℕ) where
                   light = omega (arith, worked, works-le mass q fits, g .hand .light);
                   word = g .hand .word;
                   decided = omega (arith, g .hand .decided, pow-succ' 2 depth, ap (λ (n : ℕ). 2 ^ n) (add-one depth));
-                  room = omega (arith, length-drop (top - 4) stack′, d .sized, g .hand .room, length-drop top stack, g .held .sized);
+                  room = omega (arith, length-drop (top - 4) stack′, size′, g .hand .room, length-drop top stack, g .held .sized);
                 };
             held =
                 record {
                   fours = omega (arith, g .held .fours, room);
                   within = omega (arith, g .held .within);
-                  sized = d .sized;
-                  entries = rw (d .laid, again) (laid, g .held .entries);
+                  sized = size′;
+                  entries = rw (four, again) (laid, g .held .entries);
                 };
             ahead = g .ahead ∙ both;
           }
@@ -232,6 +232,12 @@ module _ (count threshold : ℕ) (words : List ℕ) where
 
           path : Scenario
           path = scenarioOf depth (joined low high)
+
+          size′ : length stack′ ≡ 512
+          size′ = laid-size stack stack′ (top - 4) (depth + 1) fails (d .setLow) (d .setHigh) (d .laid) (g .held .sized)
+
+          four : drop (top - 4) stack′ ≡ (depth + 1) ∷ fails ∷ d .setLow ∷ d .setHigh ∷ drop (top - 4 + 4) stack
+          four = laid-words stack stack′ (top - 4) (depth + 1) fails (d .setLow) (d .setHigh) (d .laid) (g .held .sized) room-next
 
           laid : SoundEntry count (depth + 1) fails (d .setLow) (d .setHigh) (length (drop top stack))
           laid =
@@ -265,7 +271,7 @@ module _ (count threshold : ℕ) (words : List ℕ) where
 
           both : branchEnds threshold events (branchOf depth mass low high) ++ toCome count threshold words top stack
               ≡ branchEnds threshold events (branchOf (depth + 1) works low high) ++ toCome count threshold words (top - 4) stack′
-          both = rw (parts, append-assoc, d .laid, again, words-branch threshold events (depth + 1) fails (d .setLow) (d .setHigh) (omega arith))
+          both = rw (parts, append-assoc, four, again, words-branch threshold events (depth + 1) fails (d .setLow) (d .setHigh) (omega arith))
 
   -- the next entry is taken off the stack
   module _ (at : ℕ) (stack : List ℕ) (s : Stack count at stack) (h : at < 512) where

@@ -6,7 +6,7 @@ use Prim.Native.Nat.{ℕ, suc, _+_, _-_, _*_, _%_, _^_, _≤_, _<_}
 use native.Mathlib.Numerals.{add-one, add-two, add-three, add-four}
 use native.Mathlib.Omega.{arith}
 use lib.ListN.{length, getD, take, drop, set}
-use lib.Seq.{drop-cons, drop-at, sets-eq, length-take-le}
+use lib.Seq.{sets, drop-cons, drop-at, sets-eq, length-sets, length-take-le}
 use lib.Pow.{pow-add, pow-mono, shl-exact}
 use Rattle.sets.specs.Sets.{joined}
 
@@ -54,10 +54,16 @@ words-at s at h =
     (drop-cons s (suc (suc at)) 0 (omega arith)
     ∙ ap (λ (l : List ℕ). getD s (suc (suc at)) 0 ∷ l) (drop-cons s (suc (suc (suc at))) 0 (omega arith)))))
 
--- four words stored at `at`
-module _ (s : List ℕ) (at a b c d : ℕ) (h : at + 4 ≤ length s) where
-  pub words-stored : drop at (set (set (set (set s at a) (at + 1) b) (at + 2) c) (at + 3) d) ≡ a ∷ b ∷ c ∷ d ∷ drop (at + 4) s
-  words-stored =
-      rw (add-one at, add-two at, add-three at)
-      (ap (drop at) (sets-eq (a ∷ b ∷ c ∷ d ∷ []) s at h ∙ append-assoc (take at s) (a ∷ b ∷ c ∷ d ∷ []) (drop (at + 4) s))
-      ∙ drop-at (take at s) ((a ∷ b ∷ c ∷ d ∷ []) ++ drop (at + 4) s) at (length-take-le at s (omega arith)))
+-- four words stored one by one, from `at` on
+pub words-put : (s : List ℕ) (at a b c d : ℕ) → set (set (set (set s at a) (at + 1) b) (at + 2) c) (at + 3) d ≡ sets s at (a ∷ b ∷ c ∷ d ∷ [])
+words-put s at a b c d = rw (add-one at, add-two at, add-three at)
+
+-- a stack with four words laid down from `at` on: its length, and what it holds from there on
+module _ (s s′ : List ℕ) (at a b c d : ℕ) (laid : s′ ≡ sets s at (a ∷ b ∷ c ∷ d ∷ [])) (size : length s ≡ 512) where
+  pub laid-size : length s′ ≡ 512
+  laid-size = ap length laid ∙ length-sets s at (a ∷ b ∷ c ∷ d ∷ []) ∙ size
+
+  pub laid-words : at + 4 ≤ 512 → drop at s′ ≡ a ∷ b ∷ c ∷ d ∷ drop (at + 4) s
+  laid-words h =
+      ap (drop at) (laid ∙ sets-eq (a ∷ b ∷ c ∷ d ∷ []) s at (omega arith) ∙ append-assoc (take at s) (a ∷ b ∷ c ∷ d ∷ []) (drop (at + 4) s))
+      ∙ drop-at (take at s) ((a ∷ b ∷ c ∷ d ∷ []) ++ drop (at + 4) s) at (length-take-le at s (omega arith))

@@ -5,7 +5,8 @@ use mathlib.Core.Bool.{Bool, true, false}
 use mathlib.Core.List.{List, [], _∷_, _++_}
 use Prim.Native.Nat.{ℕ, _+_, _*_, _^_, _≤_, _<_}
 use lib.Dec.{ltb}
-use lib.ListN.{length, drop, replicate}
+use lib.ListN.{drop, replicate}
+use lib.Seq.{sets}
 use Rattle.mass.specs.Split.{certain, whole}
 use Rattle.sets.specs.Sets.{joined, digit}
 use Rattle.plan.specs.Lists.{eventsOf}
@@ -57,8 +58,7 @@ pub record Pushed (depth mass low high at : ℕ) (stack stack′ : List ℕ) : T
   pub setHigh : ℕ
   pub word : setLow < 2 ^ 64
   pub set : joined setLow setHigh ≡ joined low high + 2 ^ depth
-  pub laid : drop at stack′ ≡ (depth + 1) ∷ mass ∷ setLow ∷ setHigh ∷ drop (at + 4) stack
-  pub sized : length stack′ ≡ 512
+  pub laid : stack′ ≡ sets stack at ((depth + 1) ∷ mass ∷ setLow ∷ setHigh ∷ [])
 
 -- so many dropped ends laid down before the ends to come, whatever the plan
 pub record Delayed (number at : ℕ) (stack stack′ : List ℕ) (r : ℕ) : Type 0 where

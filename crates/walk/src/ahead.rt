@@ -110,7 +110,7 @@ fn straight(count: u64, threshold: u64, events: &[u64; 512], depth: u64, mass: u
 
 // Lays down the branch in which the event at a depth fails.
 fn push(stack: &mut [u64; 512], at: usize, depth: u64, mass: u64, low: u64, high: u64)
-    requires { ⌜ (depth < 128) × (low < 2 ^ 64) × (joined low high < 2 ^ depth) × (at + 4 ≤ 512) × (length (now stack) ≡ 512) ⌝ }
+    requires { ⌜ (depth < 128) × (low < 2 ^ 64) × (joined low high < 2 ^ depth) × (at + 4 ≤ 512) ⌝ }
     ensures { λ r. ⌜ Pushed depth mass low high at (now (stack .entry)) (now (stack .exit)) ⌝ }
 {
     let failing = with_event(low, high, depth);

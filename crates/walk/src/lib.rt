@@ -1,9 +1,10 @@
 // Scenarios and the walk over them: document 01, section "Scenarios".
 // Assumes nothing.
 ghost use mathlib.Core.Path.{_≡_};
-ghost use mathlib.Core.List.{_∷_};
+ghost use mathlib.Core.List.{[], _∷_};
 ghost use Prim.Native.Nat.{_+_, _^_, _≤_, _<_};
-ghost use lib.ListN.{length, drop};
+ghost use lib.ListN.{length};
+ghost use lib.Seq.{sets};
 ghost use Rattle.sets.specs.Sets.{joined};
 ghost use Rattle.walk.specs.Stack.{Begun};
 
@@ -71,9 +72,8 @@ fn with_event(low: u64, high: u64, event: u64) -> Failing
 
 // Lays a pending branch down in four words of the stack.
 fn put(stack: &mut [u64; 512], at: usize, depth: u64, mass: u64, failing: Failing)
-    requires { ⌜ (at + 4 ≤ 512) × (length (now stack) ≡ 512) ⌝ }
-    ensures { λ r. ⌜ drop at (now (stack .exit)) ≡ depth ∷ mass ∷ failing .low ∷ failing .high ∷ drop (at + 4) (now (stack .entry)) ⌝ }
-    ensures { λ r. ⌜ length (now (stack .exit)) ≡ 512 ⌝ }
+    requires { ⌜ at + 4 ≤ 512 ⌝ }
+    ensures { λ r. ⌜ now (stack .exit) ≡ sets (now (stack .entry)) at (depth ∷ mass ∷ failing .low ∷ failing .high ∷ []) ⌝ }
 {
     stack[at] = depth;
     stack[at + 1] = mass;

@@ -3,6 +3,7 @@ use borrow.Author.Needs.{needs}
 use mathlib.Core.Path.{refl}
 use native.Mathlib.Omega.{arith}
 use lib.ListN.{drop-of-length-le}
+use Rattle.walk.proofs.Words.{laid-size, laid-words}
 use Rattle.walk.proofs.begin.Statement.{statement}
 use Rattle.walk.proofs.begin.Tie as tie
 
@@ -11,10 +12,13 @@ put-requires c κs = search needs
 
 returns : tie.Need-returns
 returns c =
+    let a = c .before .before .args in
+    let laid = c .put .ensures in
+    let size = c .before .before .pre in
     record {
       place = refl;
-      alone = rw (← drop-of-length-le (c .before .before .args .stack .now) {i = 512} (omega arith)) (c .put .ensures .0);
-      sized = c .put .ensures .1;
+      alone = rw (← drop-of-length-le (a .stack .now) {i = 512} (omega arith)) (laid-words (a .stack .now) _ 508 (a .depth) (a .mass) (a .low) (a .high) laid size (omega arith));
+      sized = laid-size (a .stack .now) _ 508 (a .depth) (a .mass) (a .low) (a .high) laid size;
     }
 
 pub begin-spec : {M : Type 1} → statement M

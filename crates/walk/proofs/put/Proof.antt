@@ -1,7 +1,6 @@
--- `walk::put` meets its contract: four stores are four words put over. Assumes nothing.
+-- `walk::put` meets its contract: four stores lay down four words. Assumes nothing.
 use native.Mathlib.Omega.{arith}
-use lib.ListN.{length-set}
-use Rattle.walk.proofs.Words.{words-stored}
+use Rattle.walk.proofs.Words.{words-put}
 use Rattle.walk.proofs.put.Statement.{statement}
 use Rattle.walk.proofs.put.Tie as tie
 
@@ -39,7 +38,7 @@ element-write-stack-4 : tie.Need-element-write-stack-4
 element-write-stack-4 c = omega arith
 
 returns : tie.Need-returns
-returns c = (words-stored (c .args .stack .now) (c .args .at) _ _ _ _ (omega arith), simp length-set (c .pre .1))
+returns c = words-put (c .args .stack .now) (c .args .at) _ _ _ _
 
 pub put-spec : {M : Type 1} → statement M
 put-spec =

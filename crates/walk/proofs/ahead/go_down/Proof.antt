@@ -80,7 +80,7 @@ push-requires c κs =
     let two = c .before .before .before .before in
     let s = two .before .before .before in
     let g = two .before .before .loop .inv in
-    (omega arith, g .hand .word, g .hand .decided, room-next _ _ _ _ _ _ _ _ _ _ g (s .pre .0 .0) (s .pre .0 .1) (two .before .if1 .left) (two .if2 .left), g .held .sized)
+    (omega arith, g .hand .word, g .hand .decided, room-next _ _ _ _ _ _ _ _ _ _ g (s .pre .0 .0) (s .pre .0 .1) (two .before .if1 .left) (two .if2 .left))
 
 add-d : tie.Need-add-d Inv-loop μ-loop
 add-d c = omega arith
