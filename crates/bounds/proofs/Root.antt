@@ -17,16 +17,15 @@ use Rattle.walk.specs.Ends.{sumEnds, weighed}
 use Rattle.walk.proofs.Laws.{masses-le}
 use Rattle.walk.specs.Walk.{planEnds, firstEnds}
 use Rattle.walk.proofs.EndsLaws.{count-sum}
-use Rattle.walk.specs.Stack.{Begun}
 use Rattle.walk.proofs.Valid.{held-probable}
-use Rattle.walk.proofs.Resume.{begun-stack, begun-whole, root-entry, complete-at}
+use Rattle.walk.proofs.Resume.{Alone, begun-stack, begun-whole, root-entry, complete-at}
 use Rattle.pairs.specs.Pairs.{place}
 use Rattle.bounds.specs.Bounds.{cuts}
 use Rattle.bounds.specs.Tallied.{coming, Ready, Tallied, Summed, Cleared}
 use Rattle.bounds.specs.Calls.{totalsOf}
 use Rattle.bounds.specs.declared.Tally.{Tally}
 
-module _ (h : Header) (links words : List ℕ) (at : ℕ) (stack lower : List ℕ) (b : Begun 0 whole 0 0 at stack) (clear : Cleared lower) where
+module _ (h : Header) (links words : List ℕ) (at : ℕ) (stack lower : List ℕ) (b : Alone 0 whole 0 0 at stack) (clear : Cleared lower) where
   -- nothing is examined at the root
   abbrev start : Tally
   start = record { at = at; number = 0; mass = 0 }

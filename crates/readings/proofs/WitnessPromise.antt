@@ -16,8 +16,7 @@ use Rattle.refusals.proofs.OrderLaws.{stop, skip}
 use Rattle.walk.specs.Scenario.{Scenario}
 use Rattle.walk.specs.Ends.{End, scenarios}
 use Rattle.walk.specs.Walk.{examined}
-use Rattle.walk.specs.Stack.{Begun}
-use Rattle.walk.proofs.Resume.{begun-stack, begun-whole, root-entry}
+use Rattle.walk.proofs.Resume.{Alone, begun-stack, begun-whole, root-entry}
 use Rattle.pairs.specs.Pairs.{pairTest}
 use Rattle.plan.specs.Held.{Held}
 use Rattle.readings.specs.Witness.{noneTest, witnessRefusal, witnessNumber, witnessAnswer, failingIn, Shows}
@@ -28,7 +27,7 @@ use Rattle.readings.proofs.Refusing.{refuses}
 
 -- ---- from the root of the walk
 
-module _ (h : Header) (links words : List ℕ) (at : ℕ) (stack : List ℕ) (v w : ℕ) (b : Begun 0 whole 0 0 at stack) where
+module _ (h : Header) (links words : List ℕ) (at : ℕ) (stack : List ℕ) (v w : ℕ) (b : Alone 0 whole 0 0 at stack) where
   pub seeking-whole : Held h links words → (v < 64) × (w < 64) → Seeking h links words at stack v w
   seeking-whole held inside =
       record { held = held; stacked = begun-stack 0 whole 0 0 at stack b (omega arith) (h .events) (root-entry (h .events)); inside = inside }

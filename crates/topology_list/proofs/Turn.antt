@@ -16,11 +16,11 @@ use Rattle.plan.specs.declared.Header.{Header}
 use Rattle.walk.specs.Scenario.{Scenario, scenarioOf}
 use Rattle.walk.specs.Ends.{End, relevant, sumEnds}
 use Rattle.walk.proofs.Laws.{masses-le}
-use Rattle.walk.specs.Stack.{Stack, Begun}
+use Rattle.walk.specs.Stack.{Stack}
 use Rattle.walk.specs.Steps.{Handed}
 use Rattle.walk.proofs.Valid.{held-probable}
 use Rattle.walk.specs.declared.Step.{Step}
-use Rattle.walk.proofs.Resume.{begun-stack, begun-whole, root-entry, value-found, value-none, sum-found}
+use Rattle.walk.proofs.Resume.{Alone, begun-stack, begun-whole, root-entry, value-found, value-none, sum-found}
 use Rattle.entries.specs.Entries.{massesIn, added, TopologyList, topologyList, fitted}
 use Rattle.topology_list.specs.TopologyList.{placed, placedAll, topologyAfter, topologyListOf}
 use Rattle.topology_list.proofs.ListLaws.{refused-stays, masses-placed}
@@ -186,7 +186,7 @@ module _ (h : Header) (links words : List ℕ) (at₀ : ℕ) (stack₀ list₀ :
 
 -- ---- from the root
 
-module _ (h : Header) (links words : List ℕ) (at : ℕ) (stack : List ℕ) (b : Begun 0 whole 0 0 at stack) where
+module _ (h : Header) (links words : List ℕ) (at : ℕ) (stack : List ℕ) (b : Alone 0 whole 0 0 at stack) where
   pub ready-whole : Held h links words → MassesFit h links words at stack
   ready-whole held =
       record {

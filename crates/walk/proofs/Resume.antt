@@ -21,6 +21,7 @@ use Rattle.walk.proofs.ScenarioLaws.{scenario-length}
 use Rattle.walk.specs.Ends.{End, dropped, relevant, after, ends, endsAfter, sumEnds, scenarios}
 use Rattle.walk.proofs.EndsLaws.{ends-cut, ends-leaf, ends-node}
 use Rattle.walk.proofs.StackLaws.{root-ends, words-run, words-branch}
+use Rattle.walk.proofs.Words.{laid-size, laid-words}
 use Rattle.walk.specs.Walk.{planEnds, complete}
 use Rattle.walk.specs.Stack.{Begun, SoundBranch, wordsEnds, stackEnds, toCome, SoundEntry, SoundEntries, Stack}
 use Rattle.walk.specs.Steps.{Handed}
@@ -28,7 +29,24 @@ use Rattle.walk.specs.declared.Step.{Step}
 
 -- ---- the beginning
 
-module _ (depth mass low high at : ℕ) (stack : List ℕ) (b : Begun depth mass low high at stack) (few : depth ≤ 128) where
+-- a stack with one branch alone
+pub record Alone (depth mass low high at : ℕ) (stack : List ℕ) : Type 0 where
+  pub place : at ≡ 508
+  pub only : drop at stack ≡ depth ∷ mass ∷ low ∷ high ∷ []
+  pub sized : length stack ≡ 512
+
+pub begun-alone : (depth mass low high at : ℕ) (stack stack′ : List ℕ) → length stack ≡ 512 → Begun depth mass low high at stack stack′
+    → Alone depth mass low high at stack′
+begun-alone depth mass low high at stack stack′ size b =
+    record {
+      place = b .place;
+      only =
+          rw (← drop-of-length-le stack {i = at + 4} (omega (arith, b .place)))
+          (laid-words stack stack′ at depth mass low high (b .laid) size (omega (arith, b .place)));
+      sized = laid-size stack stack′ at depth mass low high (b .laid) size;
+    }
+
+module _ (depth mass low high at : ℕ) (stack : List ℕ) (b : Alone depth mass low high at stack) (few : depth ≤ 128) where
   -- a walk that begins at a branch may be gone on with
   pub begun-stack : (count : ℕ) → SoundBranch count depth mass low high 0 → Stack count at stack
   begun-stack count e =
@@ -36,20 +54,20 @@ module _ (depth mass low high at : ℕ) (stack : List ℕ) (b : Begun depth mass
         fours = rw (b .place);
         within = omega (arith, b .place);
         sized = b .sized;
-        entries = rw (b .alone) (record { run = λ (z : 128 < depth). absurd (omega arith); branch = λ (z : depth ≤ 128). e }, tt);
+        entries = rw (b .only) (record { run = λ (z : 128 < depth). absurd (omega arith); branch = λ (z : depth ≤ 128). e }, tt);
       }
 
   -- its ends are those that follow the branch's path
   pub begun-ends : (count threshold : ℕ) (words : List ℕ)
       → toCome count threshold words at stack ≡ endsAfter (scenarioOf depth (joined low high)) threshold mass (drop depth (eventsOf count words))
   begun-ends count threshold words =
-      rw (b .alone, words-branch threshold (eventsOf count words) depth mass low high few, append-nil, scenario-length)
+      rw (b .only, words-branch threshold (eventsOf count words) depth mass low high few, append-nil, scenario-length)
 
 -- at the root: the whole walk
-pub begun-whole : (at : ℕ) (stack : List ℕ) → Begun 0 whole 0 0 at stack → (count threshold : ℕ) (words : List ℕ)
+pub begun-whole : (at : ℕ) (stack : List ℕ) → Alone 0 whole 0 0 at stack → (count threshold : ℕ) (words : List ℕ)
     → toCome count threshold words at stack ≡ ends threshold whole (eventsOf count words)
 begun-whole at stack b count threshold words =
-    rw (b .alone, words-branch threshold (eventsOf count words) 0 whole 0 0 (omega arith), append-nil) (root-ends threshold whole (eventsOf count words))
+    rw (b .only, words-branch threshold (eventsOf count words) 0 whole 0 0 (omega arith), append-nil) (root-ends threshold whole (eventsOf count words))
 
 pub root-entry : (count : ℕ) → SoundBranch count 0 whole 0 0 0
 root-entry count = record { deep = omega arith; light = omega arith; word = omega arith; decided = omega arith; room = omega arith }

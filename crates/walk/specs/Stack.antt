@@ -6,6 +6,7 @@ use mathlib.Core.List.{List, [], _∷_, _++_}
 use Prim.Native.Nat.{ℕ, _*_, _%_, _^_, _≤_, _<_}
 use lib.Dec.{ltb}
 use lib.ListN.{length, drop, replicate}
+use lib.Seq.{sets}
 use Rattle.mass.specs.Split.{whole}
 use Rattle.sets.specs.Sets.{joined}
 use Rattle.plan.specs.Plan.{Event}
@@ -64,8 +65,7 @@ pub record Stack (count at : ℕ) (stack : List ℕ) : Type 0 where
   pub sized : length stack ≡ 512
   pub entries : SoundEntries count (drop at stack)
 
--- a stack with one branch alone
-pub record Begun (depth mass low high at : ℕ) (stack : List ℕ) : Type 0 where
+-- a branch laid down in the last four words: it is alone on the stack
+pub record Begun (depth mass low high at : ℕ) (stack stack′ : List ℕ) : Type 0 where
   pub place : at ≡ 508
-  pub alone : drop at stack ≡ depth ∷ mass ∷ low ∷ high ∷ []
-  pub sized : length stack ≡ 512
+  pub laid : stack′ ≡ sets stack at (depth ∷ mass ∷ low ∷ high ∷ [])

@@ -3,7 +3,6 @@
 ghost use mathlib.Core.Path.{_≡_};
 ghost use mathlib.Core.List.{[], _∷_};
 ghost use Prim.Native.Nat.{_+_, _^_, _≤_, _<_};
-ghost use lib.ListN.{length};
 ghost use lib.Seq.{sets};
 ghost use Rattle.sets.specs.Sets.{joined};
 ghost use Rattle.walk.specs.Stack.{Begun};
@@ -84,8 +83,7 @@ fn put(stack: &mut [u64; 512], at: usize, depth: u64, mass: u64, failing: Failin
 // Begins a walk at a branch, the root (0 events decided and one whole, for the whole walk): the only one on the stack. Returns where the
 // stack begins.
 pub fn begin(stack: &mut [u64; 512], depth: u64, mass: u64, low: u64, high: u64) -> usize
-    requires { ⌜ length (now stack) ≡ 512 ⌝ }
-    ensures { λ r. ⌜ Begun depth mass low high r (now (stack .exit)) ⌝ }
+    ensures { λ r. ⌜ Begun depth mass low high r (now (stack .entry)) (now (stack .exit)) ⌝ }
 {
     put(stack, 508, depth, mass, Failing { low, high });
     508

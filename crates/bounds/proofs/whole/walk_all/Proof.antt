@@ -1,5 +1,7 @@
 -- `bounds::whole::walk_all` meets its contract. Assumes nothing.
 use borrow.Author.Needs.{needs}
+use mathlib.Core.Path.{refl}
+use Rattle.walk.proofs.Resume.{begun-alone}
 use Rattle.bounds.proofs.Root.{ready-whole, whole-totals, whole-sums}
 use Rattle.bounds.proofs.whole.walk_all.Statement.{statement}
 use Rattle.bounds.proofs.whole.walk_all.Tie as tie
@@ -13,7 +15,7 @@ begin-requires c κs = search needs
 go-on-requires : tie.Need-go-on-requires
 go-on-requires c κs =
     let pre = c .before .before .before .before .before .before .pre in
-    (c .before .before .before .before .before .links-at .ensures, ready-whole _ _ _ _ _ _ (c .before .before .before .begin .ensures) (pre .1 .1) (pre .0) (pre .1 .0))
+    (c .before .before .before .before .before .links-at .ensures, ready-whole _ _ _ _ _ _ (begun-alone _ _ _ _ _ _ _ refl (c .before .before .before .begin .ensures)) (pre .1 .1) (pre .0) (pre .1 .0))
 
 none-left-requires : tie.Need-none-left-requires
 none-left-requires c κs = search needs
@@ -21,7 +23,7 @@ none-left-requires c κs = search needs
 returns : tie.Need-returns
 returns c =
     let e = c .before .before .before .before .before .before .before .before in
-    let begun = c .before .before .before .before .before .begin .ensures in
+    let begun = begun-alone _ _ _ _ _ _ _ refl (c .before .before .before .before .before .begin .ensures) in
     let tallied = c .before .go-on .ensures in (
       whole-totals _ _ _ _ _ _ begun (e .pre .1 .1) _ _ _ tallied _ (c .none-left .ensures),
       whole-sums _ _ _ _ _ _ begun (e .pre .1 .1) _ _ _ tallied,

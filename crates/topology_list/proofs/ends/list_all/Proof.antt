@@ -1,5 +1,7 @@
 -- `topology_list::ends::list_all` meets its contract. Assumes nothing.
 use borrow.Author.Needs.{needs}
+use mathlib.Core.Path.{refl}
+use Rattle.walk.proofs.Resume.{begun-alone}
 use Rattle.topology_list.proofs.Turn.{ready-whole, whole-listing}
 use Rattle.topology_list.proofs.ends.list_all.Statement.{statement}
 use Rattle.topology_list.proofs.ends.list_all.Tie as tie
@@ -13,7 +15,7 @@ begin-requires c κs = search needs
 list-ends-requires : tie.Need-list-ends-requires
 list-ends-requires c κs = (
   c .before .before .before .before .before .links-at .ensures,
-  ready-whole _ _ _ _ _ (c .before .before .before .begin .ensures) (c .before .before .before .before .before .before .before .pre),
+  ready-whole _ _ _ _ _ (begun-alone _ _ _ _ _ _ _ refl (c .before .before .before .begin .ensures)) (c .before .before .before .before .before .before .before .pre),
 )
 
 same-length : tie.Need-same-length
@@ -22,7 +24,7 @@ same-length c = search needs
 returns : tie.Need-returns
 returns c =
     let e = c .before .before .list-ends .ensures in
-    let b = c .before .before .before .before .before .before .begin .ensures in
+    let b = begun-alone _ _ _ _ _ _ _ refl (c .before .before .before .before .before .before .begin .ensures) in
     rw (whole-listing _ _ _ _ _ b _) at e
 
 pub list-all-spec : {M : Type 1} → statement M
