@@ -1,7 +1,7 @@
--- `bounds::whole::none_left` meets its contract. Assumes nothing.
+-- `bounds::full_walk::none_left` meets its contract. Assumes nothing.
 use borrow.Author.Tests.{le-leb, lt-leb}
-use Rattle.bounds.proofs.whole.none_left.Statement.{statement}
-use Rattle.bounds.proofs.whole.none_left.Tie as tie
+use Rattle.bounds.proofs.full_walk.none_left.Statement.{statement}
+use Rattle.bounds.proofs.full_walk.none_left.Tie as tie
 
 returns : tie.Need-returns
 returns c = simp (le-leb _ _ (c .if1 .taken))

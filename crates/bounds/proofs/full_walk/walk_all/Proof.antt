@@ -1,8 +1,8 @@
--- `bounds::whole::walk_all` meets its contract. Assumes nothing.
+-- `bounds::full_walk::walk_all` meets its contract. Assumes nothing.
 use borrow.Author.Needs.{needs}
 use Rattle.bounds.proofs.Root.{ready-whole, whole-totals, whole-sums}
-use Rattle.bounds.proofs.whole.walk_all.Statement.{statement}
-use Rattle.bounds.proofs.whole.walk_all.Tie as tie
+use Rattle.bounds.proofs.full_walk.walk_all.Statement.{statement}
+use Rattle.bounds.proofs.full_walk.walk_all.Tie as tie
 
 links-at-requires : tie.Need-links-at-requires
 links-at-requires c κs = c .pre .0 .links-held

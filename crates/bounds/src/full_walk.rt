@@ -1,4 +1,4 @@
-// The whole walk of an accepted plan.
+// The full walk of an accepted plan.
 use crate::Tally;
 use crate::Totals;
 use crate::ends::go_on;
@@ -23,7 +23,7 @@ fn none_left(at: usize) -> u64
     0
 }
 
-// The whole walk of an accepted plan: the totals, and the lower bounds in the entries of the pairs.
+// The full walk of an accepted plan: the totals, and the lower bounds in the entries of the pairs.
 pub fn walk_all(h: Header, links: &[u8; 256], words: &[u64; 512], lower: &mut [u64; 2016]) -> Totals
     requires { ⌜ Held h (now links) (now words) ⌝ }
     requires { ⌜ h .limit < 4294967296 ⌝ }
