@@ -257,8 +257,8 @@ fn reachable(dropped: u64, left: u64) -> u64
     left
 }
 
-// The next relevant scenario among the ends that may still be reached: passes over dropped ends, counting each. Those of a descent's dropped
-// ends that may not be reached are laid down again.
+// The next relevant scenario among the ends that may still be reached: passes over dropped ends, counting each. Those of a descent's
+// dropped ends that may not be reached are laid down again.
 pub fn next_relevant(
     count: u64,
     threshold: u64,
