@@ -1,4 +1,4 @@
--- `reader::copying::copy_plan` meets its contract: a walk of its MIR, by hand. Two arrays of its own, of bytes and of records, are lent as slices by `&mut` to
+-- `copying::copy_plan` meets its contract: a walk of its MIR, by hand. Two arrays of its own, of bytes and of records, are lent as slices by `&mut` to
 -- `read_records`, come back, and are lent by `&` to `write_records`; the output is given up for good to that call.
 -- Assumes nothing.
 use mathlib.Core.Path.{_≡_, refl}
@@ -66,29 +66,30 @@ use Rattle.files.proofs.header_in.Symbol as head-def
 use Rattle.files.proofs.header_in.Symbol.{name as #head}
 use Rattle.files.proofs.header_in.Met as head-thm
 use Rattle.records.specs.Events.{wordsOf}
 use Rattle.reader.specs.Filled.{eventRecords, filledRecords}
-use Rattle.reader.specs.Copying.{copyRefusal, copyAnswer}
+use Rattle.copying.specs.Copying.{copyRefusal, copyAnswer}
 use Rattle.records.specs.declared.Event.{Event}
 use Rattle.records.proofs.EventRow.{E, event, event-vals, event-tells, event-lawful}
 use Rattle.records.proofs.Lending.{array-lies, lends-mut, back-mut, Kept, lends-imm, back-imm, says2}
-use Rattle.reader.proofs.CopyLaws.{no-links, no-events, copied-plan}
+use Rattle.reader.proofs.WholeLists.{no-links, no-events}
+use Rattle.copying.proofs.CopyLaws.{copied-plan}
 use Rattle.reader.proofs.Arrays.{Bytes′, Events′, links-val, events-val, links-room, events-room, links-own, events-own, row-bytes}
 use Rattle.reader.proofs.read_records as reads
 use Rattle.reader.proofs.read_records.Symbol as reads-def
 use Rattle.reader.proofs.read_records.Symbol.{name as #read-records}
 use Rattle.reader.proofs.read_records.Met as reads-thm
 use Rattle.records.proofs.write_records as writes
 use Rattle.records.proofs.write_records.Symbol as writes-def
 use Rattle.records.proofs.write_records.Symbol.{name as #write-records}
 use Rattle.records.proofs.write_records.Met as writes-thm
-use Rattle.reader.proofs.copying.answer_of as answer-of
-use Rattle.reader.proofs.copying.answer_of.Symbol as answer-of-def
-use Rattle.reader.proofs.copying.answer_of.Symbol.{name as #answer-of}
-use Rattle.reader.proofs.copying.answer_of.Met as answer-of-thm
-use Rattle.reader.proofs.copying.copy_plan.Key.{name as #copy-plan}
-use Rattle.reader.proofs.copying.copy_plan as copies
-use Rattle.reader.proofs.copying.copy_plan.Statement as stated
-use Rattle.reader.proofs.copying.copy_plan.Code as code
+use Rattle.copying.proofs.answer_of as answer-of
+use Rattle.copying.proofs.answer_of.Symbol as answer-of-def
+use Rattle.copying.proofs.answer_of.Symbol.{name as #answer-of}
+use Rattle.copying.proofs.answer_of.Met as answer-of-thm
+use Rattle.copying.proofs.copy_plan.Key.{name as #copy-plan}
+use Rattle.copying.proofs.copy_plan as copies
+use Rattle.copying.proofs.copy_plan.Statement as stated
+use Rattle.copying.proofs.copy_plan.Code as code
 
 abbrev stayed : Stays (copies.ended .signature .params) (copies.ended .kept)
 stayed = (stay-none-slice (0 ∷ []) tt (plain (λ _. u8)) yes, (gave-slice (1 ∷ []) tt (plain (λ _. u8)), tt))
@@ -323,4 +324,4 @@ copy-plan-spec 𝓤 H 𝓜 𝓖 𝓡 =
     (cited 𝓤 H (Reads 𝓤 H (𝓖 .A) (𝓜 .mem) (𝓡 .run)) 𝓜 𝓡 code.env #read-records reads-def.routine code.calls-reader·read-records (reads-thm.met 𝓤 H 𝓜 𝓖 𝓡))
     (cited 𝓤 H (HeaderIn 𝓤 H (𝓖 .A) (𝓜 .mem) (𝓡 .run)) 𝓜 𝓡 code.env #head head-def.routine code.calls-files·header-in (head-thm.met 𝓤 H 𝓜 𝓖 𝓡))
     (cited 𝓤 H (Writes 𝓤 H (𝓖 .A) (𝓜 .mem) (𝓡 .run)) 𝓜 𝓡 code.env #write-records writes-def.routine code.calls-records·write-records (writes-thm.met 𝓤 H 𝓜 𝓖 𝓡))
-    (cited 𝓤 H (AnswerOf 𝓤 H (𝓖 .A) (𝓜 .mem) (𝓡 .run)) 𝓜 𝓡 code.env #answer-of answer-of-def.routine code.calls-reader·copying·answer-of (answer-of-thm.met 𝓤 H 𝓜 𝓖 𝓡)))
+    (cited 𝓤 H (AnswerOf 𝓤 H (𝓖 .A) (𝓜 .mem) (𝓡 .run)) 𝓜 𝓡 code.env #answer-of answer-of-def.routine code.calls-copying·answer-of (answer-of-thm.met 𝓤 H 𝓜 𝓖 𝓡)))

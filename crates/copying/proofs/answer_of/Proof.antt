@@ -1,10 +1,10 @@
--- `reader::copying::answer_of` meets its contract. Assumes nothing.
+-- `copying::answer_of` meets its contract. Assumes nothing.
 use mathlib.Core.Path.{sym, ap}
 use borrow.Author.Needs.{needs}
 use Rattle.plan.specs.declared.Reading.{Reading}
-use Rattle.reader.specs.Copying.{copyAnswer}
-use Rattle.reader.proofs.copying.answer_of.Statement.{statement}
-use Rattle.reader.proofs.copying.answer_of.Tie as tie
+use Rattle.copying.specs.Copying.{copyAnswer}
+use Rattle.copying.proofs.answer_of.Statement.{statement}
+use Rattle.copying.proofs.answer_of.Tie as tie
 
 enum-known-answer : tie.Need-enum-known-answer
 enum-known-answer c = search needs

@@ -1,16 +1,17 @@
 // Copying a plan file by way of records: one function with plain parameters over the reader and the writer on lists of records.
-use crate::read_records;
+// Assumes nothing.
 use plan::Reading;
 use plan::Writing;
+use reader::read_records;
 use records::Event;
 use records::write_records;
 ghost use mathlib.Core.Path.{_≡_};
 ghost use lib.ListN.{length};
 ghost use Rattle.plan.specs.Calls.{filled, writeAnswer};
-ghost use Rattle.reader.specs.Copying.{copyAnswer, copyRefusal};
+ghost use Rattle.copying.specs.Copying.{copyAnswer, copyRefusal};
 
 // What a copy answers: the reader's number where it refuses, else what the writer answers.
-pub fn answer_of(answer: Reading, written: Writing) -> Writing
+fn answer_of(answer: Reading, written: Writing) -> Writing
     ensures { λ r. ⌜ r ≡ copyAnswer answer written ⌝ }
 {
     match answer {
