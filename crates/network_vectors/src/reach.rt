@@ -1,6 +1,6 @@
 // Holding what the nodes of a network reach to what it should be.
+use crate::held;
 use network::Failed;
-use network_vectors::held;
 use vectors::same_at;
 use vectors::same_part;
 ghost use Rattle.plan.specs.Held.{LinksHeld};

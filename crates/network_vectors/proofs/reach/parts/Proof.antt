@@ -1,7 +1,7 @@
--- `trials_reach::reach::parts` is safe and ends: what `held` promises is what `compared` asks for. Assumes nothing.
+-- `network_vectors::reach::parts` is safe and ends: what `held` promises is what `compared` asks for. Assumes nothing.
 use borrow.Author.Needs.{needs}
-use Rattle.trials_reach.proofs.reach.parts.Statement.{statement}
-use Rattle.trials_reach.proofs.reach.parts.Tie as tie
+use Rattle.network_vectors.proofs.reach.parts.Statement.{statement}
+use Rattle.network_vectors.proofs.reach.parts.Tie as tie
 
 held-requires : tie.Need-held-requires
 held-requires c κs = search needs

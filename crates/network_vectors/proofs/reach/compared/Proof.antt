@@ -1,8 +1,8 @@
--- `trials_reach::reach::compared` is safe and ends: the node is at most 64. Assumes nothing.
+-- `network_vectors::reach::compared` is safe and ends: the node is at most 64. Assumes nothing.
 use Prim.Native.Nat.{_≤_, _-_}
 use borrow.Author.Needs.{needs}
-use Rattle.trials_reach.proofs.reach.compared.Statement.{statement}
-use Rattle.trials_reach.proofs.reach.compared.Tie as tie
+use Rattle.network_vectors.proofs.reach.compared.Statement.{statement}
+use Rattle.network_vectors.proofs.reach.compared.Tie as tie
 
 abbrev Inv-loop : tie.InvT-loop
 Inv-loop label n links count failed first want table v₀ v = v ≤ 64
