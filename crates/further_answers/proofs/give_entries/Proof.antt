@@ -1,8 +1,8 @@
--- `answers::further::give_entries` meets its contract: case by case. Assumes nothing.
+-- `further_answers::give_entries` meets its contract: case by case. Assumes nothing.
 use mathlib.Core.Path.{refl}
 use borrow.Author.Needs.{needs}
-use Rattle.answers.proofs.further.give_entries.Statement.{statement}
-use Rattle.answers.proofs.further.give_entries.Tie as tie
+use Rattle.further_answers.proofs.give_entries.Statement.{statement}
+use Rattle.further_answers.proofs.give_entries.Tie as tie
 
 enum-known-answer : tie.Need-enum-known-answer
 enum-known-answer c = search needs

@@ -1,7 +1,9 @@
-// The answers of the further readings.
-use crate::lay::give_three;
-use crate::lay::give_two;
-use crate::lay::put;
+// The answers of the further readings as numbers, for the exports of crate `probe`, as crate `answers` has those of the other calls: the
+// number of the refusal, or 0, is returned, and the values are laid down in a lent list, as far as it has room.
+// Assumes nothing.
+use answers::give_three;
+use answers::give_two;
+use answers::put;
 use readings::Figured;
 use readings::Shares;
 use readings::Timed;
@@ -13,9 +15,9 @@ ghost use mathlib.Core.Path.{_≡_};
 ghost use lib.Dec.{T};
 ghost use lib.Ieee.{binary64, isNan, toBits};
 ghost use Rattle.readings.specs.Figure.{floatsIn, Numbers};
 ghost use Rattle.answers.specs.Laid.{laid};
-ghost use Rattle.answers.specs.Answers.{listedNumber, entriesValues, figuredNumber, figureValues, timedNumber, secondsValues};
-ghost use Rattle.answers.specs.Answers.{witnessedNumber, failingValues};
+ghost use Rattle.further_answers.specs.FurtherAnswers.{listedNumber, entriesValues, figuredNumber, figureValues};
+ghost use Rattle.further_answers.specs.FurtherAnswers.{timedNumber, secondsValues, witnessedNumber, failingValues};
 
 // How many entries the topology list has.
 pub fn give_entries(answer: Listed, result: &mut [u64]) -> u32

@@ -1,9 +1,9 @@
--- `answers::further::give_figure` meets its contract: a figure that was given has no NaN, so its bits may be taken. Assumes nothing.
+-- `further_answers::give_figure` meets its contract: a figure that was given has no NaN, so its bits may be taken. Assumes nothing.
 use mathlib.Core.Path.{refl}
 use Rattle.readings.proofs.FigureLaws.{given-numbers}
 use borrow.Author.Needs.{needs}
-use Rattle.answers.proofs.further.give_figure.Statement.{statement}
-use Rattle.answers.proofs.further.give_figure.Tie as tie
+use Rattle.further_answers.proofs.give_figure.Statement.{statement}
+use Rattle.further_answers.proofs.give_figure.Tie as tie
 
 enum-known-answer : tie.Need-enum-known-answer
 enum-known-answer c = search needs
