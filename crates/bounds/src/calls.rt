@@ -2,7 +2,7 @@
 use crate::PairBounds;
 use crate::Paired;
 use crate::Ran;
-use crate::whole::walk_all;
+use crate::full_walk::walk_all;
 use pairs::give_bounds;
 use pairs::pair_test;
 use pairs::start_of;

@@ -2,12 +2,11 @@
 // Assumes nothing.
 mod calls;
 mod ends;
-mod whole;
+mod full_walk;
 
 pub use calls::pair;
 pub use calls::run;
-pub use ends::go_on;
-pub use whole::walk_all;
+pub use full_walk::walk_all;
 
 // Where the stack of the walk begins, how many scenarios are examined so far, and their mass.
 pub struct Tally {

@@ -1,8 +1,11 @@
-// What the test programs of networks share: links in an array as in a plan, two bytes each, what has failed, and whether a plan may have
-// such links.
+// What the test programs of networks share: links in an array as in a plan, two bytes each, what has failed, whether a plan may have
+// such links, and holding what the nodes of a network reach to what it should be.
 // Assumes nothing.
+mod reach;
+
 use network::Failed;
 use plan::Header;
+pub use reach::parts;
 ghost use mathlib.Core.Path.{_≡_};
 ghost use mathlib.Core.Bool.{true};
 ghost use Rattle.plan.specs.Held.{LinksHeld};

@@ -14,8 +14,8 @@ use Rattle.readings.specs.Downtime.{downtimeAnswer}
 use Rattle.readings.specs.declared.Shares.{Shares}
 use Rattle.readings.specs.declared.Seconds.{Seconds}
 use Rattle.topology_list.specs.Calls.{listedAnswer}
-use Rattle.answers.specs.Answers.{readingNumber, writtenNumber, ranNumber, pairedNumber, listedNumber, figuredNumber, timedNumber}
-use Rattle.answers.specs.Answers.{witnessedNumber}
+use Rattle.answers.specs.Answers.{readingNumber, writtenNumber, ranNumber, pairedNumber}
+use Rattle.further_answers.specs.FurtherAnswers.{listedNumber, figuredNumber, timedNumber, witnessedNumber}
 
 pub read-back : (n : ℕ) (h : Header) → readingNumber (readAnswer n h) ≡ n
 read-back zero h = refl

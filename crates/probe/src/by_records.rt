@@ -5,7 +5,7 @@ ghost use Rattle.plan.specs.File.{planOf};
 ghost use Rattle.plan.specs.Calls.{filled, writeAnswer};
 ghost use Rattle.bounds.specs.Bounds.{lowerList, upperList};
 ghost use Rattle.bounds.specs.Calls.{totalsOf, ranAnswer};
-ghost use Rattle.reader.specs.Copying.{copyRefusal};
+ghost use Rattle.copying.specs.Copying.{copyRefusal};
 ghost use Rattle.record_runs.specs.Running.{fileNumber};
 ghost use Rattle.answers.specs.Laid.{laid};
 ghost use Rattle.answers.specs.Answers.{sizeValues, totalsValues};
@@ -32,5 +32,5 @@ pub extern "C" fn probe_copy_plan(plan: &[u8], out: &mut [u8], size: &mut [u64])
     ensures out { λ r. ⌜ now (out .exit) ≡ filled r (now (plan .entry)) (now (out .entry)) ⌝ }
     ensures size { λ r. ⌜ now (size .exit) ≡ laid (sizeValues (writeAnswer r (length (now (plan .entry))))) (now (size .entry)) ⌝ }
 {
-    answers::give_size(reader::copy_plan(plan, out), size)
+    answers::give_size(copying::copy_plan(plan, out), size)
 }

@@ -7,7 +7,8 @@ ghost use Rattle.readings.specs.Figure.{figureOf};
 ghost use Rattle.readings.specs.Witness.{witnessNumber};
 ghost use Rattle.readings.specs.Downtime.{downtimeAnswer, downtimeRefusal, secondsOf};
 ghost use Rattle.answers.specs.Laid.{laid};
-ghost use Rattle.answers.specs.Answers.{headerWith, figureValues, secondsValues, WitnessHanded};
+ghost use Rattle.answers.specs.Answers.{headerWith};
+ghost use Rattle.further_answers.specs.FurtherAnswers.{figureValues, secondsValues, WitnessHanded};
 
 #[no_mangle]
 pub extern "C" fn probe_figure(
@@ -29,7 +30,7 @@ pub extern "C" fn probe_figure(
         (now (bits .entry)) ⌝ }
 {
     let h = header(nodes, links_count, events_count, threshold, limit);
-    answers::give_figure(readings::figure(h, links, events, v, w), bits)
+    further_answers::give_figure(readings::figure(h, links, events, v, w), bits)
 }
 
 #[no_mangle]
@@ -52,7 +53,7 @@ pub extern "C" fn probe_witness(
         r (now (result .entry)) (now (result .exit)) ⌝ }
 {
     let h = header(nodes, links_count, events_count, threshold, limit);
-    answers::give_failing(readings::witness(h, links, events, v, w), result)
+    further_answers::give_failing(readings::witness(h, links, events, v, w), result)
 }
 
 #[no_mangle]
@@ -61,5 +62,5 @@ pub extern "C" fn probe_downtime(lower: u64, upper: u64, result: &mut [u64]) -> 
     ensures result { λ r. ⌜ now (result .exit) ≡ laid
         (secondsValues (downtimeAnswer r (secondsOf lower upper))) (now (result .entry)) ⌝ }
 {
-    answers::give_seconds(readings::downtime(lower, upper), result)
+    further_answers::give_seconds(readings::downtime(lower, upper), result)
 }

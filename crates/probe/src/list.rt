@@ -5,7 +5,8 @@ ghost use Prim.Native.Nat.{_/_};
 ghost use lib.ListN.{length};
 ghost use Rattle.topology_list.specs.Calls.{topologyListIn, topologiesNumber, listedAnswer, listAfter};
 ghost use Rattle.answers.specs.Laid.{laid};
-ghost use Rattle.answers.specs.Answers.{headerWith, entriesValues};
+ghost use Rattle.answers.specs.Answers.{headerWith};
+ghost use Rattle.further_answers.specs.FurtherAnswers.{entriesValues};
 
 #[no_mangle]
 pub extern "C" fn probe_topologies(
@@ -28,5 +29,5 @@ pub extern "C" fn probe_topologies(
         (now (links .entry)) (now (events .entry)) (now (list .entry)) .entries)))) (now (result .entry)) ⌝ }
 {
     let h = header(nodes, links_count, events_count, threshold, limit);
-    answers::give_entries(topology_list::topologies(h, links, events, list), result)
+    further_answers::give_entries(topology_list::topologies(h, links, events, list), result)
 }

@@ -24,7 +24,7 @@ use denote.Slice.{Room}
 use denote.Steps.{owned, peeks}
 use Rattle.plan.specs.Layout.{Bytes}
 use Rattle.records.proofs.EventRow.{E, event-val, event-makes, event-copy, no-event, no-event-is}
-use Rattle.reader.proofs.CopyLaws.{no-links, no-events}
+use Rattle.reader.proofs.WholeLists.{no-links, no-events}
 
 abbrev pub Bytes′ : RattleType
 Bytes′ = Array u8 256

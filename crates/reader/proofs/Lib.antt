@@ -1,4 +1,4 @@
 -- Laws that the proofs of the crate `reader` share.
 pub mod ReadLaws
-pub mod CopyLaws
+pub mod WholeLists
 pub mod Arrays

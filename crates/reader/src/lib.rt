@@ -1,10 +1,8 @@
 // A reader that keeps the caller's bytes and its position in them together, and hands the events over as a lent list of records: document
 // 01, section "Plan file". Every function that takes a list of records, or a reader, is proved by hand; each is thin over covered
 // functions on slices, arrays and numbers. Assumes nothing.
-mod copying;
 mod words;
 
-pub use copying::copy_plan;
 use plan::Reading;
 use plan::Step;
 use records::Event;

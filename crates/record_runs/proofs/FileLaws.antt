@@ -5,7 +5,6 @@ use mathlib.Core.List.{List}
 use Prim.Native.Nat.{ℕ, zero, suc, _/_}
 use native.Mathlib.Omega.{arith}
 use lib.ListN.{length}
-use lib.Seq.{sets}
 use Rattle.mass.specs.Refusal.{first}
 use Rattle.plan.specs.Plan.{Plan}
 use Rattle.plan.specs.Layout.{Bytes}
@@ -22,7 +21,7 @@ use Rattle.records.specs.Events.{wordsOf}
 use Rattle.reader.specs.Filled.{eventRecords, filledRecords}
 use Rattle.records.specs.declared.Event.{Event}
 use Rattle.records.proofs.EventLaws.{length-words}
-use Rattle.reader.proofs.CopyLaws.{no-links, no-events, full-rooms, same-plan, lists-pass}
+use Rattle.reader.proofs.WholeLists.{no-links, no-events, read-links, read-events, full-rooms, same-plan, lists-pass}
 use Rattle.record_runs.specs.Running.{fileRefusal, fileNumber, fileAnswer}
 use Rattle.record_runs.proofs.RunLaws.{Outcome}
 
@@ -46,21 +45,14 @@ unfolding fileRefusal first
 refused-first b lowerRoom upperRoom k e = rw e
 
 module _ (b : List ℕ) (bytes : Bytes b) (e : refusal b ≡ 0) where
-  -- the lists after a reading that is accepted
-  abbrev links : List ℕ
-  links = sets no-links 0 (linkBytes ((planOf b) .links))
-
-  abbrev records : List Event
-  records = sets no-events 0 (eventRecords ((planOf b) .events))
-
   -- an accepted file is refused as the run refuses the lists that were read from it: for the two rooms alone
-  pub same-number : (lo up : List ℕ) → runNumber (headerOf b) links (wordsOf records) lo up ≡ fileNumber b lo up
+  pub same-number : (lo up : List ℕ) → runNumber (headerOf b) (read-links b) (wordsOf (read-events b)) lo up ≡ fileNumber b lo up
   unfolding runRefusal fileRefusal first headerOf
   same-number lo up =
-      let k : length (wordsOf records) / 4 ≡ length records = omega (arith, length-words records) in
+      let k : length (wordsOf (read-events b)) / 4 ≡ length (read-events b) = omega (arith, length-words (read-events b)) in
       rw (k, lists-pass b bytes e, e)
 
-  ran-file : (lo up : List ℕ) (t : Ran) (lo′ up′ : List ℕ) → Outcome (headerOf b) links lo up (wordsOf records) t lo′ up′ → FilePromised (fileNumber b lo up) (planOf b) lo up t lo′ up′
+  ran-file : (lo up : List ℕ) (t : Ran) (lo′ up′ : List ℕ) → Outcome (headerOf b) (read-links b) lo up (wordsOf (read-events b)) t lo′ up′ → FilePromised (fileNumber b lo up) (planOf b) lo up t lo′ up′
   ran-file lo up t lo′ up′ =
       let z = same-number lo up in
       let q = same-plan b bytes e in

@@ -5,7 +5,7 @@ use mathlib.Core.Bool.{Bool, true, false, _||_, _&&_, not}
 use Prim.Native.Nat.{ℕ, _^_, _<_, _≤_}
 use native.Mathlib.Omega.{arith}
 use lib.Dec.{eqb}
-use borrow.Author.Tests.{ltb-false, leb-false, eqb-true, lt-ltb, le-ltb, lt-leb}
+use borrow.Author.Tests.{ltb-false, leb-false, eqb-true, le-ltb, lt-leb}
 use Rattle.mass.proofs.RefusalLaws.{refuse-none}
 use Rattle.refusals.specs.Tests.{shortTest, markTest, versionTest, countsTest, countOfKind, rank, memberTest, setsTest, leftTest}
 use Rattle.refusals.specs.Tests.{roomTest}
@@ -79,9 +79,3 @@ left-none left e = let h : left ≤ 0 = ltb-false 0 left (refuse-none _ 10 e) in
 
 pub room-none : (room need : ℕ) → roomTest room need ≡ 0 → need ≤ room
 room-none room need e = ltb-false room need (refuse-none _ 11 e)
-
-pub room-pass : (room need : ℕ) → need ≤ room → roomTest room need ≡ 0
-room-pass room need h = rw (le-ltb room need h)
-
-pub short-stop : (left need : ℕ) → left < need → shortTest left need ≡ 1
-short-stop left need h = rw (lt-ltb left need h)

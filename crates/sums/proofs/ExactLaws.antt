@@ -4,7 +4,6 @@ use mathlib.Core.Path.{_≡_, refl, ap, ap₂, _∙_}
 use mathlib.Core.Bool.{Bool, true, false}
 use mathlib.Core.List.{List, [], _∷_, _++_, map}
 use Prim.Native.Nat.{ℕ, zero, suc, _+_, _-_, _*_, _^_, _≤_}
-use native.Mathlib.Nat.{mul-le-mul-left}
 use native.Mathlib.Omega.{arith}
 use lib.ListN.{length}
 use lib.Pow.{pow-add}
@@ -66,7 +65,7 @@ exactSum-event e events w =
     side : (b : Bool) → sumOver value (map (λ s. b ∷ s) sets) ≡ factor b (e .probability) * sumOver (λ s. exact events s * w (b ∷ s)) sets
     side b = sumOver-map value (λ s. b ∷ s) sets ∙ sumOver-times (factor b (e .probability)) (exact events) (λ s. w (b ∷ s)) sets
 
--- law: the sum of two weights, of a multiple of a weight, and of a weight that is at most another
+-- law: the sum of two weights, and of a multiple of a weight
 module _ (f : Scenario → ℕ) where
   sumOver-add : (v w : Scenario → ℕ) (xs : List Scenario) → sumOver (λ s. f s * (v s + w s)) xs ≡ sumOver (λ s. f s * v s) xs + sumOver (λ s. f s * w s) xs
   sumOver-add v w [] = omega arith
@@ -76,10 +75,6 @@ module _ (f : Scenario → ℕ) where
   sumOver-scaled k w [] = omega arith
   sumOver-scaled k w (s ∷ xs) = omega (arith, sumOver-scaled k w xs)
 
-  sumOver-mono : (v w : Scenario → ℕ) → ((s : Scenario) → v s ≤ w s) → (xs : List Scenario) → sumOver (λ s. f s * v s) xs ≤ sumOver (λ s. f s * w s) xs
-  sumOver-mono v w h [] = omega arith
-  sumOver-mono v w h (s ∷ xs) = omega (arith, sumOver-mono v w h xs, mul-le-mul-left (f s) (h s))
-
 module _ (events : List Event) where
   pub exactSum-add : (v w : Scenario → ℕ) → exactSum events (λ s. v s + w s) ≡ exactSum events v + exactSum events w
   unfolding exactSum
@@ -88,10 +83,6 @@ module _ (events : List Event) where
   pub exactSum-times : (k : ℕ) (w : Scenario → ℕ) → exactSum events (λ s. k * w s) ≡ k * exactSum events w
   unfolding exactSum
   exactSum-times k w = sumOver-scaled (exact events) k w (allSets (length events))
-
-  pub exactSum-mono : (v w : Scenario → ℕ) → ((s : Scenario) → v s ≤ w s) → exactSum events v ≤ exactSum events w
-  unfolding exactSum
-  exactSum-mono v w h = sumOver-mono (exact events) v w h (allSets (length events))
 
 -- law: the exact probabilities of all sets sum to 10^(9n)
 pub exactSum-all : (events : List Event) → Probabilities events → exactSum events (λ s. 1) ≡ scale (length events)

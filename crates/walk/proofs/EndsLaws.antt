@@ -2,7 +2,7 @@
 -- Assumes nothing.
 use mathlib.Core.Path.{_≡_, refl, ap}
 use mathlib.Core.Bool.{Bool, true, false}
-use mathlib.Core.List.{List, [], _∷_, _++_, map, map-append, append-assoc, append-nil}
+use mathlib.Core.List.{List, [], _∷_, _++_, map, map-append, append-assoc}
 use Prim.Native.Nat.{ℕ, zero, suc, _+_, _-_, _≤_, _<_}
 use native.Mathlib.Nat.{sub-zero, zero-sub, suc-sub-suc}
 use native.Mathlib.Omega.{arith}
@@ -13,7 +13,7 @@ use borrow.Author.Tests.{lt-ltb, le-ltb, ltb-true, ltb-false}
 use Rattle.mass.specs.Split.{failing, working}
 use Rattle.plan.specs.Plan.{Event, Plan}
 use Rattle.walk.specs.Scenario.{Scenario}
-use Rattle.walk.specs.Ends.{End, dropped, relevant, after, both, ends, endsAfter, sumEnds, valueOf, scenarios}
+use Rattle.walk.specs.Ends.{End, dropped, relevant, after, both, ends, endsAfter, sumEnds, scenarios}
 use Rattle.walk.specs.Walk.{firstEnds, count}
 
 -- law: a mass below the threshold is dropped at once
@@ -46,22 +46,11 @@ after-nothing (dropped ∷ list) = ap {B = List End} (λ l. dropped ∷ l) (afte
 after-nothing (relevant s m ∷ list) = ap {B = List End} (λ l. relevant s m ∷ l) (after-nothing list)
 
 module _ (path : Scenario) (t m : ℕ) where
-  -- the same three laws for the ends that follow a path
-  pub after-cut : (events : List Event) → m < t → endsAfter path t m events ≡ dropped ∷ []
-  after-cut events h = rw (ends-cut t m events h)
-
-  pub after-leaf : t ≤ m → endsAfter path t m [] ≡ relevant path m ∷ []
-  after-leaf h = rw (ends-leaf t m h, append-nil)
-
+  -- the last of them for the ends that follow a path
   pub after-node : (e : Event) (events : List Event) → t ≤ m
       → endsAfter path t m (e ∷ events)
       ≡ endsAfter (path ++ (false ∷ [])) t (working m (e .probability)) events ++ endsAfter (path ++ (true ∷ [])) t (failing m (e .probability)) events
   after-node e events h = rw (ends-node t m e events h, map-append, after-after path (false ∷ []), after-after path (true ∷ []))
-
--- law: the sum over a list is the value of its first end and the sum over the others
-pub sumEnds-first : (f : Scenario → ℕ → ℕ) (end : End) (list : List End) → sumEnds f (end ∷ list) ≡ valueOf f end + sumEnds f list
-sumEnds-first f dropped list = omega arith
-sumEnds-first f (relevant s m) list = refl
 
 -- law: the sum over two lists put together
 pub sumEnds-append : (f : Scenario → ℕ → ℕ) (xs ys : List End) → sumEnds f (xs ++ ys) ≡ sumEnds f xs + sumEnds f ys

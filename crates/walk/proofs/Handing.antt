@@ -3,10 +3,10 @@
 use mathlib.Core.Path.{_≡_, refl, ap, sym, _∙_}
 use mathlib.Core.Bool.{true, false, true≢false}
 use mathlib.Core.List.{List, _++_}
-use Prim.Native.Nat.{ℕ, suc, _+_, _-_, _≤_, _<_}
+use Prim.Native.Nat.{ℕ, suc, _+_, _-_, _≤_, _<_, min}
 use native.Mathlib.Nat.{zero-add}
 use native.Mathlib.Omega.{arith}
-use lib.ListN.{replicate}
+use lib.ListN.{length, replicate, length-append, length-replicate}
 use lib.Pow.{pow-pos}
 use Rattle.walk.specs.Ends.{End, dropped}
 use Rattle.walk.specs.Stack.{toCome, Stack}
@@ -61,44 +61,34 @@ module _ (count threshold : ℕ) (words : List ℕ) (at₀ : ℕ) (stack₀ : Li
 
   -- a descent
   module _ (some : left ≡ 0 → ⊥) (stack₁ : List ℕ) (d : Descent) (s : Descended count threshold words (toCome count threshold words at stack) stack₁ d) where
-    -- to dropped ends, all of which may be reached
-    pub further : d .relevant ≡ false → d .dropped ≤ left - 1
-        → Passing count threshold words (toCome count threshold words at₀ stack₀) allowed (d .at) (left - 1 - d .dropped) stack₁
-    further e h =
-        record {
-          passed = g .passed + suc (d .dropped);
-          ends = g .ends ∙ ap (λ l. replicate (g .passed) dropped ++ l) (rw e at (s .ends)) ∙ runs-add (g .passed) (suc (d .dropped)) (toCome count threshold words (d .at) stack₁);
-          counted = omega (arith, g .counted);
-          held = s .held;
-        }
+    -- to dropped ends: so many as may be reached are passed, the others are laid down
+    module _ (e : d .relevant ≡ false) (passed : ℕ) (reached : passed ≡ min (d .dropped + 1) left) (stack₂ : List ℕ) (top : ℕ)
+        (laid : Delayed (d .dropped - (passed - 1)) (d .at) stack₁ stack₂ top) where
+      abbrev rest : List End
+      rest = toCome count threshold words (d .at) stack₁
 
-    -- to dropped ends, not all of which may be reached: the others are laid down
-    pub short : d .relevant ≡ false → left - 1 < d .dropped → (stack₂ : List ℕ) (top : ℕ) → Delayed (d .dropped - (left - 1)) (d .at) stack₁ stack₂ top
-        → Handed count threshold words at₀ stack₀ allowed stack₂ (record { at = top; left = 0; found = false; mass = 0; low = 0; high = 0 })
-    short e h stack₂ top laid =
-        record {
-          passed = g .passed + left;
-          ends = g .ends ∙ ap (λ l. replicate (g .passed) dropped ++ l) parts ∙ runs-add (g .passed) left (toCome count threshold words top stack₂);
-          counted = omega (arith, g .counted);
-          ended = λ same (z : 0 < 0). absurd (omega arith);
-          held = laid .held count (s .held);
-          light = omega arith;
-          decided = omega (arith, pow-pos count);
-          nothing = λ same. (refl, refl, refl);
-        }
-      where
-        rest : List End
-        rest = toCome count threshold words (d .at) stack₁
+      split : suc (d .dropped) ≡ passed + (d .dropped - (passed - 1))
+      split = omega (arith, reached, some)
 
-        split : suc (d .dropped) ≡ left + (d .dropped - (left - 1))
-        split = omega arith
+      parts : toCome count threshold words at stack ≡ replicate passed dropped ++ toCome count threshold words top stack₂
+      parts =
+          rw e at (s .ends)
+          ∙ ap (λ (n : ℕ). replicate n dropped ++ rest) split
+          ∙ sym (runs-add passed (d .dropped - (passed - 1)) rest)
+          ∙ ap (λ l. replicate passed dropped ++ l) (sym (laid .ahead count threshold words))
 
-        parts : toCome count threshold words at stack ≡ replicate left dropped ++ toCome count threshold words top stack₂
-        parts =
-            rw e at (s .ends)
-            ∙ ap (λ (n : ℕ). replicate n dropped ++ rest) split
-            ∙ sym (runs-add left (d .dropped - (left - 1)) rest)
-            ∙ ap (λ l. replicate left dropped ++ l) (sym (laid .ahead count threshold words))
+      pub further : Passing count threshold words (toCome count threshold words at₀ stack₀) allowed top (left - passed) stack₂
+      further =
+          record {
+            passed = g .passed + passed;
+            ends = g .ends ∙ ap (λ l. replicate (g .passed) dropped ++ l) parts ∙ runs-add (g .passed) passed (toCome count threshold words top stack₂);
+            counted = omega (arith, g .counted, reached);
+            held = laid .held count (s .held);
+          }
+
+      -- fewer ends are then to come
+      pub fewer : length (toCome count threshold words top stack₂) < length (toCome count threshold words at stack)
+      fewer = rw (parts, length-append, length-replicate passed dropped) (omega (arith, reached, some))
 
     -- to a relevant end: the dropped ones that follow it are laid down
     pub hands : d .relevant ≡ true → (stack₂ : List ℕ) (top : ℕ) → Delayed (d .dropped) (d .at) stack₁ stack₂ top

@@ -43,11 +43,6 @@ sumEnds f [] = 0
 sumEnds f (dropped ∷ list) = sumEnds f list
 sumEnds f (relevant s m ∷ list) = f s m + sumEnds f list
 
--- the value of one end
-abbrev pub valueOf : (Scenario → ℕ → ℕ) → End → ℕ
-valueOf f dropped = 0
-valueOf f (relevant s m) = f s m
-
 -- the sum of mass × weight
 abbrev pub weighed : (Scenario → ℕ) → List End → ℕ
 weighed w = sumEnds (λ s m. m * w s)

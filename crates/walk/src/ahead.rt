@@ -7,7 +7,7 @@ use crate::Stop;
 use crate::put;
 use crate::with_event;
 ghost use mathlib.Core.Path.{_≡_};
-ghost use Prim.Native.Nat.{_+_, _*_, _^_, _≤_, _<_};
+ghost use Prim.Native.Nat.{_+_, _*_, _^_, _≤_, _<_, min};
 ghost use lib.ListN.{length, getD, drop};
 ghost use Rattle.mass.specs.Split.{certain, whole, failing, working};
 ghost use Rattle.sets.specs.Sets.{joined};
@@ -251,7 +251,18 @@ fn none_at(at: usize, left: u64) -> Step
     }
 }
 
-// The next relevant scenario among the ends that may still be reached: passes over dropped ends, counting each.
+// How many of a dropped end and the dropped ones that follow it may be reached.
+fn reachable(dropped: u64, left: u64) -> u64
+    ensures { λ r. ⌜ r ≡ min (dropped + 1) left ⌝ }
+{
+    if dropped < left {
+        return dropped + 1;
+    }
+    left
+}
+
+// The next relevant scenario among the ends that may still be reached: passes over dropped ends, counting each. Those of a descent's
+// dropped ends that may not be reached are laid down again.
 pub fn next_relevant(
     count: u64,
     threshold: u64,
@@ -270,8 +281,8 @@ pub fn next_relevant(
             return none_at(top, 0);
         }
         let r = descend(count, threshold, events, &mut *stack, top);
-        left -= 1;
         if r.relevant {
+            left -= 1;
             return Step {
                 at: delay(stack, r.at, r.dropped),
                 left,
@@ -281,11 +292,9 @@ pub fn next_relevant(
                 high: r.high,
             };
         }
-        if r.dropped > left {
-            return none_at(delay(stack, r.at, r.dropped - left), 0);
-        }
-        left -= r.dropped;
-        top = r.at;
+        let passed = reachable(r.dropped, left);
+        top = delay(&mut *stack, r.at, r.dropped - (passed - 1));
+        left -= passed;
     }
     none_at(top, left)
 }

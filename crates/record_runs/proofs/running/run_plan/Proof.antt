@@ -72,7 +72,7 @@ use Rattle.reader.specs.Filled.{eventRecords, filledRecords}
 use Rattle.records.specs.declared.Event.{Event}
 use Rattle.records.proofs.EventRow.{E, event, event-vals, event-tells, event-lawful}
 use Rattle.records.proofs.Lending.{array-lies, lends-mut, back-mut, Kept, lends-imm, back-imm, says4}
-use Rattle.reader.proofs.CopyLaws.{no-links, no-events}
+use Rattle.reader.proofs.WholeLists.{no-links, no-events}
 use Rattle.reader.proofs.Arrays.{Bytes′, Events′, links-val, events-val, links-room, events-room, links-own, events-own, row-bytes}
 use Rattle.reader.proofs.read_records as reads
 use Rattle.reader.proofs.read_records.Symbol as reads-def

@@ -1,9 +1,10 @@
 -- `walk::ahead::next_relevant` meets its contract. The loop's invariant is `Passing`: so many dropped ends were passed, and the others are to
--- come. The measure is how many ends may still be reached. Assumes nothing.
+-- come. The measure is how many ends are to come. Assumes nothing.
 use borrow.Author.Needs.{needs}
 use native.Mathlib.Omega.{arith}
+use lib.ListN.{length}
 use Rattle.walk.specs.Stack.{toCome}
-use Rattle.walk.proofs.Handing.{Passing, starts, used-up, all-reached, further, short, hands}
+use Rattle.walk.proofs.Handing.{Passing, starts, used-up, all-reached, further, fewer, hands}
 use Rattle.walk.proofs.ahead.next_relevant.Statement.{statement}
 use Rattle.walk.proofs.ahead.next_relevant.Tie as tie
 
@@ -12,7 +13,7 @@ Inv-loop count threshold events stack₀ at allowed top₀ left₀ stack top lef
     Passing count threshold events (toCome count threshold events at stack₀) allowed top left stack
 
 abbrev μ-loop : tie.MeasureT-loop
-μ-loop count threshold events stack₀ at allowed top₀ left₀ stack top left = left
+μ-loop count threshold events stack₀ at allowed top₀ left₀ stack top left = length (toCome count threshold events top stack)
 
 loop-holds : tie.Need-loop-holds Inv-loop μ-loop
 loop-holds c = starts _ _ _ _ _ _ (c .pre .2)
@@ -42,41 +43,46 @@ returns-2 c =
     let one = two .before .before .before in
     hands _ _ _ _ _ _ _ _ _ (one .before .before .loop .inv) (one .if1 .left) _ _ (two .before .descend .ensures) (two .if2 .taken) _ _ (c .delay .ensures)
 
+reachable-requires : tie.Need-reachable-requires Inv-loop μ-loop
+reachable-requires c κs = search needs
+
 sub-delay : tie.Need-sub-delay Inv-loop μ-loop
-sub-delay c = omega arith
+sub-delay c = omega (arith, c .before .reachable .ensures, c .before .before .before .before .before .if1 .left)
+
+sub-delay-2 : tie.Need-sub-delay-2 Inv-loop μ-loop
+sub-delay-2 c = omega (arith, c .before .before .reachable .ensures)
 
 delay-requires-2 : tie.Need-delay-requires-2 Inv-loop μ-loop
 delay-requires-2 c κs =
-    let d = c .before .before .before .before .before .descend .ensures in
+    let d = c .before .before .before .before .descend .ensures in
     (d .held .within, d .held .sized, λ some. d .room (omega arith))
+
+sub-left-2 : tie.Need-sub-left-2 Inv-loop μ-loop
+sub-left-2 c = omega (arith, c .before .before .before .reachable .ensures)
+
+loop-less : tie.Need-loop-less Inv-loop μ-loop
+loop-less c =
+    let three = c .before .before .before in
+    let two = three .before in
+    let one = two .before .before .before in
+    let s = one .before .before .before in
+    let inv = one .before .before .loop .inv in
+    fewer _ _ _ (s .args .at) (s .args .stack .now) _ _ _ _ inv (one .if1 .left) _ _ (two .before .descend .ensures) (two .if2 .left) _ (three .reachable .ensures) _ _ (c .delay2 .ensures)
+
+loop-again : tie.Need-loop-again Inv-loop μ-loop
+loop-again c =
+    let three = c .before .before .before in
+    let two = three .before in
+    let one = two .before .before .before in
+    let s = one .before .before .before in
+    let inv = one .before .before .loop .inv in
+    further _ _ _ (s .args .at) (s .args .stack .now) _ _ _ _ inv (one .if1 .left) _ _ (two .before .descend .ensures) (two .if2 .left) _ (three .reachable .ensures) _ _ (c .delay2 .ensures)
 
 none-at-requires-2 : tie.Need-none-at-requires-2 Inv-loop μ-loop
 none-at-requires-2 c κs = search needs
 
 returns-3 : tie.Need-returns-3 Inv-loop μ-loop
-returns-3 c =
-    let three = c .before .before .before .before in
-    let two = three .before .before in
-    let one = two .before .before .before in
-    rw (c .none-at2 .ensures)
-    (short _ _ _ _ _ _ _ _ _ (one .before .before .loop .inv) (one .if1 .left) _ _ (two .before .descend .ensures) (two .if2 .left) (three .if3 .taken) _ _ (c .before .delay2 .ensures))
-
-loop-less : tie.Need-loop-less Inv-loop μ-loop
-loop-less c = omega (arith, c .before .before .before .before .before .before .if1 .left)
-
-loop-again : tie.Need-loop-again Inv-loop μ-loop
-loop-again c =
-    let three = c .before in
-    let two = three .before .before in
-    let one = two .before .before .before in
-    let s = one .before .before .before in
-    further _ _ _ (s .args .at) (s .args .stack .now) _ _ _ _ (one .before .before .loop .inv) (one .if1 .left) _ _ (two .before .descend .ensures) (two .if2 .left) (three .if3 .left)
-
-none-at-requires-3 : tie.Need-none-at-requires-3 Inv-loop μ-loop
-none-at-requires-3 c κs = search needs
-
-returns-4 : tie.Need-returns-4 Inv-loop μ-loop
-returns-4 c = rw (c .none-at3 .ensures) (all-reached _ _ _ _ _ _ _ _ _ (c .before .before .loop .inv) (c .before .loop-test .left))
+returns-3 c = rw (c .none-at2 .ensures) (all-reached _ _ _ _ _ _ _ _ _ (c .before .before .loop .inv) (c .before .loop-test .left))
 
 pub next-relevant-spec : {M : Type 1} → statement M
 next-relevant-spec =
@@ -91,11 +97,12 @@ next-relevant-spec =
     sub-left
     delay-requires
     returns-2
+    reachable-requires
     sub-delay
+    sub-delay-2
     delay-requires-2
-    none-at-requires-2
-    returns-3
+    sub-left-2
     loop-less
     loop-again
-    none-at-requires-3
-    returns-4)
+    none-at-requires-2
+    returns-3)

@@ -1,0 +1,48 @@
+// The full walk of an accepted plan.
+use crate::Tally;
+use crate::Totals;
+use crate::ends::go_on;
+use plan::Header;
+ghost use mathlib.Core.Path.{_≡_};
+ghost use Prim.Native.Nat.{_≤_, _<_};
+ghost use lib.Dec.{leb};
+ghost use Rattle.sets.specs.Sets.{digit};
+ghost use Rattle.plan.specs.LentLists.{planOfLists};
+ghost use Rattle.plan.specs.Held.{Held};
+ghost use Rattle.bounds.specs.Calls.{totalsOf};
+ghost use Rattle.bounds.specs.Tallied.{Summed, Cleared};
+
+// 1 where no branch is left on the stack, else 0.
+fn none_left(at: usize) -> u64
+    requires { ⌜ at ≤ 512 ⌝ }
+    ensures { λ r. ⌜ r ≡ digit (leb 512 at) ⌝ }
+{
+    if 512 <= at {
+        return 1;
+    }
+    0
+}
+
+// The full walk of an accepted plan: the totals, and the lower bounds in the entries of the pairs.
+pub fn walk_all(h: Header, links: &[u8; 256], words: &[u64; 512], lower: &mut [u64; 2016]) -> Totals
+    requires { ⌜ Held h (now links) (now words) ⌝ }
+    requires { ⌜ h .limit < 4294967296 ⌝ }
+    requires { ⌜ Cleared (now lower) ⌝ }
+    ensures { λ r. ⌜ r ≡ totalsOf (planOfLists h (now (links .entry)) (now (words .entry))) ⌝ }
+    ensures { λ r. ⌜ Summed (planOfLists h (now (links .entry)) (now (words .entry))) (h .nodes) (now (lower .exit)) ⌝ }
+{
+    let table = network::links_at(h.nodes as usize, links, h.links as usize);
+    let mut stack = [0u64; 512];
+    let at = walk::begin(&mut stack, 0, mass::Mass::WHOLE.units, 0, 0);
+    let so_far = Tally {
+        at,
+        number: 0,
+        mass: 0,
+    };
+    let r = go_on(h, links, words, &table, &mut stack, lower, so_far, h.limit);
+    Totals {
+        count: r.number,
+        complete: none_left(r.at),
+        mass: r.mass,
+    }
+}

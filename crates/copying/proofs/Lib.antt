@@ -1,0 +1,2 @@
+-- Laws that the proofs of the crate `copying` share.
+pub mod CopyLaws

@@ -1,0 +1,54 @@
+-- `network_vectors::reach::compared` is safe and ends: the node is at most 64. Assumes nothing.
+use Prim.Native.Nat.{_≤_, _-_}
+use borrow.Author.Needs.{needs}
+use Rattle.network_vectors.proofs.reach.compared.Statement.{statement}
+use Rattle.network_vectors.proofs.reach.compared.Tie as tie
+
+abbrev Inv-loop : tie.InvT-loop
+Inv-loop label n links count failed first want table v₀ v = v ≤ 64
+
+abbrev μ-loop : tie.MeasureT-loop
+μ-loop label n links count failed first want table v₀ v = 64 - v
+
+links-at-requires : tie.Need-links-at-requires Inv-loop μ-loop
+links-at-requires c κs = search needs
+
+loop-holds : tie.Need-loop-holds Inv-loop μ-loop
+loop-holds c = search needs
+
+reach-from-requires : tie.Need-reach-from-requires Inv-loop μ-loop
+reach-from-requires c κs = search needs
+
+at-node-requires : tie.Need-at-node-requires Inv-loop μ-loop
+at-node-requires c κs = search needs
+
+same-at-requires : tie.Need-same-at-requires Inv-loop μ-loop
+same-at-requires c κs = search needs
+
+add-v : tie.Need-add-v Inv-loop μ-loop
+add-v c = search needs
+
+loop-less : tie.Need-loop-less Inv-loop μ-loop
+loop-less c = search needs
+
+loop-again : tie.Need-loop-again Inv-loop μ-loop
+loop-again c = search needs
+
+returns : tie.Need-returns Inv-loop μ-loop
+returns c = search needs
+
+pub compared-spec : {M : Type 1} → statement M
+compared-spec =
+    tie.close
+    (tie.spec
+    Inv-loop
+    μ-loop
+    links-at-requires
+    loop-holds
+    reach-from-requires
+    at-node-requires
+    same-at-requires
+    add-v
+    loop-less
+    loop-again
+    returns)

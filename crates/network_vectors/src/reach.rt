@@ -1,0 +1,54 @@
+// Holding what the nodes of a network reach to what it should be.
+use crate::held;
+use network::Failed;
+use vectors::same_at;
+use vectors::same_part;
+ghost use Rattle.plan.specs.Held.{LinksHeld};
+
+// What is expected at node v: the list starts at node `first`, and all others have the empty set.
+fn at_node(want: &[u64], first: usize, v: usize) -> u64 {
+    if v < first {
+        return 0;
+    }
+    if v - first < want.len() {
+        return want[v - first];
+    }
+    0
+}
+
+// Holds what each node reaches to a list of sets.
+pub fn parts(
+    label: &[u8],
+    n: usize,
+    links: &[u8; 256],
+    count: usize,
+    failed: Failed,
+    first: usize,
+    want: &[u64],
+) {
+    if held(n, links, count) {
+        compared(label, n, links, count, failed, first, want);
+    } else {
+        same_part(label, b"valid", 0, 1);
+    }
+}
+
+fn compared(
+    label: &[u8],
+    n: usize,
+    links: &[u8; 256],
+    count: usize,
+    failed: Failed,
+    first: usize,
+    want: &[u64],
+)
+    requires { ⌜ LinksHeld n (now links) count ⌝ }
+{
+    let table = network::links_at(n, links, count);
+    let mut v = 0;
+    while v < 64 {
+        let reach = topology::reach_from(n, failed, links, count, &table, v);
+        same_at(label, v, reach.set, at_node(want, first, v));
+        v += 1;
+    }
+}

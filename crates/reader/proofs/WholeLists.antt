@@ -1,0 +1,108 @@
+-- A plan that is read into two lists with room for every plan, one of bytes and one of records: the lists denote the plan, and they pass the tests of
+-- lent lists. For the callers that read into arrays of their own.
+-- Assumes nothing.
+use mathlib.Core.Path.{_≡_, refl, sym, _∙_, ap, subst}
+use mathlib.Core.List.{List, [], _∷_, _++_}
+use Prim.Native.Nat.{ℕ, zero, suc, _+_, _*_, _≤_}
+use native.Mathlib.Omega.{arith}
+use borrow.Author.Tests.{le-ltb}
+use lib.ListN.{length, drop, replicate}
+use lib.Seq.{sets, sets-eq, length-sets}
+use Rattle.mass.specs.Refusal.{first, refuse}
+use Rattle.mass.specs.Split.{certain}
+use Rattle.plan.specs.Lists.{linkBytes, eventsOf}
+use Rattle.plan.specs.Layout.{Bytes}
+use Rattle.refusals.specs.Tests.{roomTest}
+use Rattle.plan.specs.File.{refusal, planOf, nodesIn, linksIn, eventsIn}
+use Rattle.plan.specs.LentLists.{planOfLists, listsRefusal, planRefusal, eventListRefusal}
+use Rattle.plan.specs.Calls.{headerOf, readRefusal}
+use Rattle.plan.proofs.FileLawsAccepted.{accepted-counts}
+use Rattle.layout.proofs.LayoutFile.{file-none, valid-none}
+use Rattle.layout.proofs.ListLaws.{length-links-of}
+use Rattle.layout.proofs.Theorems.{read-denotes, read-writes-again}
+use Rattle.files.proofs.ReaderLawsAnswer.{length-links}
+use Rattle.records.specs.Events.{wordsOf}
+use Rattle.reader.specs.Filled.{eventRecords}
+use Rattle.records.specs.declared.Event.{Event}
+use Rattle.records.proofs.EventLaws.{length-words, words-append, drop-words}
+use Rattle.reader.proofs.ReadLaws.{words-event-records, length-event-words, length-events}
+use Rattle.records.proofs.EventRow.{no-event}
+
+-- the lists before the reading
+abbrev pub no-links : List ℕ
+no-links = replicate 256 0
+
+abbrev pub no-events : List Event
+no-events = replicate 128 no-event
+
+room-none : (room need : ℕ) → need ≤ room → roomTest room need ≡ 0
+room-none room need h = ap (λ (t : _). refuse t 12) (le-ltb room need h)
+
+-- with room for 128 links and 128 events, a reading refuses what the check refuses
+pub full-rooms : (b : List ℕ) → readRefusal 256 128 b ≡ refusal b
+unfolding readRefusal first
+full-rooms b = go (refusal b) refl
+  where
+    go : (n : ℕ) → refusal b ≡ n → readRefusal 256 128 b ≡ refusal b
+    go zero e =
+        let c = accepted-counts b e in
+        rw (e, room-none 256 (2 * linksIn b) (omega (arith, c .1)), room-none 128 (eventsIn b) (omega (arith, c .2)))
+    go (suc n) e = rw e
+
+-- the words of a list of records whose start was laid down
+words-sets : (es news : List Event) → length news ≤ length es → wordsOf (sets es 0 news) ≡ sets (wordsOf es) 0 (wordsOf news)
+words-sets es news h =
+    let n = length-words news in
+    let m = length-words es in
+    let k : 4 * (0 + length news) ≡ 0 + length (wordsOf news) = omega (arith, n) in
+    ap wordsOf (sets-eq news es 0 (omega arith))
+    ∙ words-append news (drop (0 + length news) es)
+    ∙ ap (λ (ws : List ℕ). wordsOf news ++ ws) (sym (drop-words (0 + length news) es) ∙ ap (λ (j : ℕ). drop j (wordsOf es)) k)
+    ∙ sym (sets-eq (wordsOf news) (wordsOf es) 0 (omega (arith, n, m)))
+
+length-records-of : (es : List _) → length (eventRecords es) ≡ length es
+unfolding eventRecords
+length-records-of [] = refl
+length-records-of (e ∷ es) = ap suc (length-records-of es)
+
+-- the lists after a reading that is accepted
+abbrev pub read-links : List ℕ → List ℕ
+read-links b = sets no-links 0 (linkBytes ((planOf b) .links))
+
+abbrev pub read-events : List ℕ → List Event
+read-events b = sets no-events 0 (eventRecords ((planOf b) .events))
+
+module _ (b : List ℕ) (bytes : Bytes b) (e : refusal b ≡ 0) where
+  count-links : length (linkBytes ((planOf b) .links)) ≡ 2 * linksIn b
+  unfolding planOf
+  count-links = length-links (linksIn b) (drop 20 b)
+
+  count-events : length ((planOf b) .events) ≡ eventsIn b
+  unfolding planOf
+  count-events = length-events (eventsIn b) _
+
+  pub same-plan : planOfLists (headerOf b) (read-links b) (wordsOf (read-events b)) ≡ planOf b
+  same-plan =
+      let c = accepted-counts b e in
+      let es = (planOf b) .events in
+      ap (planOfLists (headerOf b) (read-links b))
+      (words-sets no-events (eventRecords es) (omega (arith, length-records-of es, count-events, c .2)) ∙ ap (sets (wordsOf no-events) 0) (words-event-records es))
+      ∙ read-denotes b no-links (wordsOf no-events) (omega (arith, count-links, c .1)) (omega (arith, length-event-words es, count-events, c .2, length-words no-events))
+
+  pub lists-pass : listsRefusal (headerOf b) (length (read-links b)) (length (read-events b)) (read-links b) (wordsOf (read-events b)) ≡ 0
+  unfolding listsRefusal first planOfLists headerOf
+  lists-pass =
+      let c = accepted-counts b e in
+      let a = file-none b e .header in
+      let v = valid-none (planOfLists (headerOf b) (read-links b) (wordsOf (read-events b))) (ap planRefusal same-plan ∙ read-writes-again b bytes e .0) in
+      let events : eventListRefusal (nodesIn b) (linksIn b) certain (eventsOf (eventsIn b) (wordsOf (read-events b))) ≡ 0
+      = subst (λ (n : ℕ). eventListRefusal (nodesIn b) n certain (eventsOf (eventsIn b) (wordsOf (read-events b))) ≡ 0) (length-links-of (linksIn b) (read-links b)) (v .events) in
+      rw (
+        a .counts,
+        a .threshold,
+        a .limit,
+        room-none (length (read-links b)) (2 * linksIn b) (omega (arith, c .1, length-sets no-links 0 (linkBytes ((planOf b) .links)))),
+        room-none (length (read-events b)) (eventsIn b) (omega (arith, c .2, length-sets no-events 0 (eventRecords ((planOf b) .events)))),
+        v .links,
+        events,
+      )
