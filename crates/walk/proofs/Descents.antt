@@ -10,7 +10,7 @@ use native.Mathlib.Numerals.{add-one}
 use native.Mathlib.Omega.{arith}
 use lib.ListN.{length, getD, drop, replicate, length-drop, drop-of-length-le}
 use lib.Pow.{pow-pos, pow-mono}
-use lib.Seq.{drop-cons}
+use lib.Seq.{sets, drop-cons}
 use Rattle.mass.specs.Split.{certain, whole, failing, working}
 use Rattle.mass.proofs.Theorems.{fails-le, works-le}
 use Rattle.sets.specs.Sets.{joined}
@@ -316,22 +316,25 @@ module _ (count threshold : ℕ) (words : List ℕ) where
 
 -- dropped ends laid down
 pub delayed-none : (number at : ℕ) (stack : List ℕ) → number ≡ 0 → Delayed number at stack stack at
-delayed-none number at stack e = record { ahead = λ count threshold words. rw e; held = λ count s. s }
+delayed-none number at stack e = record { ahead = λ count threshold words s. rw e; held = λ count s. s }
 
 pub delayed-some : (number at : ℕ) (stack stack′ : List ℕ) → 0 < number → 4 ≤ at
-    → drop (at - 4) stack′ ≡ 129 ∷ number ∷ 0 ∷ 0 ∷ drop (at - 4 + 4) stack → length stack′ ≡ 512 → Delayed number at stack stack′ (at - 4)
-delayed-some number at stack stack′ some room laid sized =
+    → stack′ ≡ sets stack (at - 4) (129 ∷ number ∷ 0 ∷ 0 ∷ []) → Delayed number at stack stack′ (at - 4)
+delayed-some number at stack stack′ some room laid =
     record {
-      ahead = λ count threshold words. rw (laid, again, words-run threshold (eventsOf count words) 129 number 0 0 (omega arith));
+      ahead = λ count threshold words s. rw (four count s, again, words-run threshold (eventsOf count words) 129 number 0 0 (omega arith));
       held =
           λ count (s : Stack count at stack).
           record {
             fours = omega (arith, s .fours);
             within = omega (arith, s .within);
-            sized = sized;
-            entries = rw (laid, again) (record { run = λ (z : 128 < 129). some; branch = λ (z : 129 ≤ 128). absurd (omega arith) }, s .entries);
+            sized = laid-size stack stack′ (at - 4) 129 number 0 0 laid (s .sized);
+            entries = rw (four count s, again) (record { run = λ (z : 128 < 129). some; branch = λ (z : 129 ≤ 128). absurd (omega arith) }, s .entries);
           };
     }
   where
     again : at - 4 + 4 ≡ at
     again = omega arith
+
+    four : (count : ℕ) → Stack count at stack → drop (at - 4) stack′ ≡ 129 ∷ number ∷ 0 ∷ 0 ∷ drop (at - 4 + 4) stack
+    four count s = laid-words stack stack′ (at - 4) 129 number 0 0 laid (s .sized) (omega (arith, s .within))

@@ -75,7 +75,7 @@ module _ (count threshold : ℕ) (words : List ℕ) (at₀ : ℕ) (stack₀ : Li
           rw e at (s .ends)
           ∙ ap (λ (n : ℕ). replicate n dropped ++ rest) split
           ∙ sym (runs-add passed (d .dropped - (passed - 1)) rest)
-          ∙ ap (λ l. replicate passed dropped ++ l) (sym (laid .ahead count threshold words))
+          ∙ ap (λ l. replicate passed dropped ++ l) (sym (laid .ahead count threshold words (s .held)))
 
       pub further : Passing count threshold words (toCome count threshold words at₀ stack₀) allowed top (left - passed) stack₂
       further =
@@ -96,7 +96,7 @@ module _ (count threshold : ℕ) (words : List ℕ) (at₀ : ℕ) (stack₀ : Li
     hands e stack₂ top laid =
         record {
           passed = g .passed;
-          ends = g .ends ∙ ap (λ l. replicate (g .passed) dropped ++ l) (rw (laid .ahead count threshold words) (rw e at (s .ends)));
+          ends = g .ends ∙ ap (λ l. replicate (g .passed) dropped ++ l) (rw (laid .ahead count threshold words (s .held)) (rw e at (s .ends)));
           counted = omega (arith, g .counted);
           ended = λ (clash : true ≡ false). absurd (true≢false clash);
           held = laid .held count (s .held);

@@ -60,9 +60,9 @@ pub record Pushed (depth mass low high at : ℕ) (stack stack′ : List ℕ) : T
   pub set : joined setLow setHigh ≡ joined low high + 2 ^ depth
   pub laid : stack′ ≡ sets stack at ((depth + 1) ∷ mass ∷ setLow ∷ setHigh ∷ [])
 
--- so many dropped ends laid down before the ends to come, whatever the plan
+-- so many dropped ends laid down before the ends to come of a stack, whatever the plan
 pub record Delayed (number at : ℕ) (stack stack′ : List ℕ) (r : ℕ) : Type 0 where
-  pub ahead : (count threshold : ℕ) (words : List ℕ)
+  pub ahead : (count threshold : ℕ) (words : List ℕ) → Stack count at stack
       → toCome count threshold words r stack′ ≡ replicate number dropped ++ toCome count threshold words at stack
   pub held : (count : ℕ) → Stack count at stack → Stack count r stack′
 

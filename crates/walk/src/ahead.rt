@@ -227,7 +227,7 @@ fn descend(
 
 // Lays so many dropped ends down before those to come. Returns where the stack begins.
 fn delay(stack: &mut [u64; 512], at: usize, number: u64) -> usize
-    requires { ⌜ (at ≤ 512) × (length (now stack) ≡ 512) × (0 < number → 4 ≤ at) ⌝ }
+    requires { ⌜ (at ≤ 512) × (0 < number → 4 ≤ at) ⌝ }
     ensures { λ r. ⌜ Delayed number at (now (stack .entry)) (now (stack .exit)) r ⌝ }
 {
     if number == 0 {
@@ -276,6 +276,8 @@ pub fn next_relevant(
 {
     let mut top = at;
     let mut left = allowed;
+    // So far `allowed` - `left` dropped ends were passed, and the ends to come from `top` on follow them. A turn that does not return
+    // passes one end or more, so fewer are to come.
     while top < 512 {
         if left == 0 {
             return none_at(top, 0);

@@ -35,7 +35,7 @@ sub-left c = omega arith
 delay-requires : tie.Need-delay-requires Inv-loop μ-loop
 delay-requires c κs =
     let d = c .before .before .descend .ensures in
-    (d .held .within, d .held .sized, d .room)
+    (d .held .within, d .room)
 
 returns-2 : tie.Need-returns-2 Inv-loop μ-loop
 returns-2 c =
@@ -55,7 +55,7 @@ sub-delay-2 c = omega (arith, c .before .before .reachable .ensures)
 delay-requires-2 : tie.Need-delay-requires-2 Inv-loop μ-loop
 delay-requires-2 c κs =
     let d = c .before .before .before .before .descend .ensures in
-    (d .held .within, d .held .sized, λ some. d .room (omega arith))
+    (d .held .within, λ some. d .room (omega arith))
 
 sub-left-2 : tie.Need-sub-left-2 Inv-loop μ-loop
 sub-left-2 c = omega (arith, c .before .before .before .reachable .ensures)
