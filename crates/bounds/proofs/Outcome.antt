@@ -73,25 +73,25 @@ module _ (h : Header) (links events lower upper : List ℕ) where
   rooms = first (roomTest (length lower) (pairCount (h .nodes)) ∷ roomTest (length upper) (pairCount (h .nodes)) ∷ [])
 
   -- an answer, with what it leaves in the lists of bounds
-  abbrev pub RunTold : Ran → List ℕ → List ℕ → Type 0
-  RunTold r lower′ upper′ =
+  abbrev pub RunPromised : Ran → List ℕ → List ℕ → Type 0
+  RunPromised r lower′ upper′ =
       (r ≡ ranAnswer number (totalsOf p))
       × ((lower′ ≡ filled number (lowerList p) lower)
       × ((upper′ ≡ filled number (upperList p) upper)
       × (number ≡ 0 → EnclosesAll p lower′ upper′ (totalsIn r .count))))
 
-  refused : (n : ℕ) → n ≡ number → (n ≡ 0 → ⊥) → RunTold (ran.Refused n) lower upper
+  refused : (n : ℕ) → n ≡ number → (n ≡ 0 → ⊥) → RunPromised (ran.Refused n) lower upper
   refused n e some =
       let no-zero : number ≡ 0 → ⊥ = λ z. some (e ∙ z) in (
         ran-refuses n number (totalsOf p) e some,
         (filled-kept number (lowerList p) lower no-zero, (filled-kept number (upperList p) upper no-zero, λ z. absurd (no-zero z))),
       )
 
-  pub lists-refuse : (n : ℕ) → n ≡ listsNumber h links events → (n ≡ 0 → ⊥) → RunTold (ran.Refused n) lower upper
+  pub lists-refuse : (n : ℕ) → n ≡ listsNumber h links events → (n ≡ 0 → ⊥) → RunPromised (ran.Refused n) lower upper
   unfolding runRefusal
   lists-refuse n e some = refused n (stop _ e some) some
 
-  pub rooms-refuse : (lists n : ℕ) → lists ≡ listsNumber h links events → lists ≡ 0 → n ≡ rooms → (n ≡ 0 → ⊥) → RunTold (ran.Refused n) lower upper
+  pub rooms-refuse : (lists n : ℕ) → lists ≡ listsNumber h links events → lists ≡ 0 → n ≡ rooms → (n ≡ 0 → ⊥) → RunPromised (ran.Refused n) lower upper
   unfolding runRefusal
   rooms-refuse lists n e z f some = refused n (skip _ e z f) some
 
@@ -127,7 +127,7 @@ module _ (h : Header) (links events lower upper : List ℕ) where
     unfolding planOfLists
     enclosed-all = all-enclosed p (t .valid) sums lower upper sums-are few (rooms-fit fits .0) (rooms-fit fits .1)
 
-    pub run-done : RunTold (ran.Done totals) lower′ upper′
+    pub run-done : RunPromised (ran.Done totals) lower′ upper′
     run-done =
         let same = totals-are h links events bytes words t totals sums is s in (
           rw zero-number (ap ran.Done same),
@@ -151,20 +151,20 @@ module _ (h : Header) (links events : List ℕ) (v w : ℕ) where
   abbrev pairRefused : ℕ
   pairRefused = pairNumber h links events v w
 
-  abbrev pub PairTold : Paired → Type 0
-  PairTold r =
+  abbrev pub PairPromised : Paired → Type 0
+  PairPromised r =
       (r ≡ pairAnswer pairRefused (boundsOf plan v w))
       × (pairRefused ≡ 0 → Encloses plan v w (boundsIn r .lower) (boundsIn r .upper) (count plan))
 
-  not-paired : (n : ℕ) → n ≡ pairRefused → (n ≡ 0 → ⊥) → PairTold (paired.Refused n)
+  not-paired : (n : ℕ) → n ≡ pairRefused → (n ≡ 0 → ⊥) → PairPromised (paired.Refused n)
   not-paired n e some = (pair-refuses n pairRefused (boundsOf plan v w) e some, λ z. absurd (some (e ∙ z)))
 
-  pub lists-refuse-pair : (n : ℕ) → n ≡ listsNumber h links events → (n ≡ 0 → ⊥) → PairTold (paired.Refused n)
+  pub lists-refuse-pair : (n : ℕ) → n ≡ listsNumber h links events → (n ≡ 0 → ⊥) → PairPromised (paired.Refused n)
   unfolding pairRefusal
   lists-refuse-pair n e some = not-paired n (stop _ e some) some
 
   pub pair-wrong : (lists n : ℕ) → lists ≡ listsNumber h links events → lists ≡ 0 → n ≡ pairTest (h .nodes) v w → (n ≡ 0 → ⊥)
-      → PairTold (paired.Refused n)
+      → PairPromised (paired.Refused n)
   unfolding pairRefusal
   pair-wrong lists n e z f some = not-paired n (skip _ e z (stop _ f some)) some
 
@@ -182,7 +182,7 @@ module _ (h : Header) (links events : List ℕ) (v w : ℕ) where
         pair-bounds plan (t .valid) (h .nodes) (totals .mass) sums r (summed h links events bytes words t totals sums is s)
         (mass-is h links events bytes words t totals sums is s) v w (i .0) (i .1) at
 
-    pub pair-done : PairTold (paired.Done r)
+    pub pair-done : PairPromised (paired.Done r)
     pair-done = (
       rw pair-zero (ap paired.Done bounds-are),
       λ z. subst (λ (b : PairBounds). Encloses plan v w (b .lower) (b .upper) (count plan)) (sym bounds-are) (enclosed plan (t .valid) v w),

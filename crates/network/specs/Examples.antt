@@ -14,6 +14,6 @@ events =
     ∷ record { probability = 7; nodes = 4; links = 2 }
     ∷ []
 
-known-outage : outageOf (record { nodes = 32; links = 0 }) events 5 ≡ record { nodes = 37; links = 6 }
+example-outage : outageOf (record { nodes = 32; links = 0 }) events 5 ≡ record { nodes = 37; links = 6 }
 unfolding events unionOf bit
-known-outage = refl
+example-outage = refl

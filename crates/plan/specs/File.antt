@@ -8,10 +8,11 @@ use lib.Dec.{eqb}
 use lib.ListN.{length, getD, take, drop}
 use Rattle.mass.specs.Refusal.{first}
 use Rattle.mass.specs.Split.{certain, probabilityTest}
-use Rattle.plan.specs.Plan.{Plan, Link, Event}
+use Rattle.plan.specs.Plan.{Plan, Event}
 use Rattle.plan.specs.Lists.{linksOf}
 use Rattle.plan.specs.Layout.{value}
-use Rattle.refusals.specs.Tests.{shortTest, markTest, versionTest, countsTest, thresholdTest, limitTest, endsTest, orderTest, memberTest, rank, leftTest}
+use Rattle.refusals.specs.Tests.{shortTest, markTest, versionTest, countsTest, thresholdTest, limitTest, endsTest, orderTest, memberTest}
+use Rattle.refusals.specs.Tests.{rank, leftTest}
 
 -- the fields of the header: the version, the counts of nodes, links and events, the threshold and the cap
 abbrev pub versionIn : List ℕ → ℕ

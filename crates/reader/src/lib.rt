@@ -66,7 +66,8 @@ pub fn read_member(s: &[u8], at: usize, nodes: u64, links: u64, least: u64) -> S
 
 // Reads a plan into lent lists: the links' bytes, and a record to an event. A refusal changes nothing.
 pub fn read_records(s: &[u8], links: &mut [u8], events: &mut [Event]) -> Reading
-    ensures answer { λ r. ⌜ r ≡ readAnswer (recordsNumber (now (s .entry)) (now (links .entry)) (now (events .entry))) (headerOf (now (s .entry))) ⌝ }
+    ensures answer { λ r. ⌜ r ≡ readAnswer (recordsNumber (now (s .entry)) (now (links .entry)) (now (events .entry)))
+        (headerOf (now (s .entry))) ⌝ }
     ensures links { λ r. ⌜ now (links .exit) ≡ filled (recordsNumber (now (s .entry)) (now (links .entry)) (now (events .entry)))
         (linkBytes ((planOf (now (s .entry))) .links)) (now (links .entry)) ⌝ }
     ensures events { λ r. ⌜ now (events .exit) ≡ filledRecords (recordsNumber (now (s .entry)) (now (links .entry)) (now (events .entry)))

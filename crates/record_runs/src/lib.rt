@@ -34,7 +34,8 @@ pub fn run_words(
     ensures uppers { λ r. ⌜ now (upper .exit) ≡ filled
         (runNumber h (now (links .entry)) (wordsUsed count (now (words .entry))) (now (lower .entry)) (now (upper .entry)))
         (upperList (planOfLists h (now (links .entry)) (wordsUsed count (now (words .entry))))) (now (upper .entry)) ⌝ }
-    ensures demand3 { λ r. ⌜ (runNumber h (now (links .entry)) (wordsUsed count (now (words .entry))) (now (lower .entry)) (now (upper .entry)) ≡ 0
+    ensures demand3 { λ r. ⌜
+        (runNumber h (now (links .entry)) (wordsUsed count (now (words .entry))) (now (lower .entry)) (now (upper .entry)) ≡ 0
         → EnclosesAll (planOfLists h (now (links .entry)) (wordsUsed count (now (words .entry))))
         (now (lower .exit)) (now (upper .exit)) (totalsIn r .count)) ⌝ }
 {

@@ -35,6 +35,6 @@ answers =
     ∷ cut [] 0 0 0 1
     ∷ []
 
-known-answers : answers ≡ false ∷ false ∷ true ∷ false ∷ true ∷ true ∷ false ∷ true ∷ []
+example-answers : answers ≡ false ∷ false ∷ true ∷ false ∷ true ∷ true ∷ false ∷ true ∷ []
 unfolding answers cut triangle disconnected via adjacent joins linkWorks nodeWorks anyBelow bit
-known-answers = refl
+example-answers = refl

@@ -1,6 +1,6 @@
-// The test program of what nodes reach: the triangle and parallel links, with links and end nodes down. Each expected value stands beside its
-// vector, taken from document 01 or worked out by hand; a difference is printed, and `trials ended` is the last line. The stored output is that
-// line alone.
+// The test program of what nodes reach: the triangle and parallel links, with links and end nodes down. Each expected value stands beside
+// its vector, taken from document 01 or worked out by hand; a difference is printed, and `trials ended` is the last line. The stored
+// output is that line alone.
 mod networks;
 
 fn main() {
