@@ -37,7 +37,7 @@ pub record MassFits (count mass : ℕ) (words : List ℕ) : Type 0 where
   pub room : 4 * count ≤ length words
   pub fits : massesIn (entriesOf count words) + mass ≤ whole
 
--- what it promises: the words hold the entries of a listing, and those past the last entry stay as they were
+-- what it promises: the words hold the entries of a topology list, and those past the last entry stay as they were
 pub record HoldsList (list : TopologyList) (count : ℕ) (words words′ : List ℕ) (r : Placed) : Type 0 where
   pub number : r .number ≡ list .number
   pub entries : entriesOf (r .count) words′ ≡ list .entries

@@ -1,4 +1,4 @@
--- What lent lists denote: accepted lists denote a valid plan, and the lists that a reader filled denote the plan that was read.
+-- Laws of what lent lists denote: as many links and events as the counts say, and those that were laid down.
 -- Assumes nothing.
 use mathlib.Core.Path.{_≡_, refl, ap}
 use mathlib.Core.List.{List, [], _∷_, _++_}

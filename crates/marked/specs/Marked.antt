@@ -1,4 +1,4 @@
--- The twelve marked plans of document 01, in one list with one theorem.
+-- The twelve marked plans of document 01, section "Marked plans", in one list. The theorem about them stands in `proofs/Theorems.antt`.
 -- Assumes nothing.
 use mathlib.Core.Path.{_≡_}
 use mathlib.Core.Bool.{Bool, true, false}

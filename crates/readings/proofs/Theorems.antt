@@ -1,4 +1,4 @@
--- Laws of the readings: the downtime's rounding, and what 14 means.
+-- The downtime's rounding, and what 14 means: document 01, section "Further readings of a plan".
 -- Assumes nothing.
 use Prim.Native.Nat.{ℕ, _+_, _*_, _≤_, _<_}
 use native.Mathlib.Omega.{arith}
@@ -12,14 +12,14 @@ use Rattle.walk.specs.Scenario.{Scenario}
 use Rattle.bounds.specs.Bounds.{cuts}
 use Rattle.readings.specs.Witness.{some, noneTest}
 
--- law: no more than a second is lost by rounding
+-- no more than a second is lost by rounding
 pub lower-rounds : (m : ℕ) → (lowerSeconds m * whole ≤ m * year) × (m * year < (lowerSeconds m + 1) * whole)
 lower-rounds m = (omega arith, omega arith)
 
 pub upper-rounds : (m : ℕ) → (upperSeconds m * whole ≤ m * year) × (m * year < (upperSeconds m + 1) * whole)
 upper-rounds m = (omega arith, omega arith)
 
--- law: `some` says that the list has a scenario of which the test holds
+-- `some` says that the list has a scenario of which the test holds
 module _ (test : Scenario → Bool) where
   pub some-member : (s : Scenario) (list : List Scenario) → List·Memᴰ s list → test s ≡ true → some test list ≡ true
   unfolding some
@@ -36,6 +36,6 @@ module _ (test : Scenario → Bool) where
       step true h later = (r, List·Memᴰ·head refl, h)
       step false h later = let f = later (rw h at e) in (f .0, List·Memᴰ·tail (f .1), f .2)
 
--- law: so a pair that 14 is given for is disconnected by no scenario of the list
+-- so a pair that 14 is given for is disconnected by no scenario of the list
 pub none-cuts : (p : Plan) (v w : ℕ) (list : List Scenario) → noneTest p v w list ≡ 14 → (s : Scenario) → List·Memᴰ s list → cuts p v w s ≡ true → ⊥
 none-cuts p v w list e s m h = let z : _≡_ {A = ℕ} 0 14 = rw (some-member (cuts p v w) s list m h) at e in omega arith

@@ -1,4 +1,4 @@
--- Laws of reach: it is symmetric, a node that works reaches itself, and failing more never connects more.
+-- Laws of reach: it is symmetric, a node that works reaches itself, and the working nodes and links decide it.
 -- Assumes nothing.
 use mathlib.Core.Path.{_≡_, sym, ap, _∙_}
 use mathlib.Core.Bool.{Bool, true, false, _&&_}

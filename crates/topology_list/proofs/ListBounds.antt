@@ -1,4 +1,4 @@
--- "The list's masses sum to E, and bounds taken from it equal those of the run": document 01, section "Further readings of a plan".
+-- A topology of three words disconnects the pairs that the topology itself disconnects.
 -- Assumes nothing.
 use mathlib.Core.Path.{_≡_, refl, sym, ap, ap₂, _∙_}
 use mathlib.Core.Bool.{Bool, true, false, not, _&&_, Bool·not-not}

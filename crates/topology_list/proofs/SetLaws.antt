@@ -1,4 +1,4 @@
--- Laws of `setOf`: its elements are those below k that pass the test, so it is the one set with them.
+-- Laws of `setWhere`: its elements are those below k that pass the test, so it is the one set with them.
 -- Assumes nothing.
 use mathlib.Core.Path.{_≡_, refl, sym, ap, _∙_}
 use mathlib.Core.Bool.{Bool, true, false, _||_, or-comm}

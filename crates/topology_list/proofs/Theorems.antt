@@ -1,4 +1,5 @@
--- What the call writes: where it is accepted, the entries that stand in the lent list sum to E, and give the bounds of the run.
+-- "The list's masses sum to E, and bounds taken from it equal those of the run": document 01, section "Further readings of a plan". First of a plan's topology list,
+-- then of the entries that the call writes. And when 15 is met.
 -- Assumes nothing.
 use mathlib.Core.Path.{_≡_, refl, ap, _∙_}
 use mathlib.Core.List.{List, [], _∷_, _++_}
@@ -40,12 +41,12 @@ module _ (p : Plan) (room : ℕ) (placed-all : topologyListOf room p .number ≡
   abbrev entries : List Entry
   entries = topologyListOf room p .entries
 
-  -- law: where 15 is not met, a sum of mass × weight over the entries is that over the examined scenarios, whatever the weight of a topology
+  -- where 15 is not met, a sum of mass × weight over the entries is that over the examined scenarios, whatever the weight of a topology
   pub sum-is : (weight : Topology → ℕ) → sumEntries weight entries ≡ sumEnds (λ s m. m * weight (topologyAfter p s)) (firstEnds p)
   unfolding topologyListOf
   sum-is weight = sum-placed room (topologyAfter p) weight [] (firstEnds p) placed-all ∙ zero-add _
 
-  -- THEOREM: the list's masses sum to E
+  -- the list's masses sum to E
   pub list-sums : massesIn entries ≡ massExamined p
   list-sums = masses-are entries ∙ sum-is (λ t. 1) ∙ same-sum _ _ (λ s m. one m) (firstEnds p)
     where
@@ -53,7 +54,7 @@ module _ (p : Plan) (room : ℕ) (placed-all : topologyListOf room p .number ≡
       one m = omega arith
 
   module _ (few : p .nodes ≤ 64) (fewLinks : length (p .links) ≤ 128) (v w : ℕ) where
-    -- THEOREM: and the lower bound of every pair taken from it is the run's
+    -- and the lower bound of every pair taken from it is the run's
     pub list-lower : lowerFrom p entries v w ≡ lowerOf p v w
     list-lower =
         sum-is (λ t. digit (cutIn p v w t))
@@ -61,11 +62,12 @@ module _ (p : Plan) (room : ℕ) (placed-all : topologyListOf room p .number ≡
         (λ s m. ap (λ (b : Bool). m * digit b) (same-cut (p .nodes) (p .links) (topologyOf p s .out) few fewLinks v w))
         (firstEnds p)
 
-    -- THEOREM: and so is the upper bound, 10^18 less the list's masses and the lower bound added
+    -- and so is the upper bound, 10^18 less the list's masses and the lower bound added
     pub list-upper : Probabilities (p .events) → upperOf p v w + massesIn entries ≡ lowerFrom p entries v w + whole
     list-upper q = omega (arith, list-sums, list-lower, upper-lower p q (cuts p v w))
 
 module _ (room : ℕ) (p : Plan) where
+  -- with an entry for each different topology the list has them all, and with fewer entries 15 is met
   pub never-early : length (differentOf p) ≤ room → topologyListOf room p ≡ topologyList (differentOf p) 0
   unfolding topologyListOf
   never-early h = room-for-all (topologyAfter p) room [] (firstEnds p) h
@@ -74,7 +76,7 @@ module _ (room : ℕ) (p : Plan) where
   unfolding topologyListOf
   never-late h = no-room-for-all (topologyAfter p) room [] (firstEnds p) (omega arith) h
 
-  -- law: 15 is met exactly where there are more of them than entries
+  -- 15 is met exactly where there are more of them than entries
   pub full-iff : (topologyListOf room p .number ≡ 15) ↔ (room < length (differentOf p))
   full-iff = (there, never-late)
     where
@@ -153,11 +155,11 @@ module _ (h : Header) (links events list : List ℕ) (accepted : topologiesNumbe
   unfolding planOfLists
   probable = held-probable h links events (lists-held h (length links) (length events / 4) links events lists-fine)
 
-  -- THEOREM: their masses sum to E
+  -- their masses sum to E
   pub written-sums : massesIn written ≡ massExamined p
   written-sums = ap massesIn written-is ∙ list-sums p (length list / 4) all-placed
 
-  -- THEOREM: the bounds of every pair taken from them are those of the run
+  -- the bounds of every pair taken from them are those of the run
   pub written-lower : (v w : ℕ) → lowerFrom p written v w ≡ lowerOf p v w
   written-lower v w =
       ap (λ (es : List Entry). lowerFrom p es v w) written-is ∙ list-lower p (length list / 4) all-placed few few-links v w

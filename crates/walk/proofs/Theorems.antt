@@ -22,7 +22,7 @@ use Rattle.walk.specs.Walk.{planEnds, examined, isExamined, complete, ma
 use Rattle.walk.proofs.Laws.{Relevant, relevant-sound, relevant-all, end-scenario, examined-sound, masses-le, masses-enough}
 use Rattle.walk.proofs.Laws.{ends-distinct}
 
--- law: a set is a relevant end of the whole walk exactly where its final mass is at least t, and the mass handed out is that mass
+-- a scenario is a relevant end of the whole walk exactly where its final mass is at least t, and the mass handed out is that mass
 pub relevant-iff : (p : Plan) → Probabilities (p .events) → (s : Scenario) (x : ℕ)
     → List·Memᴰ (relevant s x) (planEnds p) ↔ Relevant (p .threshold) whole (p .events) s x
 relevant-iff p q s x = (
@@ -31,7 +31,7 @@ relevant-iff p q s x = (
   relevant-all (p .threshold) whole (p .events) s x q,
 )
 
--- law: where complete is 1, examined means a final mass of at least t
+-- where complete is 1, examined means a final mass of at least t
 pub examined-iff : (p : Plan) → Probabilities (p .events) → complete p ≡ 1 → (s : Scenario)
     → (isExamined p s ≡ true) ↔ ((length s ≡ length (p .events)) × (p .threshold ≤ finalMass whole (p .events) s))
 examined-iff p q c s = (examined-sound p s, back)
@@ -52,11 +52,11 @@ examined-iff p q c s = (examined-sound p s, back)
         (planEnds p)
         (relevant-all (p .threshold) whole (p .events) s (finalMass whole (p .events) s) q (record { entries = h .0; mass = refl; enough = h .1 }))))
 
--- law: E is at most 10^18
+-- E is at most 10^18
 pub massExamined-le : (p : Plan) → Probabilities (p .events) → massExamined p ≤ whole
 massExamined-le p q = masses-le (p .threshold) (p .limit) whole (p .events) q
 
--- law: "Examined count × t is at most 10^18."
+-- "Examined count × t is at most 10^18."
 pub count-le : (p : Plan) → Probabilities (p .events) → count p * p .threshold ≤ whole
 count-le p q =
     omega (
@@ -66,9 +66,10 @@ count-le p q =
       massExamined-le p q,
     )
 
+-- no scenario is examined twice
 pub examined-distinct : (p : Plan) → List·Nodup (examined p)
 examined-distinct p = ends-distinct (p .threshold) (p .limit) whole (p .events)
 
--- law: the test for an examined scenario is membership
+-- the test for an examined scenario is membership
 pub examined-member : (p : Plan) (s : Scenario) → (isExamined p s ≡ true) ↔ List·Memᴰ s (examined p)
 examined-member p s = (among-member s (examined p), member-among s (examined p))
