@@ -4,4 +4,5 @@ pub mod Seek
 pub mod WitnessPromise
 pub mod Figures
 pub mod FigureLaws
+pub mod DowntimeLaws
 pub mod Theorems

@@ -1,10 +1,15 @@
--- Downtime: document 01, section "Further readings of a plan".
+-- Downtime: document 01, section "Further readings of a plan", with the rounding of document 02, request U1.
 -- Assumes nothing.
 use mathlib.Core.Path.{_≡_, refl}
 use mathlib.Core.List.{[], _∷_}
-use Prim.Native.Nat.{ℕ, zero, suc, _*_, _/_}
+use Prim.Native.Nat.{ℕ, zero, suc, _+_, _-_, _*_, _/_, _≤_, _<_}
+use lib.ListN.{length}
 use Rattle.mass.specs.Refusal.{first}
 use Rattle.mass.specs.Split.{whole, massTest}
+use Rattle.plan.specs.Plan.{Plan}
+use Rattle.plan.specs.LentLists.{planRefusal}
+use Rattle.sums.specs.Exact.{scale, exactCut}
+use Rattle.bounds.specs.Bounds.{cuts, lowerOf, upperOf}
 use Rattle.readings.specs.declared.Seconds.{Seconds}
 use Rattle.readings.specs.declared.Timed.{Timed}
 use Rattle.readings.specs.declared.Timed.the-variants as timed
@@ -17,9 +22,9 @@ year = 31536000
 abbrev pub lowerSeconds : ℕ → ℕ
 lowerSeconds m = m * year / whole
 
--- an upper mass, rounded down too
+-- an upper mass, "rounded up": the least number of seconds that is not below mass × 31,536,000 ÷ 10^18
 abbrev pub upperSeconds : ℕ → ℕ
-upperSeconds m = m * year / whole
+upperSeconds m = (m * year + (whole - 1)) / whole
 
 -- 16 where either mass is above one whole
 abbrev pub downtimeRefusal : ℕ → ℕ → ℕ
@@ -39,9 +44,24 @@ abbrev pub secondsIn : Timed → Seconds
 secondsIn (timed.Refused number) = record { lower = 0; upper = 0 }
 secondsIn (timed.Given seconds) = seconds
 
--- examples: the whole year; a tenth of it; the most that is less than one second, and the least that is one
-example-year : (lowerSeconds whole ≡ 31536000) × (upperSeconds 100000000000000000 ≡ 3153600)
-example-year = (refl, refl)
+-- the exact downtime, D × 31,536,000 seconds for a D in units of 10^-9n, lies between the two seconds
+pub record DowntimeWithin (n d : ℕ) (seconds : Seconds) : Type 0 where
+  pub below : seconds .lower * scale n ≤ d * year
+  pub above : d * year ≤ seconds .upper * scale n
 
-example-second : (lowerSeconds 31709791983 ≡ 0) × (upperSeconds 31709791984 ≡ 1)
-example-second = (refl, refl)
+-- "Where the two masses are the bounds of a pair, its exact downtime must lie between the two": for every plan that meets no refusal, and
+-- every pair of it whose lower and upper bound they are
+abbrev pub EnclosesDowntime : ℕ → ℕ → Seconds → Type 0
+EnclosesDowntime lower upper seconds =
+    (p : Plan) → planRefusal p ≡ 0 → (v w : ℕ) → v < w → w < p .nodes → lowerOf p v w ≡ lower → upperOf p v w ≡ upper
+    → DowntimeWithin (length (p .events)) (exactCut p (cuts p v w)) seconds
+
+-- examples: nothing; the whole year; 62,500,000,000,000 units, which make 1,971 seconds and are not raised
+example-exact : (secondsOf 0 0 ≡ record { lower = 0; upper = 0 }) × (secondsOf whole whole ≡ record { lower = year; upper = year })
+    × (secondsOf 62500000000000 62500000000000 ≡ record { lower = 1971; upper = 1971 })
+example-exact = (refl, refl, refl)
+
+-- the case that the request names; the most units that are less than one second, and the least that are more
+example-rounded : (secondsOf 0 4 ≡ record { lower = 0; upper = 1 }) × (secondsOf 31709791983 31709791983 ≡ record { lower = 0; upper = 1 })
+    × (secondsOf 31709791984 31709791984 ≡ record { lower = 1; upper = 2 })
+example-rounded = (refl, refl, refl)

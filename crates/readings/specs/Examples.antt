@@ -1,9 +1,9 @@
--- Computed examples of the witness and the figure, on marked plans of document 01.
+-- Computed examples of the witness, the figure and the downtime, on marked plans of document 01 and one like them.
 -- Assumes nothing.
 use mathlib.Core.Path.{_≡_, refl}
 use mathlib.Core.Bool.{true}
 use mathlib.Core.List.{[], _∷_}
-use Prim.Native.Nat.{ℕ}
+use Prim.Native.Nat.{ℕ, _*_}
 use Rattle.sets.specs.Sets.{bit, anyBelow}
 use Rattle.plan.specs.Plan.{Plan}
 use Rattle.network.specs.Outage.{unionOf}
@@ -11,6 +11,9 @@ use Rattle.network.specs.Topology.{nodeWorks, linkWorks, joins, adjacent}
 use Rattle.topology.specs.Paths.{via, disconnected}
 use Rattle.walk.specs.Ends.{ends}
 use Rattle.walk.specs.Walk.{examined}
+use Rattle.sums.specs.Exact.{scale, exactSum, exactCut}
+use Rattle.bounds.specs.Bounds.{cuts, lowerOf, upperOf}
+use Rattle.readings.specs.Downtime.{year, secondsOf}
 use Rattle.readings.specs.Witness.{some, noneTest, Shows}
 use Rattle.readings.specs.Figure.{figureOf, sharesOf, floatOf}
 use Rattle.readings.specs.declared.Figured.the-variants as figured
@@ -59,3 +62,10 @@ example-tenth = (refl, refl)
 example-least : (toBits binary64 (sharesOf 0 1 .disconnected) ≡ 0) × (toBits binary64 (sharesOf 0 1 .examined) ≡ 0x3c32725dd1d243ac)
 unfolding floatOf add mul div ofInt toBits
 example-least = (refl, refl)
+
+-- a link that fails with 10^-9 is a risk of 0.03 seconds a year: D is 1 and counts units of 10^-9, and the exact downtime lies between 0 and 1
+-- seconds (0 × 10^9 ≤ 31,536,000 ≤ 1 × 10^9)
+example-live : (secondsOf (lowerOf (line 1 1 100) 0 1) (upperOf (line 1 1 100) 0 1) ≡ record { lower = 0; upper = 1 })
+    × (exactCut (line 1 1 100) (cuts (line 1 1 100) 0 1) * year ≡ 31536000) × (scale 1 ≡ 1000000000)
+unfolding ends disconnected via nodeWorks linkWorks joins adjacent anyBelow unionOf bit exactSum scale
+example-live = (refl, refl, refl)

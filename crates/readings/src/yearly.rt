@@ -2,32 +2,27 @@
 use crate::Seconds;
 use crate::Timed;
 ghost use mathlib.Core.Path.{_≡_};
-ghost use Prim.Native.Nat.{_≤_};
+ghost use Prim.Native.Nat.{_+_, _*_, _/_, _≤_};
 ghost use Rattle.mass.specs.Split.{whole};
-ghost use Rattle.readings.specs.Downtime.{lowerSeconds, upperSeconds, downtimeRefusal, downtimeAnswer, secondsOf};
+ghost use Rattle.readings.specs.Downtime.{downtimeRefusal, downtimeAnswer, secondsOf, secondsIn, EnclosesDowntime};
 
 // 31,536,000 seconds over 10^18 is 1971 over this number.
 const PARTS: u64 = 62_500_000_000_000;
 
-// The seconds of a lower mass, rounded down: with no wider integer, by the mass's quotient and remainder.
-fn lower_seconds(m: u64) -> u64
-    requires { ⌜ m ≤ whole ⌝ }
-    ensures { λ r. ⌜ r ≡ lowerSeconds m ⌝ }
+// (m × 1971 + added) ÷ PARTS: with 0 added the seconds of a mass are rounded down, with PARTS − 1 up. There is no wider integer, so it goes by
+// the mass's quotient and remainder.
+fn seconds_with(m: u64, added: u64) -> u64
+    requires { ⌜ (m ≤ whole) × (added ≤ 62500000000000) ⌝ }
+    ensures { λ r. ⌜ r ≡ (m * 1971 + added) / 62500000000000 ⌝ }
 {
-    m / PARTS * 1971 + m % PARTS * 1971 / PARTS
+    m / PARTS * 1971 + (m % PARTS * 1971 + added) / PARTS
 }
 
-// The seconds of an upper mass, rounded down.
-fn upper_seconds(m: u64) -> u64
-    requires { ⌜ m ≤ whole ⌝ }
-    ensures { λ r. ⌜ r ≡ upperSeconds m ⌝ }
-{
-    m / PARTS * 1971 + m % PARTS * 1971 / PARTS
-}
-
-// The downtime of a lower and an upper mass: each times 31,536,000 seconds, over 10^18.
+// The downtime of a lower and an upper mass: each times 31,536,000 seconds, over 10^18, the lower one rounded down and the upper one up. Where
+// the two are the bounds of a pair, its exact downtime lies between the two answers.
 pub fn downtime(lower: u64, upper: u64) -> Timed
     ensures answer { λ r. ⌜ r ≡ downtimeAnswer (downtimeRefusal lower upper) (secondsOf lower upper) ⌝ }
+    ensures enclosed { λ r. ⌜ EnclosesDowntime lower upper (secondsIn r) ⌝ }
 {
     let low = mass::mass_test(lower);
     if low != 0 {
@@ -38,7 +33,7 @@ pub fn downtime(lower: u64, upper: u64) -> Timed
         return Timed::Refused(high);
     }
     Timed::Given(Seconds {
-        lower: lower_seconds(lower),
-        upper: upper_seconds(upper),
+        lower: seconds_with(lower, 0),
+        upper: seconds_with(upper, PARTS - 1),
     })
 }

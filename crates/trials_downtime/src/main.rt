@@ -1,5 +1,6 @@
-// The test program of the downtime: document 01, "Further readings of a plan". A mass is in units of 10^-18.
-// Each expected value stands beside its vector, taken from document 01 or worked out by hand; a difference is printed, and `trials ended`
+// The test program of the downtime: document 01, "Further readings of a plan", with the rounding of document 02, U1. A mass is in units of
+// 10^-18.
+// Each expected value stands beside its vector, taken from the documents or worked out by hand; a difference is printed, and `trials ended`
 // is the last line. The stored output is that line alone.
 use readings::Timed;
 use vectors::same;
@@ -8,7 +9,7 @@ use vectors::same_part;
 const WHOLE: u64 = 1_000_000_000_000_000_000;
 
 fn main() {
-    whole_year();
+    whole_seconds();
     rounded_seconds();
     refused_seconds();
     io::write_all(1, b"trials ended\n");
@@ -28,30 +29,50 @@ fn seconds(label: &[u8], lower: u64, upper: u64, number: u64, low: u64, high: u6
     }
 }
 
-// One whole is the year of 31,536,000 seconds.
-fn whole_year() {
+// Masses that make whole seconds are not raised: 10^18 units are 31,536,000 seconds, so 62,500,000,000,000 are 1,971.
+fn whole_seconds() {
+    seconds(b"nothing", 0, 0, 0, 0, 0);
     seconds(b"nothing and one whole", 0, WHOLE, 0, 0, 31_536_000);
+    seconds(b"one whole", WHOLE, WHOLE, 0, 31_536_000, 31_536_000);
+    seconds(b"a tenth", WHOLE / 10, WHOLE / 10, 0, 3_153_600, 3_153_600);
     seconds(
-        b"a tenth",
-        100_000_000_000_000_000,
-        100_000_000_000_000_000,
+        b"1,971 seconds",
+        62_500_000_000_000,
+        62_500_000_000_000,
         0,
-        3_153_600,
-        3_153_600,
+        1971,
+        1971,
     );
 }
 
-// A second is 10^18 / 31,536,000 = 31,709,791,983.76.. units. Both are rounded down.
+// A second is 10^18 / 31,536,000 = 31,709,791,983.76.. units. The lower mass is rounded down, the upper one up.
 fn rounded_seconds() {
-    seconds(b"about a second", 31_709_791_983, 31_709_791_984, 0, 0, 1);
-    seconds(b"the bounds of the triangle", 0, 4, 0, 0, 0);
+    seconds(b"one unit", 1, 1, 0, 0, 1);
+    seconds(b"the bounds of the triangle", 0, 4, 0, 0, 1);
+    seconds(b"four units", 4, 4, 0, 0, 1);
+    seconds(
+        b"less than a second",
+        31_709_791_983,
+        31_709_791_983,
+        0,
+        0,
+        1,
+    );
+    seconds(
+        b"more than a second",
+        31_709_791_984,
+        31_709_791_984,
+        0,
+        1,
+        2,
+    );
     seconds(
         b"one unit short of one whole",
         WHOLE - 1,
         WHOLE - 1,
         0,
         31_535_999,
-        31_535_999,
+        31_536_000,
     );
 }
 

@@ -4,6 +4,7 @@ use std::collections::HashSet;
 
 use crate::bounds::Bounds;
 use crate::plan::Plan;
+use crate::readings::YEAR_SECONDS;
 use crate::topology::components;
 use crate::walk::walk;
 use crate::wide::Wide;
@@ -61,9 +62,9 @@ pub fn exact_sums(plan: &Plan) -> ExactSums {
 }
 
 impl ExactSums {
-    /// A mass times 10^(9n).
-    fn scaled(&self, mass: u64) -> Wide {
-        Wide::from(mass).times_power(CERTAIN, self.events)
+    /// A mass, or seconds, times 10^(9n).
+    fn scaled(&self, number: u64) -> Wide {
+        Wide::from(number).times_power(CERTAIN, self.events)
     }
 
     /// lower × 10^(9n) ≤ D × 10^18.
@@ -81,6 +82,12 @@ impl ExactSums {
         let lost = self.scaled(self.count).times(self.events as u64);
         let gap = bounds.upper.checked_sub(bounds.lower);
         gap.is_some_and(|gap| self.scaled(gap) <= self.not_examined.times(WHOLE) + lost)
+    }
+
+    /// lower seconds × 10^(9n) ≤ D × 31,536,000 ≤ upper seconds × 10^(9n): the exact downtime of the pair lies between the two.
+    pub fn downtime_holds(&self, pair: usize, lower: u64, upper: u64) -> bool {
+        let exact = self.disconnected[pair].times(YEAR_SECONDS);
+        self.scaled(lower) <= exact && exact <= self.scaled(upper)
     }
 
     /// The three inequalities of demand 3 for one pair.

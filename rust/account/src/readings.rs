@@ -88,13 +88,11 @@ pub fn witness_sets(lent: &Lent, v: u64, w: u64) -> Result<Vec<u128>, Refusal> {
     Ok(witnesses.iter().map(|scenario| scenario.failing).collect())
 }
 
-/// Seconds of downtime in a year, rounded down.
-fn seconds(mass: u64) -> u64 {
-    (u128::from(mass) * u128::from(YEAR_SECONDS) / u128::from(WHOLE)) as u64
-}
-
-/// The downtime of a lower and an upper mass, or 16.
+/// The downtime of a lower and an upper mass in seconds of a year, the lower one rounded down and the upper one up, or 16.
 pub fn downtime(lower: u64, upper: u64) -> Result<(u64, u64), Refusal> {
     demand(lower <= WHOLE && upper <= WHOLE, Refusal::Mass)?;
-    Ok((seconds(lower), seconds(upper)))
+    let year = |mass: u64| u128::from(mass) * u128::from(YEAR_SECONDS);
+    let whole = u128::from(WHOLE);
+    let (down, up) = (year(lower) / whole, year(upper).div_ceil(whole));
+    Ok((down as u64, up as u64))
 }

@@ -120,6 +120,10 @@ fn exact_sums_enclose_the_bounds_and_only_those() {
             upper: WHOLE,
         };
         assert!(!sums.gap_holds(free));
+        let (lower, upper) = downtime(bound.lower, bound.upper).expect("bounds");
+        assert!(sums.downtime_holds(pair, lower, upper));
+        assert!(!sums.downtime_holds(pair, upper + 1, upper + 1));
+        assert!(!sums.downtime_holds(pair, lower - 1, lower - 1));
     }
 }
 
@@ -130,11 +134,29 @@ fn a_float_of_mass_rounds_once() {
     }
 }
 
+/// A second is 10^18 ÷ 31,536,000 = 31,709,791,983.76.. units, and 1,971 seconds are 62,500,000,000,000.
+#[test]
+fn a_downtime_is_rounded_down_and_up() {
+    let cases = [
+        (0, (0, 0)),
+        (1, (0, 1)),
+        (4, (0, 1)),
+        (31_709_791_983, (0, 1)),
+        (31_709_791_984, (1, 2)),
+        (62_500_000_000_000, (1_971, 1_971)),
+        (WHOLE - 1, (31_535_999, 31_536_000)),
+        (WHOLE, (31_536_000, 31_536_000)),
+    ];
+    for (mass, seconds) in cases {
+        assert_eq!(downtime(mass, mass), Ok(seconds));
+    }
+}
+
 #[test]
 fn refusals_of_numbers() {
     assert_eq!(number(&split(WHOLE + 1, CERTAIN + 1)), 16);
     assert_eq!(number(&split(WHOLE, CERTAIN + 1)), 8);
-    assert_eq!(downtime(4, WHOLE), Ok((0, 31_536_000)));
+    assert_eq!(number(&downtime(WHOLE + 1, 0)), 16);
     assert_eq!(number(&downtime(0, WHOLE + 1)), 16);
     with_lists(&row(), |lent| {
         assert_eq!(number(&calls::pair(lent, 1, 1)), 13);

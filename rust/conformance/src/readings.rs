@@ -96,7 +96,7 @@ pub fn witness(lent: &Lent, v: u64, w: u64) -> (u32, [u64; 2]) {
     (refusal, result)
 }
 
-/// The downtime of two masses, in seconds.
+/// The downtime of two masses, in seconds: the lower one rounded down, the upper one up.
 pub fn downtime(lower: u64, upper: u64) -> (u32, [u64; 2]) {
     let mut result = [UNSET; 2];
     // Safety: the pointer comes with the length of its slice.

@@ -229,5 +229,6 @@ fn refusals_of_readings() {
     assert_eq!(witness(&still, 0, 1), (14, [0; 2]));
     assert_eq!(topologies(&right(), &mut [9; 3]), (15, 0));
     assert_eq!(downtime(0, 1_000_000_000_000_000_001), (16, [0; 2]));
+    assert_eq!(downtime(1_000_000_000_000_000_001, 0), (16, [0; 2]));
     assert_eq!(downtime(u64::MAX, 0), (16, [0; 2]));
 }

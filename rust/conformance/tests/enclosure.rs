@@ -1,13 +1,13 @@
-//! Demand 3 on the bounds that the run returned, against the sums over all 2^n sets.
+//! Demand 3 on the bounds that the run returned, and the downtimes of these bounds, against the sums over all 2^n sets.
 
 use account::bounds::Bounds;
 use account::exact::exact_sums;
 use account::Plan;
-use conformance::probe;
+use conformance::{probe, readings};
 use plans::valid::{plan_of_size, Size};
 use plans::{Lists, Rng};
 
-/// The three inequalities for every pair of a plan.
+/// The three inequalities for every pair of a plan, and that its exact downtime lies between the two in seconds.
 fn expect_enclosed(plan: &Plan) {
     let pairs = plan.pairs().len();
     let (mut lower, mut upper) = (vec![0; pairs], vec![0; pairs]);
@@ -20,6 +20,9 @@ fn expect_enclosed(plan: &Plan) {
         assert!(sums.lower_holds(pair, bounds), "{bounds:?} of {plan:?}");
         assert!(sums.upper_holds(pair, bounds), "{bounds:?} of {plan:?}");
         assert!(sums.gap_holds(bounds), "{bounds:?} of {plan:?}");
+        let (refusal, [low, high]) = readings::downtime(lower, upper);
+        let enclosed = refusal == 0 && sums.downtime_holds(pair, low, high);
+        assert!(enclosed, "{low} and {high} s for {bounds:?} of {plan:?}");
     }
 }
 

@@ -89,7 +89,17 @@ fn witnesses_are_examined_and_disconnect() {
 fn downtimes_agree() {
     let mut rng = Rng::for_stream(44);
     let mut tally = Tally::default();
-    let fixed = [0, 1, 4, WHOLE - 1, WHOLE, WHOLE + 1, u64::MAX];
+    let fixed = [
+        0,
+        1,
+        4,
+        31_709_791_983,
+        31_709_791_984,
+        WHOLE - 1,
+        WHOLE,
+        WHOLE + 1,
+        u64::MAX,
+    ];
     for _ in 0..20_000 {
         let random = [rng.between(0, WHOLE), rng.bits(), rng.pick(&fixed)];
         let (lower, upper) = (rng.pick(&random), rng.pick(&random));

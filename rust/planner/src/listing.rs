@@ -38,7 +38,7 @@ fn head(named: &Named, outcome: &Outcome) -> String {
         "{} nodes, {} links, {} events, threshold {}, cap {}\n\
          {} scenarios examined, {completed}; their share, E, is {}\n\
          The share of time that a pair is cut off lies between lower and upper, {} apart.\n\
-         Seconds are of a year of 365 days, rounded down.\n\n",
+         Seconds are of a year of 365 days: lower s is rounded down, upper s up.\n\n",
         plan.nodes,
         plan.links.len(),
         plan.events.len(),

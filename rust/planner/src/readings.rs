@@ -4,7 +4,7 @@ use account::WHOLE;
 use conformance::readings;
 use plans::Lists;
 
-/// The seconds in a year that two masses stand for, lower first.
+/// The seconds in a year that two masses stand for: the lower one's, rounded down, then the upper one's, rounded up.
 pub fn downtime(lower: u64, upper: u64) -> [u64; 2] {
     assert!(lower <= WHOLE && upper <= WHOLE, "the bounds of a pair");
     readings::downtime(lower, upper).1
@@ -57,5 +57,6 @@ mod tests {
     fn seconds_of_a_year() {
         let tenth = account::WHOLE / 10;
         assert_eq!(downtime(tenth, account::WHOLE), [3_153_600, 31_536_000]);
+        assert_eq!(downtime(0, 4), [0, 1]);
     }
 }

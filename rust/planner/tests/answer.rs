@@ -3,7 +3,7 @@
 use account::exact::{exact_sums, ExactSums};
 use account::wide::Wide;
 use account::{Plan, CERTAIN, LARGEST_CAP, WHOLE};
-use conformance::proved;
+use conformance::{proved, readings};
 use plans::examples::folder;
 use plans::Lists;
 
@@ -93,6 +93,16 @@ fn the_lines_and_the_truth() {
         let line = listing.lines().nth(line).expect("a line of the listing");
         assert!(answer.contains(&format!("    {line}\n")), "{line}");
     }
+}
+
+#[test]
+fn the_seconds() {
+    let bounds = proved::run(&Lists::of(&ring())).1[PAIR];
+    let (refusal, [lower, upper]) = readings::downtime(bounds.lower, bounds.upper);
+    assert_eq!(refusal, 0);
+    let sentence = format!("between {lower} and {upper} seconds a year");
+    assert!(answer().contains(&sentence), "{sentence}");
+    assert!(exact_sums(&ring()).downtime_holds(PAIR, lower, upper));
 }
 
 #[test]

@@ -64,3 +64,21 @@ fn the_readme_shows_the_triangle() {
         "the listing in the README"
     );
 }
+
+#[test]
+fn the_table_of_the_rings_has_the_bounds_and_the_seconds() {
+    let page = std::fs::read_to_string(folder().join("README.md")).expect("the page");
+    let page = page.replace(',', "");
+    for name in ["ring-separate", "ring-shared-duct"] {
+        let listing = account::listing::listing(&bytes_of(&folder().join(format!("{name}.plan"))));
+        let pair = listing.lines().find_map(|line| line.strip_prefix("0 3 "));
+        let numbers = pair.expect("the pair 0 3").split(' ');
+        let bounds: Vec<u64> = numbers.map(|n| n.parse().expect("a bound")).collect();
+        let seconds = account::readings::downtime(bounds[0], bounds[1]).expect("bounds");
+        let row = format!(
+            "| `{name}` | {} | {} | {} |",
+            bounds[0], bounds[1], seconds.1
+        );
+        assert!(page.contains(&row), "{row}");
+    }
+}

@@ -17,7 +17,7 @@ same-length c = search needs
 returns : tie.Need-returns
 returns c =
     let f = c .before .before .give-seconds .ensures in
-    let e = c .before .before .before .before .downtime .ensures in
+    let e = c .before .before .before .before .downtime .ensures .0 in
     let n = rw (e, downtime-back) at (f .0) in
     rw n (refl, rw e at (f .1))
 

@@ -1,58 +1,87 @@
--- `readings::yearly::downtime` meets its contract: at each `return` the tests that led there say which case of the answer holds.
+-- `readings::yearly::downtime` meets its contract: at each `return` the tests that led there say which case of the answer holds; that the
+-- exact downtime lies between its seconds follows from that.
 -- Assumes nothing.
 use borrow.Author.Needs.{needs}
-use mathlib.Core.Path.{_≡_, refl, sym, ap, ap₂, _∙_}
+use mathlib.Core.Path.{_≡_, refl, sym, ap, ap₂, subst, _∙_}
 use Prim.Native.Nat.{ℕ}
-use Rattle.mass.specs.Refusal.{first}
-use Rattle.mass.proofs.RefusalLaws.{first-skip}
+use native.Mathlib.Omega.{arith}
+use lib.ListN.{length}
 use Rattle.mass.specs.Split.{massTest}
 use Rattle.mass.proofs.Answer.{mass-fits}
 use Rattle.refusals.proofs.OrderLaws.{stop, skip}
-use Rattle.readings.specs.Downtime.{downtimeAnswer, downtimeRefusal, secondsOf}
+use Rattle.sums.specs.Exact.{exactCut}
+use Rattle.bounds.specs.Bounds.{cuts}
+use Rattle.readings.specs.Downtime.{lowerSeconds, upperSeconds, downtimeAnswer, downtimeRefusal, secondsOf, secondsIn}
+use Rattle.readings.specs.Downtime.{DowntimeWithin, EnclosesDowntime}
 use Rattle.readings.specs.declared.Seconds.{Seconds}
+use Rattle.readings.specs.declared.Timed.{Timed}
 use Rattle.readings.specs.declared.Timed.the-variants as timed
 use Rattle.readings.proofs.Refusing.{refuses}
+use Rattle.readings.proofs.DowntimeLaws.{none-refused, bounds-fit}
+use Rattle.readings.proofs.Theorems.{bounds-enclose}
 use Rattle.readings.proofs.yearly.downtime.Statement.{statement}
 use Rattle.readings.proofs.yearly.downtime.Tie as tie
-use Rattle.readings.proofs.yearly.downtime.Reads as reads
-use Rattle.readings.proofs.yearly.downtime.Lts as lts
-use Rattle.mass.proofs.mass_test.Reads as mass-test-reads
-use Rattle.readings.proofs.yearly.lower_seconds.Reads as lower-seconds-reads
-use Rattle.readings.proofs.yearly.upper_seconds.Reads as upper-seconds-reads
+
+-- ---- what the answer encloses
+
+module _ (lower upper : ℕ) where
+  abbrev answer : Timed
+  answer = downtimeAnswer (downtimeRefusal lower upper) (secondsOf lower upper)
+
+  -- the bounds of a pair are accepted, so the answer has their seconds
+  answer-encloses : EnclosesDowntime lower upper (secondsIn answer)
+  answer-encloses p valid v w l k is-lower is-upper =
+      let accepted : downtimeRefusal lower upper ≡ 0 = ap₂ downtimeRefusal (sym is-lower) (sym is-upper) ∙ bounds-fit p valid v w in
+      subst
+      (λ (n : ℕ). DowntimeWithin (length (p .events)) (exactCut p (cuts p v w)) (secondsIn (downtimeAnswer n (secondsOf lower upper))))
+      (sym accepted)
+      (bounds-enclose lower upper p valid v w l k is-lower is-upper)
+
+  concluded : (r : Timed) → r ≡ answer → (r ≡ answer) × EnclosesDowntime lower upper (secondsIn r)
+  concluded r e = (e, subst (λ (t : Timed). EnclosesDowntime lower upper (secondsIn t)) (sym e) answer-encloses)
+
+  given : (s : Seconds) → massTest lower ≡ 0 → massTest upper ≡ 0 → s ≡ secondsOf lower upper → timed.Given s ≡ answer
+  given s e f is = rw (none-refused lower upper e f) (ap timed.Given is)
+
+-- ---- the function
 
 mass-test-requires : tie.Need-mass-test-requires
 mass-test-requires c κs = search needs
 
 returns : tie.Need-returns
 returns c =
-    refuses downtimeAnswer timed.Refused (λ n x. refl) _ _ _ (stop _ (c .before .mass-test .ensures) (c .if1 .taken)) (c .if1 .taken)
+    concluded _ _ _
+    (refuses downtimeAnswer timed.Refused (λ n x. refl) _ _ _ (stop _ (c .before .mass-test .ensures) (c .if1 .taken)) (c .if1 .taken))
 
 mass-test-requires-2 : tie.Need-mass-test-requires-2
 mass-test-requires-2 c κs = search needs
 
 returns-2 : tie.Need-returns-2
 returns-2 c =
-    refuses downtimeAnswer timed.Refused (λ n x. refl) _ _ _
+    concluded _ _ _
+    (refuses downtimeAnswer timed.Refused (λ n x. refl) _ _ _
     (skip _ (c .before .before .before .mass-test .ensures) (c .before .before .if1 .left) (stop _ (c .before .mass-test2 .ensures) (c .if2 .taken)))
-    (c .if2 .taken)
+    (c .if2 .taken))
 
-lower-seconds-requires : tie.Need-lower-seconds-requires
-lower-seconds-requires c κs = mass-fits _ (sym (c .before .before .before .mass-test .ensures) ∙ c .before .before .if1 .left)
+seconds-with-requires : tie.Need-seconds-with-requires
+seconds-with-requires c κs = (mass-fits _ (sym (c .before .before .before .mass-test .ensures) ∙ c .before .before .if1 .left), omega arith)
 
-upper-seconds-requires : tie.Need-upper-seconds-requires
-upper-seconds-requires c κs = mass-fits _ (sym (c .before .before .mass-test2 .ensures) ∙ c .before .if2 .left)
+sub-seconds-with : tie.Need-sub-seconds-with
+sub-seconds-with c = search needs
 
-done : (lower upper : ℕ) (s : Seconds) → massTest lower ≡ 0 → massTest upper ≡ 0 → s ≡ secondsOf lower upper
-    → timed.Given s ≡ downtimeAnswer (downtimeRefusal lower upper) (secondsOf lower upper)
-unfolding first
-done lower upper s e f is = rw (first-skip (massTest lower) _ e, first-skip (massTest upper) _ f) (ap timed.Given is)
+seconds-with-requires-2 : tie.Need-seconds-with-requires-2
+seconds-with-requires-2 c κs = (mass-fits _ (sym (c .before .before .mass-test2 .ensures) ∙ c .before .if2 .left), omega arith)
 
 returns-3 : tie.Need-returns-3
 returns-3 c =
-    done _ _ _
+    let args = c .before .before .before .before .before .before .args in
+    let down : c .before .seconds-with .result ≡ lowerSeconds (args .lower) = omega (arith, c .before .seconds-with .ensures) in
+    let up : c .seconds-with2 .result ≡ upperSeconds (args .upper) = omega (arith, c .seconds-with2 .ensures) in
+    concluded _ _ _
+    (given _ _ _
     (sym (c .before .before .before .before .before .mass-test .ensures) ∙ c .before .before .before .before .if1 .left)
     (sym (c .before .before .before .mass-test2 .ensures) ∙ c .before .before .if2 .left)
-    (ap₂ (λ (l u : ℕ). record { lower = l; upper = u }) (c .before .lower-seconds .ensures) (c .upper-seconds .ensures))
+    (ap₂ (λ (l u : ℕ). record { lower = l; upper = u }) down up))
 
 pub downtime-spec : {M : Type 1} → statement M
 downtime-spec =
@@ -62,6 +91,7 @@ downtime-spec =
     returns
     mass-test-requires-2
     returns-2
-    lower-seconds-requires
-    upper-seconds-requires
+    seconds-with-requires
+    sub-seconds-with
+    seconds-with-requires-2
     returns-3)
