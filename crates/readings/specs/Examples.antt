@@ -5,7 +5,9 @@ use mathlib.Core.Bool.{true}
 use mathlib.Core.List.{[], _∷_}
 use Prim.Native.Nat.{ℕ, _*_}
 use Rattle.sets.specs.Sets.{bit, anyBelow}
+use Rattle.mass.specs.Refusal.{first}
 use Rattle.plan.specs.Plan.{Plan}
+use Rattle.plan.specs.LentLists.{planRefusal, linkListRefusal, eventListRefusal}
 use Rattle.network.specs.Outage.{unionOf}
 use Rattle.network.specs.Topology.{nodeWorks, linkWorks, joins, adjacent}
 use Rattle.topology.specs.Paths.{via, disconnected}
@@ -63,9 +65,10 @@ example-least : (toBits binary64 (sharesOf 0 1 .disconnected) ≡ 0) × (toBits 
 unfolding floatOf add mul div ofInt toBits
 example-least = (refl, refl)
 
--- a link that fails with 10^-9 is a risk of 0.03 seconds a year: D is 1 and counts units of 10^-9, and the exact downtime lies between 0 and 1
--- seconds (0 × 10^9 ≤ 31,536,000 ≤ 1 × 10^9)
-example-live : (secondsOf (lowerOf (line 1 1 100) 0 1) (upperOf (line 1 1 100) 0 1) ≡ record { lower = 0; upper = 1 })
+-- a link that fails with 10^-9 is a risk of 0.03 seconds a year: its plan meets no refusal, D is 1 and counts units of 10^-9, and the exact
+-- downtime lies between 0 and 1 seconds (0 × 10^9 ≤ 31,536,000 ≤ 1 × 10^9)
+example-live : (planRefusal (line 1 1 100) ≡ 0)
+    × (secondsOf (lowerOf (line 1 1 100) 0 1) (upperOf (line 1 1 100) 0 1) ≡ record { lower = 0; upper = 1 })
     × (exactCut (line 1 1 100) (cuts (line 1 1 100) 0 1) * year ≡ 31536000) × (scale 1 ≡ 1000000000)
-unfolding ends disconnected via nodeWorks linkWorks joins adjacent anyBelow unionOf bit exactSum scale
-example-live = (refl, refl, refl)
+unfolding planRefusal linkListRefusal eventListRefusal first ends disconnected via nodeWorks linkWorks joins adjacent anyBelow unionOf bit exactSum scale
+example-live = (refl, refl, refl, refl)
