@@ -93,6 +93,18 @@ pub fn accepted(label: &[u8], answer: Reading, want: Header) {
     }
 }
 
+// Holds the answer of a reading to the number of a refusal.
+pub fn refused(label: &[u8], answer: Reading, want: u64) {
+    match answer {
+        Reading::Refused(number) => {
+            same(label, number as u64, want);
+        }
+        Reading::Accepted(_) => {
+            same(label, 0, want);
+        }
+    }
+}
+
 // Holds the answer of a writing to how many bytes it should lay down.
 pub fn written(label: &[u8], answer: Writing, want: u64) {
     match answer {

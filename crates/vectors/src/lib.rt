@@ -18,4 +18,5 @@ pub use data::header;
 pub use data::large_events;
 pub use data::large_file;
 pub use data::many_links;
+pub use data::refused;
 pub use data::written;
