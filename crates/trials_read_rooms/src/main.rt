@@ -1,6 +1,6 @@
-// The test program of the room that the reader asks for: document 01, "Refused", 12 and its place. Lists hold a pattern, byte 170 and word 77,
-// before the call. Each expected value stands beside its vector, taken from document 01 or worked out by hand; a difference is printed, and
-// `trials ended` is the last line. The stored output is that line alone.
+// The test program of the room that the reader asks for: document 01, "Refused", 12 and its place. Lists hold a pattern, byte 170 and word
+// 77, before the call. Each expected value stands beside its vector, taken from document 01 or worked out by hand; a difference is printed,
+// and `trials ended` is the last line. The stored output is that line alone.
 use vectors::BYTE;
 use vectors::WORD;
 use vectors::all_bytes;
