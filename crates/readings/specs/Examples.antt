@@ -70,5 +70,6 @@ example-least = (refl, refl)
 example-live : (planRefusal (line 1 1 100) ≡ 0)
     × (secondsOf (lowerOf (line 1 1 100) 0 1) (upperOf (line 1 1 100) 0 1) ≡ record { lower = 0; upper = 1 })
     × (exactCut (line 1 1 100) (cuts (line 1 1 100) 0 1) * year ≡ 31536000) × (scale 1 ≡ 1000000000)
-unfolding planRefusal linkListRefusal eventListRefusal first ends disconnected via nodeWorks linkWorks joins adjacent anyBelow unionOf bit exactSum scale
+unfolding planRefusal linkListRefusal eventListRefusal first
+    ends disconnected via nodeWorks linkWorks joins adjacent anyBelow unionOf bit exactSum scale
 example-live = (refl, refl, refl, refl)

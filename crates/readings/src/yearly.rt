@@ -9,8 +9,8 @@ ghost use Rattle.readings.specs.Downtime.{downtimeRefusal, downtimeAnswe
 // 31,536,000 seconds over 10^18 is 1971 over this number.
 const PARTS: u64 = 62_500_000_000_000;
 
-// (m × 1971 + added) ÷ PARTS: with 0 added the seconds of a mass are rounded down, with PARTS − 1 up. There is no wider integer, so it goes by
-// the mass's quotient and remainder.
+// (m × 1971 + added) ÷ PARTS: with 0 added the seconds of a mass are rounded down, with PARTS − 1 up. There is no wider integer, so it goes
+// by the mass's quotient and remainder.
 fn seconds_with(m: u64, added: u64) -> u64
     requires { ⌜ (m ≤ whole) × (added ≤ 62500000000000) ⌝ }
     ensures { λ r. ⌜ r ≡ (m * 1971 + added) / 62500000000000 ⌝ }
@@ -18,8 +18,8 @@ fn seconds_with(m: u64, added: u64) -> u64
     m / PARTS * 1971 + (m % PARTS * 1971 + added) / PARTS
 }
 
-// The downtime of a lower and an upper mass: each times 31,536,000 seconds, over 10^18, the lower one rounded down and the upper one up. Where
-// the two are the bounds of a pair, its exact downtime lies between the two answers.
+// The downtime of a lower and an upper mass: each times 31,536,000 seconds, over 10^18, the lower one rounded down and the upper one up.
+// Where the two are the bounds of a pair, its exact downtime lies between the two answers.
 pub fn downtime(lower: u64, upper: u64) -> Timed
     ensures answer { λ r. ⌜ r ≡ downtimeAnswer (downtimeRefusal lower upper) (secondsOf lower upper) ⌝ }
     ensures enclosed { λ r. ⌜ EnclosesDowntime lower upper (secondsIn r) ⌝ }
