@@ -12,13 +12,12 @@ use Rattle.mass.proofs.RefusalLaws.{first-none, refuse-none}
 use Rattle.mass.specs.Split.{probabilityTest, certain}
 use Rattle.plan.specs.Plan.{Event}
 use Rattle.refusals.specs.Tests.{orderTest}
-use Rattle.plan.specs.Layout.{little, elements, members, memberCount, eventBytes, Bytes}
+use Rattle.plan.specs.Layout.{little, members, memberCount, eventBytes, Bytes}
 use Rattle.plan.specs.File.{membersRefusal, eventRefusal, eventsRefusal, setOf, probabilityIn, membersIn, eventSize, eventIn, eventsAt}
 use Rattle.plan.specs.LentLists.{eventListRefusal}
 use Rattle.refusals.proofs.TestLaws.{short-none, short-pass, sets-none, sets-pass, left-none}
 use Rattle.layout.proofs.LayoutNumbers.{value-little, little-again, bytes-drop}
-use Rattle.layout.proofs.LayoutSets.{elements-moved, moved-lt}
-use Rattle.layout.proofs.LayoutMembers.{members-read, members-accepted, nodes-back, links-back, length-event-members}
+use Rattle.layout.proofs.LayoutMembers.{members-accepted, nodes-back, links-back, length-event-members, sets-read}
 
 -- what an accepted event says
 pub record AcceptedEvent (nodes links before : ℕ) (b : List ℕ) : Type 0 where
@@ -162,19 +161,14 @@ module _ (nodes links : ℕ) (few : nodes ≤ 64) (some : links ≤ 128) where
     pub bytes : members (eventIn b) ≡ take (2 * membersIn b) (drop 5 b)
 
   pub event-read : (before : ℕ) (b : List ℕ) → AcceptedEvent nodes links before b → ReadEvent before b
-  unfolding members memberCount
   event-read before b a =
-      let m = members-read nodes links few 0 (membersIn b) (drop 5 b) (a .inside) in
-      let ns-same : elements 64 0 (setOf 0 (membersIn b) (drop 5 b)) ≡ m .ns =
-      rw (m .node-set) (elements-moved 64 0 nodes (m .ns) (omega arith) (m .nodes-rise)) in
-      let ls-same : elements 128 0 (setOf 1 (membersIn b) (drop 5 b)) ≡ m .ls =
-      rw (m .link-set) (elements-moved 128 0 links (m .ls) (omega arith) (m .links-rise)) in
+      let m = sets-read nodes links few some (membersIn b) (drop 5 b) (a .inside) in
       record {
         size = omega (arith, m .long, length-drop 5 b, a .long);
-        within = rw (m .node-set) (omega (arith, moved-lt 0 nodes (m .ns) (omega arith) (m .nodes-rise)));
-        inside = rw (m .link-set) (omega (arith, moved-lt 0 links (m .ls) (omega arith) (m .links-rise)));
-        counted = rw (ns-same, ls-same) (sym (m .counted));
-        bytes = rw (ns-same, ls-same) (sym (m .bytes));
+        within = m .within;
+        inside = m .inside;
+        counted = m .counted (probabilityIn b);
+        bytes = m .bytes (probabilityIn b);
       }
 
   pub record ReadEvents (before count : ℕ) (b : List ℕ) : Type 0 where

@@ -154,7 +154,7 @@ valid-pass p v = rw (v .counts, v .threshold, v .limit, v .links, v .events)
 -- what an accepted header says
 pub record AcceptedHeader (b : List ℕ) : Type 0 where
   pub long : 20 ≤ length b
-  pub mark : markTest (getD b 0 0) (getD b 1 0) (getD b 2 0) ≡ 0
+  pub mark : markTest 82 83 71 (getD b 0 0) (getD b 1 0) (getD b 2 0) ≡ 0
   pub version : versionTest (versionIn b) ≡ 0
   pub counts : countsTest (nodesIn b) (linksIn b) (eventsIn b) ≡ 0
   pub threshold : thresholdTest (thresholdIn b) ≡ 0
@@ -307,7 +307,7 @@ module _ (b : List ℕ) (bytes : Bytes b) (a : AcceptedFile b) where
   unfolding headerBytes planOf
   head-bytes =
       let h : 20 ≤ length b = a .header .long in
-      let m = mark-none (getD b 0 0) (getD b 1 0) (getD b 2 0) (a .header .mark) in
+      let m = mark-none 82 83 71 (getD b 0 0) (getD b 1 0) (getD b 2 0) (a .header .mark) in
       let two : little 2 1 ≡ take 2 (drop 3 b) = rw (version-none (versionIn b) (a .header .version)) at (field 2 3 (omega arith)) in
       rw (
         append-assoc (little 2 1) _ (drop 20 b),

@@ -1,6 +1,6 @@
 -- Members of an event, from sets to bytes and back.
 -- Assumes nothing.
-use mathlib.Core.Path.{_≡_, refl, ap}
+use mathlib.Core.Path.{_≡_, refl, sym, ap}
 use mathlib.Core.List.{List, [], _∷_, _++_, append-assoc}
 use Prim.Native.Nat.{ℕ, zero, suc, _+_, _-_, _*_, _^_, _<_, _≤_}
 use native.Mathlib.Nat.{sub-zero, suc-add, zero-add, add-zero, lt-of-lt-of-le}
@@ -15,7 +15,7 @@ use Rattle.refusals.specs.Tests.{countOfKind, rank}
 use Rattle.plan.specs.Layout.{elements, memberBytes, members, memberCount}
 use Rattle.plan.specs.File.{memberRefusal, membersRefusal, setOf}
 use Rattle.refusals.proofs.TestLaws.{short-none, short-pass, member-none, member-pass}
-use Rattle.layout.proofs.LayoutSets.{Rising, moved, rising-weaken, elements-rising, moved-elements}
+use Rattle.layout.proofs.LayoutSets.{Rising, moved, rising-weaken, elements-rising, moved-elements, elements-moved, moved-lt}
 
 -- what an accepted member says
 pub record Accepted (nodes links least count : ℕ) (b : List ℕ) : Type 0 where
@@ -241,3 +241,28 @@ module _ (nodes links : ℕ) (few : nodes ≤ 64) where
     where
       nothing : number < 0 → ⊥
       nothing h = omega arith
+
+-- what accepted members stand for: sets below the counts, of which they are the members
+pub record ReadMembers (nodes links count : ℕ) (b : List ℕ) : Type 0 where
+  pub long : 2 * count ≤ length b
+  pub within : setOf 0 count b < 2 ^ nodes
+  pub inside : setOf 1 count b < 2 ^ links
+  pub counted : (q : ℕ) → memberCount (record { probability = q; nodes = setOf 0 count b; links = setOf 1 count b }) ≡ count
+  pub bytes : (q : ℕ) → members (record { probability = q; nodes = setOf 0 count b; links = setOf 1 count b }) ≡ take (2 * count) b
+
+pub sets-read : (nodes links : ℕ) → nodes ≤ 64 → links ≤ 128 → (count : ℕ) (b : List ℕ) → membersRefusal nodes links 0 count b ≡ 0
+    → ReadMembers nodes links count b
+unfolding members memberCount
+sets-read nodes links few some count b e =
+    let m = members-read nodes links few 0 count b e in
+    let ns-same : elements 64 0 (setOf 0 count b) ≡ m .ns =
+    rw (m .node-set) (elements-moved 64 0 nodes (m .ns) (omega arith) (m .nodes-rise)) in
+    let ls-same : elements 128 0 (setOf 1 count b) ≡ m .ls =
+    rw (m .link-set) (elements-moved 128 0 links (m .ls) (omega arith) (m .links-rise)) in
+    record {
+      long = m .long;
+      within = rw (m .node-set) (omega (arith, moved-lt 0 nodes (m .ns) (omega arith) (m .nodes-rise)));
+      inside = rw (m .link-set) (omega (arith, moved-lt 0 links (m .ls) (omega arith) (m .links-rise)));
+      counted = λ q. rw (ns-same, ls-same) (sym (m .counted));
+      bytes = λ q. rw (ns-same, ls-same) (sym (m .bytes));
+    }

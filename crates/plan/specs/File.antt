@@ -38,7 +38,7 @@ unfoldable pub headerRefusal : List ℕ → ℕ
 headerRefusal b =
     first
     (shortTest (length b) 20
-    ∷ markTest (getD b 0 0) (getD b 1 0) (getD b 2 0)
+    ∷ markTest 82 83 71 (getD b 0 0) (getD b 1 0) (getD b 2 0)
     ∷ versionTest (versionIn b)
     ∷ countsTest (nodesIn b) (linksIn b) (eventsIn b)
     ∷ thresholdTest (thresholdIn b)

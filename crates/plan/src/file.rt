@@ -21,7 +21,7 @@ pub fn header_refusal(s: &[u8]) -> u32
     if short != 0 {
         return short;
     }
-    let mark = refusals::mark_test(byte_at(s, 0), byte_at(s, 1), byte_at(s, 2));
+    let mark = refusals::mark_test(82, 83, 71, byte_at(s, 0), byte_at(s, 1), byte_at(s, 2));
     if mark != 0 {
         return mark;
     }

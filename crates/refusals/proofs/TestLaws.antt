@@ -28,11 +28,11 @@ short-none left need e = ltb-false left need (refuse-none _ 0 e)
 pub short-pass : (left need : ℕ) → need ≤ left → shortTest left need ≡ 0
 short-pass left need h = rw (le-ltb left need h)
 
-pub mark-none : (a b c : ℕ) → markTest a b c ≡ 0 → (a ≡ 82) × (b ≡ 83) × (c ≡ 71)
-mark-none a b c e =
-    let t = and-both (eqb a 82 && eqb b 83) (eqb c 71) (not-none _ (refuse-none _ 1 e)) in
-    let u = and-both (eqb a 82) (eqb b 83) (t .0) in
-    (eqb-true a 82 (u .0), eqb-true b 83 (u .1), eqb-true c 71 (t .1))
+pub mark-none : (x y z a b c : ℕ) → markTest x y z a b c ≡ 0 → (a ≡ x) × (b ≡ y) × (c ≡ z)
+mark-none x y z a b c e =
+    let t = and-both (eqb a x && eqb b y) (eqb c z) (not-none _ (refuse-none _ 1 e)) in
+    let u = and-both (eqb a x) (eqb b y) (t .0) in
+    (eqb-true a x (u .0), eqb-true b y (u .1), eqb-true c z (t .1))
 
 pub version-none : (v : ℕ) → versionTest v ≡ 0 → v ≡ 1
 version-none v e = eqb-true v 1 (not-none _ (refuse-none _ 2 e))
@@ -55,6 +55,9 @@ counts-none nodes links events e =
       links-fit = ltb-false 128 links (b .1);
       events-fit = ltb-false 128 events (c .1);
     }
+
+pub counts-pass : (nodes links events : ℕ) → 1 ≤ nodes → nodes ≤ 64 → links ≤ 128 → events ≤ 128 → countsTest nodes links events ≡ 0
+counts-pass nodes links events a b c d = rw (le-ltb nodes 1 a, le-ltb 64 nodes b, le-ltb 128 links c, le-ltb 128 events d)
 
 pub member-none : (nodes links least kind number : ℕ) → memberTest nodes links least kind number ≡ 0
     → (number < countOfKind nodes links kind) × (least ≤ rank kind number)
@@ -79,3 +82,6 @@ left-none left e = let h : left ≤ 0 = ltb-false 0 left (refuse-none _ 10 e) in
 
 pub room-none : (room need : ℕ) → roomTest room need ≡ 0 → need ≤ room
 room-none room need e = ltb-false room need (refuse-none _ 11 e)
+
+pub room-pass : (room need : ℕ) → need ≤ room → roomTest room need ≡ 0
+room-pass room need h = rw (le-ltb room need h)

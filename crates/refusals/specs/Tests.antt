@@ -12,9 +12,9 @@ use Rattle.mass.specs.Split.{whole}
 abbrev pub shortTest : ℕ → ℕ → ℕ
 shortTest left need = refuse (ltb left need) 1
 
--- 2: the mark is not `RSG`
-abbrev pub markTest : ℕ → ℕ → ℕ → ℕ
-markTest a b c = refuse (not (eqb a 82 && eqb b 83 && eqb c 71)) 2
+-- 2: the mark a b c is not x y z, the letters of a file of this kind
+abbrev pub markTest : ℕ → ℕ → ℕ → ℕ → ℕ → ℕ → ℕ
+markTest x y z a b c = refuse (not (eqb a x && eqb b y && eqb c z)) 2
 
 -- 3: the version is not 1
 abbrev pub versionTest : ℕ → ℕ

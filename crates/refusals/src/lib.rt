@@ -17,17 +17,17 @@ pub fn short_test(left: usize, need: usize) -> u32
     0
 }
 
-// 2: the mark is not `RSG`.
-pub fn mark_test(a: u64, b: u64, c: u64) -> u32
-    ensures { λ r. ⌜ r ≡ markTest a b c ⌝ }
+// 2: the mark a b c is not x y z.
+pub fn mark_test(x: u64, y: u64, z: u64, a: u64, b: u64, c: u64) -> u32
+    ensures { λ r. ⌜ r ≡ markTest x y z a b c ⌝ }
 {
-    if a != 82 {
+    if a != x {
         return 2;
     }
-    if b != 83 {
+    if b != y {
         return 2;
     }
-    if c != 71 {
+    if c != z {
         return 2;
     }
     0

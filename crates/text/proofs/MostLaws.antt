@@ -49,8 +49,8 @@ refuse-most false n h = omega arith
 short-most : (left need : ℕ) → shortTest left need ≤ 11
 short-most left need = refuse-most (ltb left need) 1 (omega arith)
 
-mark-most : (a b c : ℕ) → markTest a b c ≤ 11
-mark-most a b c = refuse-most (not (eqb a 82 && eqb b 83 && eqb c 71)) 2 (omega arith)
+mark-most : (x y z a b c : ℕ) → markTest x y z a b c ≤ 11
+mark-most x y z a b c = refuse-most (not (eqb a x && eqb b y && eqb c z)) 2 (omega arith)
 
 version-most : (version : ℕ) → versionTest version ≤ 11
 version-most version = refuse-most (not (eqb version 1)) 3 (omega arith)
@@ -114,7 +114,7 @@ header-most : (b : List ℕ) → headerRefusal b ≤ 11
 unfolding headerRefusal
 header-most b =
     first-most _ _ (short-most (length b) 20)
-    (first-most _ _ (mark-most (getD b 0 0) (getD b 1 0) (getD b 2 0))
+    (first-most _ _ (mark-most 82 83 71 (getD b 0 0) (getD b 1 0) (getD b 2 0))
     (first-most _ _ (version-most (versionIn b))
     (first-most _ _ (counts-most (nodesIn b) (linksIn b) (eventsIn b))
     (first-most _ _ (threshold-most (thresholdIn b)) (first-most _ _ (limit-most (limitIn b)) none-most)))))

@@ -35,7 +35,7 @@ returns-2 : tie.Need-returns-2
 unfolding headerRefusal
 returns-2 c =
     skip _ (c .before .before .before .before .before .before .short-test .ensures) (c .before .before .before .before .before .if1 .left)
-    (stop _ (on3 markTest (c .before .mark-test .ensures) (c .before .before .before .before .byte-at .ensures .0) (c .before .before .before .byte-at2 .ensures .0) (c .before .before .byte-at3 .ensures .0)) (c .if2 .taken))
+    (stop _ (on3 (markTest 82 83 71) (c .before .mark-test .ensures) (c .before .before .before .before .byte-at .ensures .0) (c .before .before .before .byte-at2 .ensures .0) (c .before .before .byte-at3 .ensures .0)) (c .if2 .taken))
 
 number-at-requires : tie.Need-number-at-requires
 number-at-requires c κs = omega (arith, there (c .before .before .before .before .before))
@@ -47,7 +47,7 @@ returns-3 : tie.Need-returns-3
 unfolding headerRefusal
 returns-3 c =
     skip _ (c .before .before .before .before .before .before .before .before .before .short-test .ensures) (c .before .before .before .before .before .before .before .before .if1 .left)
-    (skip _ (on3 markTest (c .before .before .before .before .mark-test .ensures) (c .before .before .before .before .before .before .before .byte-at .ensures .0) (c .before .before .before .before .before .before .byte-at2 .ensures .0) (c .before .before .before .before .before .byte-at3 .ensures .0)) (c .before .before .before .if2 .left)
+    (skip _ (on3 (markTest 82 83 71) (c .before .before .before .before .mark-test .ensures) (c .before .before .before .before .before .before .before .byte-at .ensures .0) (c .before .before .before .before .before .before .byte-at2 .ensures .0) (c .before .before .before .before .before .byte-at3 .ensures .0)) (c .before .before .before .if2 .left)
     (stop _ (on versionTest (c .before .version-test .ensures) (c .before .before .number-at .ensures)) (c .if3 .taken)))
 
 byte-at-requires-4 : tie.Need-byte-at-requires-4
@@ -66,7 +66,7 @@ returns-4 : tie.Need-returns-4
 unfolding headerRefusal
 returns-4 c =
     skip _ (c .before .before .before .before .before .before .before .before .before .before .before .before .before .before .short-test .ensures) (c .before .before .before .before .before .before .before .before .before .before .before .before .before .if1 .left)
-    (skip _ (on3 markTest (c .before .before .before .before .before .before .before .before .before .mark-test .ensures) (c .before .before .before .before .before .before .before .before .before .before .before .before .byte-at .ensures .0) (c .before .before .before .before .before .before .before .before .before .before .before .byte-at2 .ensures .0) (c .before .before .before .before .before .before .before .before .before .before .byte-at3 .ensures .0)) (c .before .before .before .before .before .before .before .before .if2 .left)
+    (skip _ (on3 (markTest 82 83 71) (c .before .before .before .before .before .before .before .before .before .mark-test .ensures) (c .before .before .before .before .before .before .before .before .before .before .before .before .byte-at .ensures .0) (c .before .before .before .before .before .before .before .before .before .before .before .byte-at2 .ensures .0) (c .before .before .before .before .before .before .before .before .before .before .byte-at3 .ensures .0)) (c .before .before .before .before .before .before .before .before .if2 .left)
     (skip _ (on versionTest (c .before .before .before .before .before .before .version-test .ensures) (c .before .before .before .before .before .before .before .number-at .ensures)) (c .before .before .before .before .before .if3 .left)
     (stop _ (on3 countsTest (c .before .counts-test .ensures) (c .before .before .before .before .byte-at4 .ensures .0) (c .before .before .before .byte-at5 .ensures .0) (c .before .before .byte-at6 .ensures .0)) (c .if4 .taken))))
 
@@ -80,7 +80,7 @@ returns-5 : tie.Need-returns-5
 unfolding headerRefusal
 returns-5 c =
     skip _ (c .before .before .before .before .before .before .before .before .before .before .before .before .before .before .before .before .before .short-test .ensures) (c .before .before .before .before .before .before .before .before .before .before .before .before .before .before .before .before .if1 .left)
-    (skip _ (on3 markTest (c .before .before .before .before .before .before .before .before .before .before .before .before .mark-test .ensures) (c .before .before .before .before .before .before .before .before .before .before .before .before .before .before .before .byte-at .ensures .0) (c .before .before .before .before .before .before .before .before .before .before .before .before .before .before .byte-at2 .ensures .0) (c .before .before .before .before .before .before .before .before .before .before .before .before .before .byte-at3 .ensures .0)) (c .before .before .before .before .before .before .before .before .before .before .before .if2 .left)
+    (skip _ (on3 (markTest 82 83 71) (c .before .before .before .before .before .before .before .before .before .before .before .before .mark-test .ensures) (c .before .before .before .before .before .before .before .before .before .before .before .before .before .before .before .byte-at .ensures .0) (c .before .before .before .before .before .before .before .before .before .before .before .before .before .before .byte-at2 .ensures .0) (c .before .before .before .before .before .before .before .before .before .before .before .before .before .byte-at3 .ensures .0)) (c .before .before .before .before .before .before .before .before .before .before .before .if2 .left)
     (skip _ (on versionTest (c .before .before .before .before .before .before .before .before .before .version-test .ensures) (c .before .before .before .before .before .before .before .before .before .before .number-at .ensures)) (c .before .before .before .before .before .before .before .before .if3 .left)
     (skip _ (on3 countsTest (c .before .before .before .before .counts-test .ensures) (c .before .before .before .before .before .before .before .byte-at4 .ensures .0) (c .before .before .before .before .before .before .byte-at5 .ensures .0) (c .before .before .before .before .before .byte-at6 .ensures .0)) (c .before .before .before .if4 .left)
     (stop _ (on thresholdTest (c .before .threshold-test .ensures) (c .before .before .number-at2 .ensures)) (c .if5 .taken)))))
@@ -95,7 +95,7 @@ returns-6 : tie.Need-returns-6
 unfolding headerRefusal
 returns-6 c =
     skip _ (c .before .before .before .before .before .before .before .before .before .before .before .before .before .before .before .before .before .before .before .short-test .ensures) (c .before .before .before .before .before .before .before .before .before .before .before .before .before .before .before .before .before .before .if1 .left)
-    (skip _ (on3 markTest (c .before .before .before .before .before .before .before .before .before .before .before .before .before .before .mark-test .ensures) (c .before .before .before .before .before .before .before .before .before .before .before .before .before .before .before .before .before .byte-at .ensures .0) (c .before .before .before .before .before .before .before .before .before .before .before .before .before .before .before .before .byte-at2 .ensures .0) (c .before .before .before .before .before .before .before .before .before .before .before .before .before .before .before .byte-at3 .ensures .0)) (c .before .before .before .before .before .before .before .before .before .before .before .before .before .if2 .left)
+    (skip _ (on3 (markTest 82 83 71) (c .before .before .before .before .before .before .before .before .before .before .before .before .before .before .mark-test .ensures) (c .before .before .before .before .before .before .before .before .before .before .before .before .before .before .before .before .before .byte-at .ensures .0) (c .before .before .before .before .before .before .before .before .before .before .before .before .before .before .before .before .byte-at2 .ensures .0) (c .before .before .before .before .before .before .before .before .before .before .before .before .before .before .before .byte-at3 .ensures .0)) (c .before .before .before .before .before .before .before .before .before .before .before .before .before .if2 .left)
     (skip _ (on versionTest (c .before .before .before .before .before .before .before .before .before .before .before .version-test .ensures) (c .before .before .before .before .before .before .before .before .before .before .before .before .number-at .ensures)) (c .before .before .before .before .before .before .before .before .before .before .if3 .left)
     (skip _ (on3 countsTest (c .before .before .before .before .before .before .counts-test .ensures) (c .before .before .before .before .before .before .before .before .before .byte-at4 .ensures .0) (c .before .before .before .before .before .before .before .before .byte-at5 .ensures .0) (c .before .before .before .before .before .before .before .byte-at6 .ensures .0)) (c .before .before .before .before .before .if4 .left)
     (skip _ (on thresholdTest (c .before .before .before .threshold-test .ensures) (c .before .before .before .before .number-at2 .ensures)) (c .before .before .if5 .left)
