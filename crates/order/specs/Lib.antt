@@ -1,0 +1,3 @@
+-- What contracts and theorems cite of the crate `order`.
+pub mod Order
+pub mod Falling
