@@ -82,7 +82,7 @@ take-sets l news h =
     rw (sets-eq news l 0 (omega arith)) (take-at news (drop (0 + length news) l) (length news) refl)
 
 -- `count` elements are copied out of an array that has room for them
-copied : (number count : ℕ) (news room list : List ℕ)
+pub copied : (number count : ℕ) (news room list : List ℕ)
     → (number ≡ 0 → count ≡ length news) → ((number ≡ 0 → ⊥) → count ≡ 0) → count ≤ length room
     → sets list 0 (take count (filled number news room)) ≡ filled number news list
 copied zero count news room list f g l =

@@ -88,7 +88,7 @@ pub fn members_of(s: &[u8], start: usize, count: u64, nodes: u64, links: u64) ->
 }
 
 // Lays down the four words of an event.
-fn put_event(words: &mut [u64; 512], at: usize, q: u64, m: Members)
+pub fn put_event(words: &mut [u64; 512], at: usize, q: u64, m: Members)
     requires { ⌜ at + 4 ≤ 512 ⌝ }
     ensures { λ r. ⌜ now (words .exit) ≡ sets (now (words .entry)) at (q ∷ m .nodes ∷ m .low ∷ m .high ∷ []) ⌝ }
 {

@@ -18,6 +18,8 @@ use Rattle.readings.specs.declared.Timed.{Timed}
 use Rattle.readings.specs.declared.Timed.the-variants as timed
 use Rattle.topology_list.specs.declared.Listed.{Listed}
 use Rattle.topology_list.specs.declared.Listed.the-variants as listed
+use Rattle.sheets.specs.SheetCalls.{countsIn}
+use Rattle.sheets.specs.declared.SheetReading.{SheetReading}
 use Rattle.answers.specs.Laid.{laid}
 
 -- ---- a topology list: how many entries it has
@@ -50,6 +52,11 @@ timedNumber (timed.Given seconds) = 0
 
 abbrev pub secondsValues : Timed → List ℕ
 secondsValues answer = secondsIn answer .lower ∷ secondsIn answer .upper ∷ []
+
+-- ---- a sheet: its counts of nodes, links and lines
+
+abbrev pub countsValues : SheetReading → List ℕ
+countsValues answer = countsIn answer .nodes ∷ countsIn answer .links ∷ countsIn answer .lines ∷ []
 
 -- ---- a witness: the two words of a set of failing events
 

@@ -8,6 +8,7 @@ use readings::Figured;
 use readings::Shares;
 use readings::Timed;
 use readings::Witnessed;
+use sheets::SheetReading;
 use topology_list::Listed;
 ghost use mathlib.Core.Bool.{not};
 ghost use mathlib.Core.List.{[], _∷_};
@@ -15,9 +16,10 @@ ghost use mathlib.Core.Path.{_≡_};
 ghost use lib.Dec.{T};
 ghost use lib.Ieee.{binary64, isNan, toBits};
 ghost use Rattle.readings.specs.Figure.{floatsIn, Numbers};
+ghost use Rattle.sheets.specs.SheetCalls.{sheetNumber};
 ghost use Rattle.answers.specs.Laid.{laid};
 ghost use Rattle.further_answers.specs.FurtherAnswers.{listedNumber, entriesValues, figuredNumber, figureValues};
-ghost use Rattle.further_answers.specs.FurtherAnswers.{timedNumber, secondsValues, witnessedNumber, failingValues};
+ghost use Rattle.further_answers.specs.FurtherAnswers.{timedNumber, secondsValues, witnessedNumber, failingValues, countsValues};
 
 // How many entries the topology list has.
 pub fn give_entries(answer: Listed, result: &mut [u64]) -> u32
@@ -101,4 +103,14 @@ pub fn give_failing(answer: Witnessed, result: &mut [u64]) -> u32
             0
         }
     }
+}
+
+// The counts of a sheet: nodes, links and lines.
+pub fn give_counts(answer: SheetReading, counts: &mut [u64]) -> u32
+    ensures number { λ r. ⌜ r ≡ sheetNumber answer ⌝ }
+    ensures counts { λ r. ⌜ now (counts .exit) ≡ laid (countsValues answer) (now (counts .entry)) ⌝ }
+{
+    let c = sheets::counts_in(answer);
+    give_three(counts, c.nodes, c.links, c.lines);
+    sheets::number_in(answer)
 }

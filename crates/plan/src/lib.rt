@@ -4,11 +4,13 @@ mod bytes;
 mod file;
 
 pub use bytes::byte_at;
+pub use bytes::left_of;
 pub use bytes::number_at;
 pub use file::check;
 pub use file::event_size;
 pub use file::header_of;
 pub use file::member_at;
+pub use file::members_refusal;
 pub use file::rank_at;
 
 // The numbers of a plan: the counts of nodes, links and events, the threshold, and the greatest number of ends of the walk (cap).

@@ -14,6 +14,8 @@ use Rattle.readings.specs.Downtime.{downtimeAnswer}
 use Rattle.readings.specs.declared.Shares.{Shares}
 use Rattle.readings.specs.declared.Seconds.{Seconds}
 use Rattle.topology_list.specs.Calls.{listedAnswer}
+use Rattle.sheets.specs.SheetCalls.{readSheetAnswer, sheetNumber}
+use Rattle.sheets.specs.declared.Counts.{Counts}
 use Rattle.answers.specs.Answers.{readingNumber, writtenNumber, ranNumber, pairedNumber}
 use Rattle.further_answers.specs.FurtherAnswers.{listedNumber, figuredNumber, timedNumber, witnessedNumber}
 
@@ -40,6 +42,10 @@ list-back (suc n) count = refl
 pub downtime-back : (n : ℕ) (s : Seconds) → timedNumber (downtimeAnswer n s) ≡ n
 downtime-back zero s = refl
 downtime-back (suc n) s = refl
+
+pub sheet-back : (n : ℕ) (c : Counts) → sheetNumber (readSheetAnswer n c) ≡ n
+sheet-back zero c = refl
+sheet-back (suc n) c = refl
 
 pub witness-back : (n : ℕ) (set : Failing) → witnessedNumber (witnessAnswer n set) ≡ n
 witness-back zero set = refl

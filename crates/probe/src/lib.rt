@@ -3,6 +3,7 @@
 // room.
 // Assumes nothing.
 mod by_records;
+mod equipment;
 mod further;
 mod list;
 

@@ -33,7 +33,7 @@ length-event-words (e ∷ es) = omega (arith, length-event-words es)
 
 -- ---- records laid down from the words that were read
 
-records-filled : (number count : ℕ) (es : List plan.Event) (room : List ℕ) (list : List Event)
+pub records-filled : (number count : ℕ) (es : List plan.Event) (room : List ℕ) (list : List Event)
     → (number ≡ 0 → (count ≡ length es) × (4 * length es ≤ length room)) → ((number ≡ 0 → ⊥) → count ≡ 0)
     → sets list 0 (recordsOf count (filled number (eventWords es) room)) ≡ filledRecords number (eventRecords es) list
 unfolding recordsOf

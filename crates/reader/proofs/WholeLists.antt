@@ -60,7 +60,7 @@ words-sets es news h =
     ∙ ap (λ (ws : List ℕ). wordsOf news ++ ws) (sym (drop-words (0 + length news) es) ∙ ap (λ (j : ℕ). drop j (wordsOf es)) k)
     ∙ sym (sets-eq (wordsOf news) (wordsOf es) 0 (omega (arith, n, m)))
 
-length-records-of : (es : List _) → length (eventRecords es) ≡ length es
+pub length-records-of : (es : List _) → length (eventRecords es) ≡ length es
 unfolding eventRecords
 length-records-of [] = refl
 length-records-of (e ∷ es) = ap suc (length-records-of es)

@@ -1,0 +1,2 @@
+-- Laws that the proofs of the crate `insertion` share.
+pub mod InsertionLaws

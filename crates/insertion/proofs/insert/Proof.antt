@@ -1,0 +1,57 @@
+-- `insertion::insert` meets its contract: room is made at the place, and the event is laid down there. Assumes nothing.
+use mathlib.Core.Path.{_∙_, ap}
+use mathlib.Core.List.{List, [], _∷_}
+use Prim.Native.Nat.{ℕ, _-_, _*_}
+use lib.ListN.{take, drop}
+use lib.Seq.{sets}
+use Rattle.insertion.proofs.InsertionLaws.{room-filled}
+use borrow.Author.Needs.{needs}
+use Rattle.insertion.proofs.insert.Statement.{statement}
+use Rattle.insertion.proofs.insert.Tie as tie
+use Rattle.insertion.proofs.insert.Reads as reads
+use Rattle.insertion.proofs.insert.Lts as lts
+use Rattle.files.proofs.put_event.Reads as put-event-reads
+use Rattle.insertion.proofs.make_room.Reads as make-room-reads
+use Rattle.insertion.proofs.place_of.Reads as place-of-reads
+
+place-of-requires : tie.Need-place-of-requires
+place-of-requires c κs = search needs
+
+mul-make-room : tie.Need-mul-make-room
+mul-make-room c = search needs
+
+mul-make-room-2 : tie.Need-mul-make-room-2
+mul-make-room-2 c = search needs
+
+make-room-requires : tie.Need-make-room-requires
+make-room-requires c κs = search needs
+
+mul-put-event : tie.Need-mul-put-event
+mul-put-event c = search needs
+
+put-event-requires : tie.Need-put-event-requires
+put-event-requires c κs = search needs
+
+returns : tie.Need-returns
+returns c =
+    let a = c .before .before .before .before .before .before .before .args in
+    let w = a .words .now in
+    let p = c .before .before .before .before .place-of in (
+      search needs,
+      c .put-event .ensures
+          ∙ ap (λ (l : List ℕ). sets l (4 * p .result) (a .q ∷ a .m .nodes ∷ a .m .low ∷ a .m .high ∷ [])) (c .before .before .make-room .ensures)
+          ∙ room-filled w (p .result) (a .count) (a .q) (a .m .nodes) (a .m .low) (a .m .high)
+          ∙ ap (λ (k : ℕ). sets w (4 * k) (a .q ∷ a .m .nodes ∷ a .m .low ∷ a .m .high ∷ take (4 * (a .count - k)) (drop (4 * k) w))) (p .ensures .0),
+    )
+
+pub insert-spec : {M : Type 1} → statement M
+insert-spec =
+    tie.close
+    (tie.spec
+    place-of-requires
+    mul-make-room
+    mul-make-room-2
+    make-room-requires
+    mul-put-event
+    put-event-requires
+    returns)

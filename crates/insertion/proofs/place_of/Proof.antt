@@ -1,0 +1,75 @@
+-- `insertion::place_of` meets its contract. The loop's invariant: the place is i and that among the events from i on. The measure is how many
+-- events are left. Assumes nothing.
+use mathlib.Core.Path.{_≡_, _∙_}
+use Prim.Native.Nat.{_+_, _-_, _*_, _≤_}
+use native.Mathlib.Omega.{arith}
+use borrow.Author.Needs.{needs}
+use lib.ListN.{drop}
+use Rattle.plan.specs.Lists.{eventsOf}
+use Rattle.order.specs.Order.{placeOf}
+use Rattle.insertion.proofs.InsertionLaws.{probability, place-start, place-here, place-later, place-end}
+use Rattle.insertion.proofs.place_of.Statement.{statement}
+use Rattle.insertion.proofs.place_of.Tie as tie
+
+abbrev Inv-loop : tie.InvT-loop
+Inv-loop words count q i₀ i =
+    (i ≤ count) × (i + placeOf probability q (eventsOf (count - i) (drop (4 * i) words)) ≡ placeOf probability q (eventsOf count words))
+
+abbrev μ-loop : tie.MeasureT-loop
+μ-loop words count q i₀ i = count - i
+
+loop-holds : tie.Need-loop-holds Inv-loop μ-loop
+loop-holds c = (omega arith, place-start _ _ _)
+
+mul-if1 : tie.Need-mul-if1 Inv-loop μ-loop
+mul-if1 c = search needs
+
+mul-if1-2 : tie.Need-mul-if1-2 Inv-loop μ-loop
+mul-if1-2 c = search needs
+
+shared-slice-read-if1 : tie.Need-shared-slice-read-if1 Inv-loop μ-loop
+shared-slice-read-if1 c = search needs
+
+returns : tie.Need-returns Inv-loop μ-loop
+returns c =
+    let l = c .before .before .before in
+    let a = l .before .args in (
+      place-here (a .words .now) (a .q) (a .count) (l .loop .i) (c .before .before .loop-test .taken) (c .if1 .taken) ∙ l .loop .inv .1,
+      l .loop .inv .0,
+    )
+
+add-i : tie.Need-add-i Inv-loop μ-loop
+add-i c = search needs
+
+loop-less : tie.Need-loop-less Inv-loop μ-loop
+loop-less c = omega arith
+
+loop-again : tie.Need-loop-again Inv-loop μ-loop
+loop-again c =
+    let l = c .before .before .before in
+    let a = l .before .args in (
+      omega (arith, c .before .before .loop-test .taken),
+      place-later (a .words .now) (a .q) (a .count) (l .loop .i) (c .before .before .loop-test .taken) (c .if1 .left) ∙ l .loop .inv .1,
+    )
+
+returns-2 : tie.Need-returns-2 Inv-loop μ-loop
+returns-2 c =
+    let l = c .before in
+    let a = l .before .args in
+    (place-end (a .words .now) (a .q) (a .count) (l .loop .i) (c .loop-test .left) ∙ l .loop .inv .1, l .loop .inv .0)
+
+pub place-of-spec : {M : Type 1} → statement M
+place-of-spec =
+    tie.close
+    (tie.spec
+    Inv-loop
+    μ-loop
+    loop-holds
+    mul-if1
+    mul-if1-2
+    shared-slice-read-if1
+    returns
+    add-i
+    loop-less
+    loop-again
+    returns-2)

@@ -1,0 +1,67 @@
+-- `sheet_records::words::hand_over` meets its contract: where there is room, the words of the answer's events are copied. Assumes nothing.
+use mathlib.Core.Path.{_≡_, sym, _∙_, ap}
+use Prim.Native.Nat.{ℕ, _*_, _/_}
+use native.Mathlib.Omega.{arith}
+use borrow.Author.Needs.{needs}
+use lib.ListN.{length, take}
+use lib.Seq.{sets}
+use Rattle.files.proofs.ReaderLawsAnswer.{filled-none, filled-all}
+use Rattle.sheets.proofs.ReadLaws.{reading-stop, reading-go}
+use Rattle.sheet_records.specs.SheetRecords.{handedNumber}
+use Rattle.sheet_records.proofs.SheetRecordsLaws.{handed-room}
+use Rattle.sheet_records.proofs.words.hand_over.Statement.{statement}
+use Rattle.sheet_records.proofs.words.hand_over.Tie as tie
+
+handed-number-requires : tie.Need-handed-number-requires
+handed-number-requires c κs = tt
+
+returns : tie.Need-returns
+returns c =
+    let e = c .before .handed-number .ensures in
+    (reading-stop _ e (c .if1 .taken), filled-none _ _ _ (λ z. c .if1 .taken (e ∙ z)))
+
+-- the number is 0, so there is room
+none : (c : tie.Else1)
+    → handedNumber (c .before .before .before .args .answer) (length (c .before .before .before .args .events .now) / 4) ≡ 0
+none c = sym (c .before .handed-number .ensures) ∙ c .if1 .left
+
+lines-in-requires : tie.Need-lines-in-requires
+lines-in-requires c κs = tt
+
+mul-copy-words : tie.Need-mul-copy-words
+mul-copy-words c = search needs
+
+copy-words-requires : tie.Need-copy-words-requires
+copy-words-requires c κs =
+    let a = c .before .before .before .before .before .before .args in
+    let l = handed-room (a .answer) (length (a .events .now) / 4) (none (c .before .before .before)) in
+    (search needs, omega (arith, l, c .lines-in .ensures))
+
+counts-in-requires : tie.Need-counts-in-requires
+counts-in-requires c κs = tt
+
+same-length : tie.Need-same-length
+same-length c = search needs
+
+returns-2 : tie.Need-returns-2
+returns-2 c =
+    let n = none (c .before .before .before .before .before .before .before) in
+    let a = c .before .before .before .before .before .before .before .before .before .before .args in (
+      reading-go _ n (c .counts-in .ensures),
+      c .before .before .before .copy-words .ensures
+          ∙ ap (λ (k : ℕ). sets (a .events .now) 0 (take (4 * k) (a .words .now))) (c .before .before .before .before .lines-in .ensures)
+          ∙ filled-all _ _ (a .events .now) n,
+    )
+
+pub hand-over-spec : {M : Type 1} → statement M
+hand-over-spec =
+    tie.close
+    (tie.spec
+    handed-number-requires
+    returns
+    lines-in-requires
+    mul-copy-words
+    copy-words-requires
+    counts-in-requires
+    same-length
+    returns-2)

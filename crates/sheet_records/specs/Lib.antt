@@ -1,0 +1,2 @@
+-- What the contracts of the crate `sheet_records` cite, beside the definitions of the crates `sheets` and `reader`.
+pub mod SheetRecords

@@ -1,0 +1,30 @@
+-- `sheets::file::capped` meets its contract: the quotient says whether the product is above 10^9. Assumes nothing.
+use mathlib.Core.Path.{sym}
+use native.Mathlib.Nat.{min-eq-left}
+use native.Mathlib.Omega.{arith}
+use borrow.Author.Needs.{needs}
+use Rattle.sheets.proofs.CheckLaws.{none-capped, above-quotient, below-quotient}
+use Rattle.sheets.proofs.file.capped.Statement.{statement}
+use Rattle.sheets.proofs.file.capped.Tie as tie
+
+returns : tie.Need-returns
+returns c = none-capped _ _ (c .if1 .taken)
+
+div-if2 : tie.Need-div-if2
+div-if2 c = search needs
+
+add-result : tie.Need-add-result
+add-result c = search needs
+
+returns-2 : tie.Need-returns-2
+returns-2 c = above-quotient _ _ (c .before .if1 .left) (c .if2 .taken)
+
+mul-result : tie.Need-mul-result
+mul-result c = let h = below-quotient _ _ (c .before .if1 .left) (c .if2 .left) in omega arith
+
+returns-3 : tie.Need-returns-3
+returns-3 c =
+    let h = below-quotient _ _ (c .before .if1 .left) (c .if2 .left) in sym (min-eq-left (omega arith))
+
+pub capped-spec : {M : Type 1} → statement M
+capped-spec = tie.close (tie.spec returns div-if2 add-result returns-2 mul-result returns-3)

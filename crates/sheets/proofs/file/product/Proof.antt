@@ -1,0 +1,23 @@
+-- `sheets::file::product` meets its contract: cut after two factors, and again after the third. Assumes nothing.
+use mathlib.Core.Path.{_∙_, ap}
+use Prim.Native.Nat.{ℕ, _+_, _*_, min}
+use Rattle.mass.specs.Split.{certain}
+use Rattle.sheets.proofs.CheckLaws.{capped-again}
+use Rattle.sheets.proofs.file.product.Statement.{statement}
+use Rattle.sheets.proofs.file.product.Tie as tie
+
+capped-requires : tie.Need-capped-requires
+capped-requires c κs = tt
+
+capped-requires-2 : tie.Need-capped-requires-2
+capped-requires-2 c κs = tt
+
+returns : tie.Need-returns
+returns c =
+    let a = c .before .before .args in
+    c .capped2 .ensures
+    ∙ ap (λ (y : ℕ). min (y * a .extent) (certain + 1)) (c .before .capped .ensures)
+    ∙ capped-again (a .fit * a .hours) (a .extent)
+
+pub product-spec : {M : Type 1} → statement M
+product-spec = tie.close (tie.spec capped-requires capped-requires-2 returns)
