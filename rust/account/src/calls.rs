@@ -4,6 +4,7 @@ use crate::bounds::{self, Bounds, Outcome};
 use crate::file;
 use crate::plan::{Header, Lent};
 use crate::refusal::{demand, number, Refusal};
+use crate::sheet;
 use crate::EVENT_WORDS;
 
 /// The check of a file: the refusal's number, or 0.
@@ -23,6 +24,23 @@ pub fn read(bytes: &[u8], links: &mut [u8], events: &mut [u64]) -> Result<Header
     links[..link_bytes.len()].copy_from_slice(&link_bytes);
     events[..event_words.len()].copy_from_slice(&event_words);
     Ok(plan.header())
+}
+
+/// The check of an equipment sheet: the refusal's number, or 0.
+pub fn check_sheet(bytes: &[u8]) -> u32 {
+    number(&sheet::parse(bytes))
+}
+
+/// The reader of an equipment sheet: its refusals, then 12 for a list with room for fewer events than lines. It
+/// returns the counts of nodes, links and lines.
+pub fn read_sheet(bytes: &[u8], events: &mut [u64]) -> Result<[u64; 3], Refusal> {
+    let sheet = sheet::parse(bytes)?;
+    let lines = sheet.lines.len();
+    demand(events.len() / EVENT_WORDS >= lines, Refusal::Short)?;
+    for (words, event) in events.chunks_exact_mut(EVENT_WORDS).zip(sheet.events()) {
+        words.copy_from_slice(&event.words());
+    }
+    Ok([sheet.nodes as u64, sheet.links as u64, lines as u64])
 }
 
 /// The writer: the tests of the lists, then 12 for the output. It returns how many bytes it laid down.

@@ -1,4 +1,4 @@
-//! The contract of the instrument in plain Rust, written from document 01 alone.
+//! The contract of the instrument in plain Rust, written from documents 01 and 02 alone.
 //!
 //! It shares no method with the proved code: products in 128 bits, a recursive walk that keeps every
 //! examined scenario, components by union-find, and exact sums in a wide integer of its own.
@@ -11,6 +11,8 @@ pub mod listing;
 pub mod plan;
 pub mod readings;
 pub mod refusal;
+pub mod sheet;
+mod source;
 pub mod topology;
 pub mod walk;
 pub mod wide;

@@ -1,12 +1,12 @@
-//! The table "Refused" of document 01.
+//! The table "Refused" of document 01, and the numbers that document 02 adds.
 
 /// Why a call is refused; the discriminant is the number that is returned.
 #[derive(Clone, Copy, Debug, PartialEq, Eq, Hash, PartialOrd, Ord)]
 #[repr(u32)]
 pub enum Refusal {
-    /// The bytes end inside header, link, event or member.
+    /// The bytes end inside header, link, event, line of equipment or member.
     Truncated = 1,
-    /// The mark is not `RSG`.
+    /// The mark is not `RSG`, or for an equipment sheet not `EQS`.
     Mark = 2,
     /// The version is not 1.
     Version = 3,
@@ -24,7 +24,7 @@ pub enum Refusal {
     Rise = 9,
     /// A member has a wrong kind or number, or does not rise; a set has a bit at or past the count.
     Member = 10,
-    /// Bytes are left after the last event.
+    /// Bytes are left after the last event or line of equipment.
     Trailing = 11,
     /// A lent list or buffer is too short.
     Short = 12,
@@ -36,10 +36,14 @@ pub enum Refusal {
     ListFull = 15,
     /// A mass above one whole is given to split or downtime.
     Mass = 16,
+    /// FIT × hours × length of a line of equipment is above 10^9.
+    Product = 17,
+    /// A sheet has more than 128 lines.
+    Lines = 18,
 }
 
 impl Refusal {
-    /// The number of document 01.
+    /// The number of document 01 or 02.
     pub fn number(self) -> u32 {
         self as u32
     }
