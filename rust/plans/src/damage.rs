@@ -8,7 +8,7 @@ use crate::rng::Rng;
 use crate::valid::random_plan;
 
 /// Values around the limits of one byte of a file.
-const BYTES: [u8; 11] = [0, 1, 2, 63, 64, 65, 127, 128, 129, 254, 255];
+pub(crate) const BYTES: [u8; 11] = [0, 1, 2, 63, 64, 65, 127, 128, 129, 254, 255];
 
 /// The header's size, and the place of its fields.
 const HEADER: usize = 20;
@@ -39,7 +39,7 @@ pub fn damaged_file(rng: &mut Rng, plan: &Plan) -> Vec<u8> {
 }
 
 /// Puts bytes at a place, as far as the file reaches.
-fn put(bytes: &mut [u8], at: usize, value: &[u8]) {
+pub(crate) fn put(bytes: &mut [u8], at: usize, value: &[u8]) {
     for (byte, &new) in bytes.iter_mut().skip(at).zip(value) {
         *byte = new;
     }
@@ -63,7 +63,7 @@ fn damage_file(rng: &mut Rng, plan: &Plan, bytes: &mut Vec<u8>) {
 }
 
 /// One byte changed, taken out or put in.
-fn damage_bytes(rng: &mut Rng, bytes: &mut Vec<u8>) {
+pub(crate) fn damage_bytes(rng: &mut Rng, bytes: &mut Vec<u8>) {
     if bytes.is_empty() {
         return;
     }

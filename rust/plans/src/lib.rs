@@ -1,9 +1,11 @@
-//! Plans for the tests and the benchmark: random ones, valid and damaged, and the example files.
+//! Plans and equipment sheets for the tests and the benchmark: random ones, valid and damaged, and the example files.
 
 pub mod damage;
 pub mod examples;
 pub mod lists;
 pub mod rng;
+pub mod sheet_damage;
+pub mod sheets;
 pub mod valid;
 
 pub use lists::Lists;

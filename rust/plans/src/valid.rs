@@ -53,12 +53,17 @@ pub fn plan_of_size(rng: &mut Rng, size: Size) -> Plan {
     plan
 }
 
-/// Links between any nodes, between neighbours in a row, or parallel ones between the last two nodes.
+/// Links of a plan; one node has none.
 fn random_links(rng: &mut Rng, nodes: usize, size: Size) -> Vec<(usize, usize)> {
     if nodes == 1 {
         return Vec::new();
     }
     let count = rng.between(size.links.0, size.links.1) as usize;
+    links_between(rng, nodes, count)
+}
+
+/// Links between any of two nodes or more, between neighbours in a row, or parallel ones between the last two nodes.
+pub fn links_between(rng: &mut Rng, nodes: usize, count: usize) -> Vec<(usize, usize)> {
     let kind = rng.below(8);
     let mut link = |i: usize| match kind {
         0 => (nodes - 2, nodes - 1),
@@ -98,7 +103,7 @@ fn first_bits(set: u128, count: usize) -> u128 {
 }
 
 /// The elements of an event: none, one, the last ones, a few, half of them, or all.
-fn random_members(rng: &mut Rng, nodes: usize, links: usize) -> (u64, u128) {
+pub(crate) fn random_members(rng: &mut Rng, nodes: usize, links: usize) -> (u64, u128) {
     let (node_set, link_set) = match rng.below(8) {
         0 => (0, 0),
         1 => (1 << rng.below(nodes), 0),
