@@ -5,6 +5,7 @@ pub mod listing;
 pub mod probe;
 pub mod proved;
 pub mod readings;
+pub mod sheets;
 pub mod tally;
 
 pub use tally::Tally;

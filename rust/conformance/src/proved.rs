@@ -1,11 +1,12 @@
-//! A whole plan by the proved code: its lists from a file, its file, its bounds and the lines of its listing.
+//! A whole plan by the proved code: its lists from a file, its file, its bounds and the lines of its listing; and the
+//! events of an equipment sheet.
 
 use account::bounds::{Bounds, Outcome};
 use account::listing::text;
-use account::{Header, EVENT_WORDS, MOST_EVENTS, MOST_LINKS};
+use account::{Event, Header, EVENT_WORDS, MOST_EVENTS, MOST_LINKS};
 use plans::Lists;
 
-use crate::probe;
+use crate::{probe, sheets};
 
 /// The most pairs of a plan.
 pub const MOST_PAIRS: usize = 2016;
@@ -77,4 +78,29 @@ pub fn listing(bytes: &[u8]) -> String {
         Ok(lists) => plan_listing(&lists),
         Err(refusal) => format!("refused {refusal}\n"),
     }
+}
+
+/// What an equipment sheet gives: its counts of nodes and links, and its events.
+#[derive(Clone, Debug, PartialEq, Eq)]
+pub struct SheetEvents {
+    pub nodes: usize,
+    pub links: usize,
+    pub events: Vec<Event>,
+}
+
+/// The events of an equipment sheet, or the refusal's number.
+pub fn read_sheet(bytes: &[u8]) -> Result<SheetEvents, u32> {
+    let mut words = vec![0; EVENT_WORDS * MOST_EVENTS as usize];
+    let mut counts = [0; 3];
+    let refusal = sheets::read(bytes, &mut words, &mut counts);
+    if refusal != 0 {
+        return Err(refusal);
+    }
+    let [nodes, links, lines] = counts.map(|count| count as usize);
+    let events = words.chunks_exact(EVENT_WORDS).take(lines);
+    Ok(SheetEvents {
+        nodes,
+        links,
+        events: events.map(Event::of_words).collect(),
+    })
 }
