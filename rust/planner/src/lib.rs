@@ -1,18 +1,23 @@
 //! The text form of plans, and a listing for people.
 //!
 //! A convenience outside the proof: nothing here is proved. Plan files are read, written and run by the proved code
-//! (libprobe.a); the text form, the names and the layout of the listing are plain Rust, held by tests.
+//! (libprobe.a), and equipment sheets are read by it; the text form, the names, the bytes of a sheet and the layout of the
+//! listing are plain Rust, held by tests.
 
+mod equipment;
+mod events;
 mod line;
 mod listing;
 mod named;
 mod names;
 mod print;
 mod readings;
+mod refused;
 mod text;
 
 pub use line::Fault;
 pub use listing::listing;
 pub use named::Named;
-pub use print::print;
-pub use text::parse;
+pub use print::{print, print_events};
+pub use refused::{plan_reason, sheet_reason};
+pub use text::{parse, parse_sheet};

@@ -4,8 +4,10 @@ use std::io::Write;
 use std::path::Path;
 use std::process::ExitCode;
 
+use account::sheet::layout;
 use conformance::proved;
-use planner::{listing, parse, print, Named};
+use planner::{listing, parse, parse_sheet, plan_reason, print, print_events, sheet_reason};
+use planner::{Fault, Named};
 use plans::Lists;
 
 const HELP: &str = "\
@@ -14,6 +16,8 @@ planner text IN.plan               prints a plan file in text form, with n0, l0,
 planner listing PLAN.txt|IN.plan   prints for people the bounds of each pair, the worst pair first,
                                    with one examined scenario that cuts it where there is one
 planner bounds PLAN.txt|IN.plan    prints the bounds as the program listing does, line by line
+planner sheet PLAN.txt OUT.sheet   writes the equipment sheet of a plan in text form
+planner events IN.sheet            prints the events of an equipment sheet by falling q, in text form
 
 A name that ends in .plan is read as a plan file, every other as text.
 
@@ -23,9 +27,14 @@ The text form, a line for each thing, what is named standing above; # starts a c
   node NAME              a station; at most 64
   link NAME NODE NODE    at most 128; parallel ones are allowed
   event NAME Q MEMBER..  what fails together, nodes and links; Q in 10^-9, never rising; at most 128
+  equipment NAME FIT HOURS LENGTH MEMBER..
+                         an event with Q = FIT * HOURS * LENGTH: failures in 10^9 hours, hours to
+                         repair, and 1 for a box or kilometres for cable
+In a text with equipment, events and equipment stand in any order. They are numbered by falling Q,
+equal ones in the order of their lines.
 
-This is a convenience outside the proof. The bounds and plan files come from the proved code;
-nothing else that it reads or prints is proved.
+This is a convenience outside the proof. The bounds, the plan files and the events of a sheet come
+from the proved code; nothing else that it reads or prints is proved.
 ";
 
 fn main() -> ExitCode {
@@ -39,6 +48,8 @@ fn main() -> ExitCode {
         ["bounds", from] => {
             read_any(from).map(|named| proved::plan_listing(&Lists::of(&named.plan)))
         }
+        ["sheet", from, to] => write_sheet(from, to),
+        ["events", from] => events_of(from),
         _ => {
             eprint!("planner: expected one of these\n\n{HELP}");
             return ExitCode::from(2);
@@ -66,8 +77,14 @@ fn bytes_of(path: &str) -> Result<Vec<u8>, String> {
     std::fs::read(path).map_err(|error| format!("{path}: {error}"))
 }
 
-/// A plan in text form.
-fn read_text(path: &str) -> Result<Named, String> {
+/// Writes a file; nothing is printed.
+fn write_bytes(path: &str, bytes: Vec<u8>) -> Result<String, String> {
+    std::fs::write(path, bytes).map_err(|error| format!("{path}: {error}"))?;
+    Ok(String::new())
+}
+
+/// What a plan in text form says.
+fn read_text<T>(path: &str, parse: fn(&str) -> Result<T, Fault>) -> Result<T, String> {
     let bytes = bytes_of(path)?;
     let text = String::from_utf8(bytes).map_err(|error| {
         let valid = error.utf8_error().valid_up_to();
@@ -83,7 +100,7 @@ fn read_text(path: &str) -> Result<Named, String> {
 /// A plan file, by the proved reader.
 fn read_file(path: &str) -> Result<Named, String> {
     let lists = proved::read(&bytes_of(path)?)
-        .map_err(|number| format!("{path}: refused {number}, {}", reason(number)))?;
+        .map_err(|number| format!("{path}: refused {number}, {}", plan_reason(number)))?;
     let plan = lists.lent().plan().expect("a plan that was read");
     Ok(Named::by_number(plan))
 }
@@ -91,17 +108,16 @@ fn read_file(path: &str) -> Result<Named, String> {
 fn read_any(path: &str) -> Result<Named, String> {
     match Path::new(path).extension() {
         Some(extension) if extension == "plan" => read_file(path),
-        _ => read_text(path),
+        _ => read_text(path, parse),
     }
 }
 
 /// Writes the plan file of a text, by the proved writer.
 fn write_file(from: &str, to: &str) -> Result<String, String> {
-    let named = read_text(from)?;
+    let named = read_text(from, parse)?;
     let bytes = proved::write(&Lists::of(&named.plan))
-        .map_err(|number| format!("{from}: refused {number}, {}", reason(number)))?;
-    std::fs::write(to, bytes).map_err(|error| format!("{to}: {error}"))?;
-    Ok(String::new())
+        .map_err(|number| format!("{from}: refused {number}, {}", plan_reason(number)))?;
+    write_bytes(to, bytes)
 }
 
 fn text_of(from: &str, named: &Named) -> String {
@@ -111,20 +127,27 @@ fn text_of(from: &str, named: &Named) -> String {
     )
 }
 
-/// What a refusal of a plan file means.
-fn reason(number: u32) -> &'static str {
-    match number {
-        1 => "the bytes end inside header, link, event or member",
-        2 => "the mark is not RSG",
-        3 => "the version is not 1",
-        4 => "a count is out of range",
-        5 => "the threshold is 0 or above 10^18",
-        6 => "the cap is 0 or above 1000000",
-        7 => "a link end is no node, or the first is not smaller than the second",
-        8 => "a probability is above 10^9",
-        9 => "a probability is above that of the event before",
-        10 => "a member has a wrong kind or number, or does not rise",
-        11 => "bytes are left after the last event",
-        _ => "see the table of refusals",
-    }
+/// The events of an equipment sheet, by the proved reader.
+fn read_sheet(path: &str, bytes: &[u8]) -> Result<proved::SheetEvents, String> {
+    proved::read_sheet(bytes)
+        .map_err(|number| format!("{path}: refused {number}, {}", sheet_reason(number)))
+}
+
+/// Writes the equipment sheet of a text, if the proved reader takes it.
+fn write_sheet(from: &str, to: &str) -> Result<String, String> {
+    let bytes = layout(&read_text(from, parse_sheet)?);
+    read_sheet(from, &bytes)?;
+    write_bytes(to, bytes)
+}
+
+fn events_of(from: &str) -> Result<String, String> {
+    let sheet = read_sheet(from, &bytes_of(from)?)?;
+    Ok(format!(
+        "# From {from}: {} nodes, {} links, {} events by falling q, which counts units of 10^-9.\n\
+         # A sheet holds no names: node, link and event i are n, l and e with i.\n{}",
+        sheet.nodes,
+        sheet.links,
+        sheet.events.len(),
+        print_events(&sheet)
+    ))
 }

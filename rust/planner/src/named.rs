@@ -1,6 +1,6 @@
 //! A plan with a name for each of its nodes, links and events.
 
-use account::Plan;
+use account::{Event, Plan};
 
 /// A plan and its names, by number. Nodes and links share their names: none is used twice among them.
 #[derive(Clone, Debug, PartialEq, Eq)]
@@ -12,7 +12,7 @@ pub struct Named {
 }
 
 /// n0, n1 and so on for the letter n.
-fn numbered(letter: char, count: usize) -> Vec<String> {
+pub fn numbered(letter: char, count: usize) -> Vec<String> {
     (0..count).map(|i| format!("{letter}{i}")).collect()
 }
 
@@ -33,14 +33,13 @@ impl Named {
         let inside = names.filter(|(i, _)| set >> i & 1 == 1);
         inside.map(|(_, name)| name.as_str()).collect()
     }
+}
 
-    /// The names of the elements of an event, nodes before links, each by number.
-    pub fn members(&self, event: usize) -> Vec<&str> {
-        let event = &self.plan.events[event];
-        let nodes = self.nodes.iter().enumerate();
-        let nodes = nodes.filter(|(i, _)| event.nodes >> i & 1 == 1);
-        let links = self.links.iter().enumerate();
-        let links = links.filter(|(i, _)| event.links >> i & 1 == 1);
-        nodes.chain(links).map(|(_, name)| name.as_str()).collect()
-    }
+/// The names of the elements of an event, nodes before links, each by number.
+pub fn members<'a>(event: &Event, nodes: &'a [String], links: &'a [String]) -> Vec<&'a str> {
+    let nodes = nodes.iter().enumerate();
+    let nodes = nodes.filter(|(i, _)| event.nodes >> i & 1 == 1);
+    let links = links.iter().enumerate();
+    let links = links.filter(|(i, _)| event.links >> i & 1 == 1);
+    nodes.chain(links).map(|(_, name)| name.as_str()).collect()
 }

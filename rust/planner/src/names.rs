@@ -13,11 +13,11 @@ pub enum Element {
     Link(usize),
 }
 
-/// Names of elements and of events. Nodes and links share one set of names, events have another.
+/// Names of elements and of events. Nodes and links share one set of names, events and equipment have another.
 #[derive(Default)]
 pub struct Names {
     elements: HashMap<String, (Element, usize)>,
-    events: HashMap<String, usize>,
+    events: HashMap<String, (&'static str, usize)>,
 }
 
 /// The fault of a name that is in use.
@@ -37,10 +37,14 @@ impl Names {
         }
     }
 
-    /// Gives a name to an event; it must be free.
+    /// Gives a name to an event or to equipment; it must be free.
     pub fn give_event(&mut self, line: &Line, name: &str) -> Result<(), Fault> {
-        match self.events.insert(name.to_string(), line.number) {
-            Some(before) => Err(taken(line, name, "an event", before)),
+        let kind = match line.keyword {
+            "equipment" => "equipment",
+            _ => "an event",
+        };
+        match self.events.insert(name.to_string(), (kind, line.number)) {
+            Some((kind, before)) => Err(taken(line, name, kind, before)),
             None => Ok(()),
         }
     }

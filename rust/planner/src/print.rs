@@ -1,6 +1,9 @@
 //! The writer of the text form.
 
-use crate::named::Named;
+use account::Event;
+use conformance::proved::SheetEvents;
+
+use crate::named::{members, numbered, Named};
 
 /// The text that says a plan.
 pub fn print(named: &Named) -> String {
@@ -15,12 +18,26 @@ pub fn print(named: &Named) -> String {
         text += &format!("link {name} {first} {second}\n");
     }
     text += "\n";
-    for (i, (name, event)) in named.events.iter().zip(&plan.events).enumerate() {
-        let mut words = vec!["event".to_string(), name.clone()];
-        words.push(event.probability.to_string());
-        words.extend(named.members(i).into_iter().map(str::to_string));
-        text += &words.join(" ");
-        text += "\n";
+    for (name, event) in named.events.iter().zip(&plan.events) {
+        text += &event_line(name, event, &named.nodes, &named.links);
     }
     text
+}
+
+/// The events of an equipment sheet as lines of the text form, with n0, l0, e0 and so on for names.
+pub fn print_events(sheet: &SheetEvents) -> String {
+    let (nodes, links) = (numbered('n', sheet.nodes), numbered('l', sheet.links));
+    let names = numbered('e', sheet.events.len());
+    let lines = names.iter().zip(&sheet.events);
+    lines
+        .map(|(name, event)| event_line(name, event, &nodes, &links))
+        .collect()
+}
+
+/// The line of one event.
+fn event_line(name: &str, event: &Event, nodes: &[String], links: &[String]) -> String {
+    let q = event.probability.to_string();
+    let mut words = vec!["event", name, &q];
+    words.extend(members(event, nodes, links));
+    words.join(" ") + "\n"
 }

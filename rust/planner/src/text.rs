@@ -8,39 +8,66 @@
 //! node NAME
 //! link NAME NODE NODE
 //! event NAME Q MEMBER..   q in 10^-9, then the nodes and links that fail together
+//! equipment NAME FIT HOURS LENGTH MEMBER..   an event with q = FIT * HOURS * LENGTH
 //! ```
 //!
-//! Nodes, links and events get the numbers of the plan file in the order of their lines.
+//! Nodes and links get the numbers of the plan file in the order of their lines, and so do the events of a text without
+//! equipment. Where a text has equipment, all its events go through one sheet: they may stand in any order, and get their
+//! numbers by falling q, equal ones in the order of their lines.
 
+use account::sheet::Sheet;
 use account::{Header, Plan};
-use account::{CERTAIN, LARGEST_CAP, MOST_EVENTS, MOST_LINKS, MOST_NODES, WHOLE};
+use account::{LARGEST_CAP, MOST_LINKS, MOST_NODES, WHOLE};
 
+use crate::equipment::{by_sheet, sheet_of, Entry};
 use crate::line::{Fault, Line};
 use crate::named::Named;
 use crate::names::{Element, Names};
 
-/// The plan as far as the lines have said it, with the lines of its threshold and its cap.
-struct Draft {
-    named: Named,
-    names: Names,
+/// The plan as far as the lines have said it, with the lines of its threshold and its cap, and an entry of a sheet for
+/// each of its events.
+pub struct Draft {
+    pub named: Named,
+    pub names: Names,
     threshold: Option<usize>,
     cap: Option<usize>,
+    pub entries: Vec<Entry>,
+    /// Whether some line of the text is of equipment.
+    pub has_equipment: bool,
 }
 
 /// The plan that a text says, with its names, or the first fault. A byte order mark at its start says nothing.
 pub fn parse(text: &str) -> Result<Named, Fault> {
-    let text = text.trim_start_matches('\u{feff}');
-    let mut draft = Draft::new();
-    for (i, line) in text.lines().enumerate() {
-        if let Some(line) = Line::of(i + 1, line) {
-            draft.take(&line)?;
-        }
+    let draft = Draft::of(text)?;
+    match draft.has_equipment {
+        true => by_sheet(draft.named, &draft.entries),
+        false => Ok(draft.named),
     }
-    draft.whole(text.lines().count())
+}
+
+/// The equipment sheet that a text says: its events in the order of the text, an `event` line with FIT q, 1 hour and
+/// length 1.
+pub fn parse_sheet(text: &str) -> Result<Sheet, Fault> {
+    let draft = Draft::of(text)?;
+    Ok(sheet_of(&draft.named, &draft.entries))
 }
 
 impl Draft {
-    fn new() -> Draft {
+    /// What all the lines of a text say.
+    fn of(text: &str) -> Result<Draft, Fault> {
+        let text = text.trim_start_matches('\u{feff}');
+        let lines = text.lines().enumerate();
+        let lines: Vec<Line> = lines
+            .filter_map(|(i, line)| Line::of(i + 1, line))
+            .collect();
+        let mut draft = Draft::new(lines.iter().any(|line| line.keyword == "equipment"));
+        for line in &lines {
+            draft.take(line)?;
+        }
+        draft.whole(text.lines().count())
+    }
+
+    fn new(has_equipment: bool) -> Draft {
         let nothing = Plan::empty(&Header {
             nodes: 0,
             links: 0,
@@ -53,6 +80,8 @@ impl Draft {
             names: Names::default(),
             threshold: None,
             cap: None,
+            entries: Vec::new(),
+            has_equipment,
         }
     }
 
@@ -64,7 +93,11 @@ impl Draft {
             "node" => self.take_node(line),
             "link" => self.take_link(line),
             "event" => self.take_event(line),
-            other => Err(line.fault("threshold, cap, node, link or event", format!("`{other}`"))),
+            "equipment" => self.take_equipment(line),
+            other => {
+                let known = "threshold, cap, node, link, event or equipment";
+                Err(line.fault(known, format!("`{other}`")))
+            }
         }
     }
 
@@ -109,41 +142,15 @@ impl Draft {
         Ok(())
     }
 
-    fn take_event(&mut self, line: &Line) -> Result<(), Fault> {
-        let [name, q, ref members @ ..] = line.words[..] else {
-            return Err(line.wrong_words("event NAME Q MEMBER.."));
-        };
-        room(line, self.named.events.len(), MOST_EVENTS, "events")?;
-        self.names.give_event(line, name)?;
-        let probability = self.probability(line, q)?;
-        let event = self.names.event(line, probability, members)?;
-        self.named.plan.events.push(event);
-        self.named.events.push(name.to_string());
-        Ok(())
-    }
-
-    /// The probability of the next event: no larger than that of the event before.
-    fn probability(&self, line: &Line, q: &str) -> Result<u64, Fault> {
-        let probability = line.number_within(q, "q in units of 10^-9", 0, CERTAIN)?;
-        match (self.named.plan.events.last(), self.named.events.last()) {
-            (Some(before), Some(name)) if before.probability < probability => {
-                let most = before.probability;
-                let expected = format!("q of at most {most}, that of `{name}`: q never rises");
-                Err(line.fault(expected, format!("`{q}`")))
-            }
-            _ => Ok(probability),
-        }
-    }
-
-    /// The plan after the last line.
-    fn whole(self, last: usize) -> Result<Named, Fault> {
+    /// The draft after the last line, if nothing is missing.
+    fn whole(self, last: usize) -> Result<Draft, Fault> {
         let missing = [
             (self.threshold.is_none(), "a line `threshold T`"),
             (self.cap.is_none(), "a line `cap C`"),
             (self.named.nodes.is_empty(), "a line `node NAME`"),
         ];
         match missing.iter().find(|(missing, _)| *missing) {
-            None => Ok(self.named),
+            None => Ok(self),
             Some((_, expected)) => Err(Fault {
                 line: last,
                 expected: expected.to_string(),
@@ -166,7 +173,7 @@ fn only_number<'a>(line: &Line<'a>, form: &str, before: Option<usize>) -> Result
 }
 
 /// The number of the next one, where a plan has room for it.
-fn room(line: &Line, count: usize, most: u64, what: &str) -> Result<usize, Fault> {
+pub fn room(line: &Line, count: usize, most: u64, what: &str) -> Result<usize, Fault> {
     if (count as u64) < most {
         return Ok(count);
     }
