@@ -1,16 +1,16 @@
-//! The examples: each text gives its plan file, and each listing is the account's and the proved run's.
+//! The examples: each text gives its plan file and its sheet, and each listing is the account's and the proved run's.
 
 use std::path::{Path, PathBuf};
 
 use conformance::proved;
-use planner::parse;
+use planner::{parse, parse_sheet};
 use plans::examples::{files_with, folder};
 use plans::Lists;
 
 /// The texts of the folder `examples/`.
 fn texts() -> Vec<PathBuf> {
     let texts = files_with("txt");
-    assert!(texts.len() >= 4, "the texts of the folder examples/");
+    assert!(texts.len() >= 5, "the texts of the folder examples/");
     texts
 }
 
@@ -26,6 +26,24 @@ fn each_text_gives_its_plan_file() {
         let bytes = proved::write(&Lists::of(&named.plan)).expect("a plan that meets no refusal");
         let same = bytes == bytes_of(&path.with_extension("plan"));
         assert!(same, "{} and its plan file differ", path.display());
+    }
+}
+
+#[test]
+fn each_sheet_is_that_of_its_text_and_gives_the_events_of_its_plan() {
+    let sheets = files_with("sheet");
+    assert!(!sheets.is_empty(), "the sheets of the folder examples/");
+    for path in sheets {
+        let bytes = bytes_of(&path);
+        let text = String::from_utf8(bytes_of(&path.with_extension("txt"))).expect("a text");
+        let said = parse_sheet(&text).expect("a text that says a sheet");
+        assert!(account::sheet::layout(&said) == bytes, "{}", path.display());
+        let plan = account::file::parse(&bytes_of(&path.with_extension("plan")));
+        let events = plan.expect("a plan").events;
+        let own = account::sheet::parse(&bytes).expect("a sheet").events();
+        assert_eq!(own, events, "the account: {}", path.display());
+        let proved = proved::read_sheet(&bytes).expect("a sheet").events;
+        assert_eq!(proved, events, "the proved reader: {}", path.display());
     }
 }
 
@@ -66,13 +84,17 @@ fn the_readme_shows_the_triangle() {
 }
 
 #[test]
-fn the_table_of_the_rings_has_the_bounds_and_the_seconds() {
+fn the_tables_of_the_rings_have_the_bounds_and_the_seconds() {
     let page = std::fs::read_to_string(folder().join("README.md")).expect("the page");
     let page = page.replace(',', "");
-    for name in ["ring-separate", "ring-shared-duct"] {
+    for (name, pair) in [
+        ("ring-separate", "0 3 "),
+        ("ring-shared-duct", "0 3 "),
+        ("equipment-ring", "0 2 "),
+    ] {
         let listing = account::listing::listing(&bytes_of(&folder().join(format!("{name}.plan"))));
-        let pair = listing.lines().find_map(|line| line.strip_prefix("0 3 "));
-        let numbers = pair.expect("the pair 0 3").split(' ');
+        let bounds = listing.lines().find_map(|line| line.strip_prefix(pair));
+        let numbers = bounds.expect("the pair").split(' ');
         let bounds: Vec<u64> = numbers.map(|n| n.parse().expect("a bound")).collect();
         let seconds = account::readings::downtime(bounds[0], bounds[1]).expect("bounds");
         let row = format!(
