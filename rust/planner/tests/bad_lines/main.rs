@@ -1,5 +1,7 @@
 //! Texts with one thing wrong: the fault names the line, what was expected and what stands there.
 
+mod equipment;
+
 use planner::parse;
 
 /// A text that says a plan, in ten lines.
@@ -49,7 +51,7 @@ fn the_right_text_has_no_fault() {
 
 #[test]
 fn keywords() {
-    let known = "threshold, cap, node, link or event";
+    let known = "threshold, cap, node, link, event or equipment";
     expect(4, "nod A", &format!("{known}; found `nod`"));
     expect(4, "NODE A", &format!("{known}; found `NODE`"));
     expect(1, "RSG", &format!("{known}; found `RSG`"));
@@ -207,4 +209,10 @@ fn more_than_a_plan_holds() {
     assert_eq!(fault_of(&many(&link, 129)), fault);
     let fault = "line 133: expected at most 128 events; found one more";
     assert_eq!(fault_of(&many(&event, 129)), fault);
+    let mixed = |i: usize| match i % 2 {
+        0 => event(i),
+        _ => format!("equipment e{i} 1 1 {i} A"),
+    };
+    assert!(parse(&many(&mixed, 128)).is_ok());
+    assert_eq!(fault_of(&many(&mixed, 129)), fault);
 }

@@ -1,5 +1,7 @@
 //! The command line: what it prints, and how it ends.
 
+mod sheets;
+
 use std::path::{Path, PathBuf};
 use std::process::Command;
 
