@@ -1,5 +1,7 @@
 //! The equipment sheet of request U2: its refusals in order, its events, and its bytes.
 
+use std::cmp::Reverse;
+
 use crate::plan::Event;
 use crate::refusal::{demand, Refusal};
 use crate::source::{
@@ -48,7 +50,7 @@ impl Sheet {
     /// The lines as events in falling probability, ties in sheet order.
     pub fn events(&self) -> Vec<Event> {
         let mut events: Vec<Event> = self.lines.iter().map(Line::event).collect();
-        events.sort_by(|one, other| other.probability.cmp(&one.probability));
+        events.sort_by_key(|event| Reverse(event.probability));
         events
     }
 }

@@ -48,15 +48,6 @@ fn probability(numbers: [u32; 3]) -> Result<u64, u32> {
     }
 }
 
-/// The three places that one number can take among three.
-fn places(one: u32, other: u32, third: u32) -> [[u32; 3]; 3] {
-    [
-        [one, other, third],
-        [other, one, third],
-        [other, third, one],
-    ]
-}
-
 #[test]
 fn a_sheet_byte_by_byte() {
     #[rustfmt::skip]
@@ -70,24 +61,20 @@ fn a_sheet_byte_by_byte() {
     assert_eq!(read_sheet(&bytes, &mut words), Ok([64, 128, 2]));
     let expected = [3_720_960, 0, 1 << 63, 1, 90, 1 << 63, 0, 1 << 63, 7, 7];
     assert_eq!(words, expected);
-    let box_line = Line {
-        fit: 10,
-        hours: 9,
-        length: 1,
-        nodes: 1 << 63,
-        links: 1 << 127,
-    };
-    let cable = Line {
-        fit: 570,
-        hours: 24,
-        length: 272,
-        nodes: 0,
-        links: 3 << 63,
+    let line = |[fit, hours, length]: [u32; 3], nodes, links| Line {
+        fit,
+        hours,
+        length,
+        nodes,
+        links,
     };
     let whole = Sheet {
         nodes: 64,
         links: 128,
-        lines: vec![box_line, cable],
+        lines: vec![
+            line([10, 9, 1], 1 << 63, 1 << 127),
+            line([570, 24, 272], 0, 3 << 63),
+        ],
     };
     assert_eq!(parse(&bytes), Ok(whole.clone()));
     assert_eq!(layout(&whole), bytes);
@@ -95,29 +82,24 @@ fn a_sheet_byte_by_byte() {
 
 #[test]
 fn products_are_exact() {
-    assert_eq!(probability([MOST; 3]), Err(17));
-    for numbers in places(0, MOST, MOST) {
-        assert_eq!(probability(numbers), Ok(0));
-    }
-    for numbers in places(BILLION, 1, 1) {
-        assert_eq!(probability(numbers), Ok(1_000_000_000));
-    }
-    for numbers in places(BILLION + 1, 1, 1) {
-        assert_eq!(probability(numbers), Err(17));
-    }
-    assert_eq!(probability([1_000; 3]), Ok(1_000_000_000));
-    for numbers in places(1_001, 1_000, 1_000) {
-        assert_eq!(probability(numbers), Err(17));
-    }
-    // 2^32, 2^64 and 2^64 + 21: nothing or little of them would be left in 32 or in 64 bits.
-    for numbers in places(1 << 16, 1 << 16, 1) {
-        assert_eq!(probability(numbers), Err(17));
-    }
-    for numbers in places(1 << 2, 1 << 31, 1 << 31) {
-        assert_eq!(probability(numbers), Err(17));
-    }
-    for numbers in places(787, 19_950_191, 1_174_891_961) {
-        assert_eq!(probability(numbers), Err(17));
+    let cases = [
+        ([MOST, MOST, MOST], Err(17)),
+        ([0, MOST, MOST], Ok(0)),
+        ([BILLION, 1, 1], Ok(1_000_000_000)),
+        ([BILLION + 1, 1, 1], Err(17)),
+        ([1_000, 1_000, 1_000], Ok(1_000_000_000)),
+        ([1_001, 1_000, 1_000], Err(17)),
+        // 2^32, 2^64 and 2^64 + 21: nothing or little of them would be left in 32 or in 64 bits.
+        ([1 << 16, 1 << 16, 1], Err(17)),
+        ([1 << 2, 1 << 31, 1 << 31], Err(17)),
+        ([787, 19_950_191, 1_174_891_961], Err(17)),
+    ];
+    for (numbers, answer) in cases {
+        for turn in 0..3 {
+            let mut numbers = numbers;
+            numbers.rotate_left(turn);
+            assert_eq!(probability(numbers), answer, "{numbers:?}");
+        }
     }
 }
 
@@ -213,10 +195,7 @@ fn sheets_that_end_too_early() {
 
 #[test]
 fn more_than_128_lines_are_read_to_their_end() {
-    assert_eq!(
-        [of_lines(0), of_lines(128)].map(|s| check_sheet(&s)),
-        [0; 2]
-    );
+    assert_eq!(check_sheet(&of_lines(128)), 0);
     for count in [129, 255] {
         let bytes = of_lines(count);
         assert_eq!(check_sheet(&bytes), 18);
@@ -250,8 +229,6 @@ fn the_room_of_the_lent_list() {
         assert!(words[..laid].chunks(4).all(|event| event == [6, 0, 0, 0]));
         assert!(words[laid..].iter().all(|&word| word == 9));
     }
-    assert_eq!(
-        read_sheet(&of_lines(1)[..20], &mut []),
-        Err(Refusal::Truncated)
-    );
+    let cut = read_sheet(&of_lines(1)[..20], &mut []);
+    assert_eq!(cut, Err(Refusal::Truncated));
 }

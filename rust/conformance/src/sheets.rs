@@ -1,4 +1,4 @@
-//! The calls of libprobe.a on equipment sheets, declared and wrapped as in `probe`. The counts are nodes, links and lines.
+//! The calls of libprobe.a on equipment sheets, declared as in `probe`. The counts are those of nodes, links and lines.
 
 mod raw {
     extern "C" {

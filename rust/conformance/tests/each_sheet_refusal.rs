@@ -1,5 +1,5 @@
-//! Each number that an equipment sheet can meet, by a small sheet written down here, on both sides of each limit, and the
-//! order of the tests where several fail. What is expected stands here as numbers; the account has no part in it.
+//! Each refusal of an equipment sheet by small sheets written down here, on both sides of each limit, and the order of
+//! the tests where several fail. What is expected stands here as numbers; the account has no part in it.
 
 use conformance::sheets;
 

@@ -1,7 +1,7 @@
 //! Equipment sheets, valid and damaged: check and both readers against the account, and plans of their events.
 
 use account::file::parse as parse_plan;
-use account::sheet::{layout, parse, Sheet};
+use account::sheet::{layout, Sheet};
 use account::{calls, number, Header, LARGEST_CAP, WHOLE};
 use conformance::compare::{lent_length, words};
 use conformance::{probe, proved, sheets, Tally};
@@ -153,6 +153,5 @@ fn the_events_of_a_sheet_make_a_plan() {
         assert_eq!(probe::check(&bytes), 0, "{sheet:?}");
         let plan = parse_plan(&bytes).expect("a plan");
         assert_eq!(plan.events, sheet.events(), "{sheet:?}");
-        assert_eq!(parse(&layout(&sheet)), Ok(sheet));
     }
 }

@@ -7,7 +7,7 @@ use std::cmp::Reverse;
 
 use account::sheet::{layout, Line as SheetLine, Sheet};
 use account::{Event, CERTAIN};
-use conformance::proved;
+use conformance::proved::SheetEvents;
 
 use crate::line::{Fault, Line};
 use crate::named::{members, Named};
@@ -68,14 +68,17 @@ fn order(events: &[Event]) -> Vec<usize> {
     order
 }
 
-/// A plan whose events stand in the order of a text, with its events by way of one sheet.
-pub fn by_sheet(mut named: Named, entries: &[Entry]) -> Result<Named, Fault> {
+/// The reader of equipment sheets.
+type Reader = fn(&[u8]) -> Result<SheetEvents, u32>;
+
+/// A plan whose events stand in the order of a text, with its events by way of one sheet and its reader.
+pub fn by_sheet(mut named: Named, entries: &[Entry], read: Reader) -> Result<Named, Fault> {
     let sheet = sheet_of(&named, entries);
     let order = order(&named.plan.events);
     named.events = order.iter().map(|&i| named.events[i].clone()).collect();
     named.plan.events = order.iter().map(|&i| named.plan.events[i]).collect();
     let lines: Vec<usize> = order.iter().map(|&i| entries[i].line).collect();
-    match proved::read_sheet(&layout(&sheet)) {
+    match read(&layout(&sheet)) {
         Ok(proved) => agree(&named, &proved.events, &lines).map(|()| named),
         Err(number) => Err(Fault {
             line: lines.into_iter().max().unwrap_or(1),
@@ -85,8 +88,8 @@ pub fn by_sheet(mut named: Named, entries: &[Entry]) -> Result<Named, Fault> {
     }
 }
 
-/// That the proved events are those that the names were given to, or the first at which they differ. The lines are those
-/// of the events in the text.
+/// That the proved events are those that got the names, or the first at which they differ. The lines are those of the
+/// events in the text.
 fn agree(named: &Named, proved: &[Event], lines: &[usize]) -> Result<(), Fault> {
     let own = &named.plan.events;
     let differs = |&i: &usize| own.get(i) != proved.get(i);
@@ -114,55 +117,70 @@ fn agree(named: &Named, proved: &[Event], lines: &[usize]) -> Result<(), Fault> 
 #[cfg(test)]
 mod tests {
     use account::{Event, Plan};
+    use conformance::proved::{read_sheet, SheetEvents};
 
-    use super::{agree, order, Named};
+    use super::{by_sheet, Entry, Named};
 
-    fn event(probability: u64, nodes: u64) -> Event {
-        Event {
+    /// Two nodes and three events on lines 2, 3 and 5 of a text.
+    fn text() -> (Named, Vec<Entry>) {
+        let event = |probability, nodes| Event {
             probability,
             nodes,
             links: 0,
-        }
+        };
+        let plan = Plan {
+            nodes: 2,
+            links: vec![],
+            events: vec![event(6, 1), event(7, 3), event(6, 2)],
+            threshold: 1,
+            cap: 1,
+        };
+        let entries = [(2, [2, 1, 3]), (3, [7, 1, 1]), (5, [6, 1, 1])];
+        let entries = entries.map(|(line, numbers)| Entry { numbers, line });
+        (Named::by_number(plan), entries.into())
+    }
+
+    /// The names of the events by a reader that does something to what the proved one gives, or the fault.
+    fn names(read: fn(&[u8]) -> Result<SheetEvents, u32>) -> Result<Vec<String>, String> {
+        let (named, entries) = text();
+        let named = by_sheet(named, &entries, read).map_err(|fault| fault.to_string());
+        named.map(|named| named.events)
+    }
+
+    fn changed(bytes: &[u8], change: fn(&mut Vec<Event>)) -> Result<SheetEvents, u32> {
+        let mut sheet = read_sheet(bytes)?;
+        change(&mut sheet.events);
+        Ok(sheet)
     }
 
     #[test]
     fn equal_ones_keep_their_order() {
-        let events = [event(6, 1), event(0, 0), event(7, 0), event(6, 0)];
-        assert_eq!(order(&events), [2, 0, 3, 1]);
-        assert_eq!(order(&[]), [0; 0]);
+        let order = ["e1", "e0", "e2"].map(str::to_string).to_vec();
+        assert_eq!(names(read_sheet), Ok(order));
     }
 
     #[test]
     fn a_proved_list_that_differs_is_told() {
-        let own = [event(7, 1), event(6, 1), event(6, 2)];
-        let plan = Plan {
-            nodes: 2,
-            links: vec![],
-            events: own.to_vec(),
-            threshold: 1,
-            cap: 1,
+        let fault = |line, event, proved, own| {
+            let expected = format!("expected event {event} of the proved list, {proved}");
+            let end = "in the order of planner: a fault of planner, not of the text";
+            Err(format!("line {line}: {expected}; found {own}, {end}"))
         };
-        let named = Named::by_number(plan);
-        let told = |proved: &[Event]| agree(&named, proved, &[5, 3, 4]).map_err(|f| f.to_string());
-        assert_eq!(told(&own), Ok(()));
-        let end = "in the order of planner: a fault of planner, not of the text";
-        let fault = |line, event, proved, name, own| {
-            let expected =
-                format!("line {line}: expected event {event} of the proved list, {proved}");
-            Err(format!("{expected}; found `{name}`, {own}, {end}"))
-        };
-        let exchanged = [own[0], own[2], own[1]];
-        assert_eq!(
-            told(&exchanged),
-            fault(3, 1, "q 6 of `n1`", "e1", "q 6 of `n0`")
-        );
-        let other = [own[0], own[1], event(5, 3)];
-        assert_eq!(
-            told(&other),
-            fault(4, 2, "q 5 of `n0 n1`", "e2", "q 6 of `n1`")
-        );
-        assert_eq!(told(&own[..2]), fault(4, 2, "nothing", "e2", "q 6 of `n1`"));
-        let more = [own[0], own[1], own[2], event(0, 0)];
-        assert_eq!(told(&more), fault(4, 3, "q 0 of ``", "", "nothing"));
+        let exchanged = names(|bytes| changed(bytes, |events| events.swap(1, 2)));
+        let told = fault(2, 1, "q 6 of `n1`", "`e0`, q 6 of `n0`");
+        assert_eq!(exchanged, told);
+        let other = names(|bytes| changed(bytes, |events| events[2].probability = 5));
+        assert_eq!(other, fault(5, 2, "q 5 of `n1`", "`e2`, q 6 of `n1`"));
+        let fewer = names(|bytes| changed(bytes, |events| events.truncate(2)));
+        assert_eq!(fewer, fault(5, 2, "nothing", "`e2`, q 6 of `n1`"));
+        let more = names(|bytes| changed(bytes, |events| events.push(events[0])));
+        assert_eq!(more, fault(5, 3, "q 7 of `n0 n1`", "``, nothing"));
+    }
+
+    #[test]
+    fn a_sheet_that_is_refused_is_told() {
+        let refused = "refused 11, bytes are left after the last line";
+        let told = format!("line 5: expected a sheet that the proved reader takes; found {refused}");
+        assert_eq!(names(|_| Err(11)), Err(told));
     }
 }

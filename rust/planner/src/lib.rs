@@ -1,8 +1,8 @@
 //! The text form of plans, and a listing for people.
 //!
 //! A convenience outside the proof: nothing here is proved. Plan files are read, written and run by the proved code
-//! (libprobe.a), and equipment sheets are read by it; the text form, the names, the bytes of a sheet and the layout of the
-//! listing are plain Rust, held by tests.
+//! (libprobe.a), which also reads equipment sheets; the text form, the names, the bytes of a sheet and the layout of
+//! the listing are plain Rust, held by tests.
 
 mod equipment;
 mod events;

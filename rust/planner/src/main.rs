@@ -19,7 +19,7 @@ planner bounds PLAN.txt|IN.plan    prints the bounds as the program listing does
 planner sheet PLAN.txt OUT.sheet   writes the equipment sheet of a plan in text form
 planner events IN.sheet            prints the events of an equipment sheet by falling q, in text form
 
-A name that ends in .plan is read as a plan file, every other as text.
+For listing and bounds a name that ends in .plan is read as a plan file, every other as text.
 
 The text form, a line for each thing, what is named standing above; # starts a comment:
   threshold T            scenarios of less mass are left out; units of 10^-18, 1 to 10^18
@@ -28,10 +28,10 @@ The text form, a line for each thing, what is named standing above; # starts a c
   link NAME NODE NODE    at most 128; parallel ones are allowed
   event NAME Q MEMBER..  what fails together, nodes and links; Q in 10^-9, never rising; at most 128
   equipment NAME FIT HOURS LENGTH MEMBER..
-                         an event with Q = FIT * HOURS * LENGTH: failures in 10^9 hours, hours to
-                         repair, and 1 for a box or kilometres for cable
+                         an event with Q = FIT * HOURS * LENGTH, at most 10^9: failures in 10^9 hours,
+                         hours to repair, and 1 for a box or kilometres for cable
 In a text with equipment, events and equipment stand in any order. They are numbered by falling Q,
-equal ones in the order of their lines.
+equal ones in the order of their lines, and together they are at most 128.
 
 This is a convenience outside the proof. The bounds, the plan files and the events of a sheet come
 from the proved code; nothing else that it reads or prints is proved.

@@ -12,12 +12,13 @@
 //! ```
 //!
 //! Nodes and links get the numbers of the plan file in the order of their lines, and so do the events of a text without
-//! equipment. Where a text has equipment, all its events go through one sheet: they may stand in any order, and get their
-//! numbers by falling q, equal ones in the order of their lines.
+//! equipment. Where a text has equipment, all its events go through one sheet: they stand in any order, and are
+//! numbered by falling q, equal ones in the order of their lines.
 
 use account::sheet::Sheet;
 use account::{Header, Plan};
 use account::{LARGEST_CAP, MOST_LINKS, MOST_NODES, WHOLE};
+use conformance::proved::read_sheet;
 
 use crate::equipment::{by_sheet, sheet_of, Entry};
 use crate::line::{Fault, Line};
@@ -40,7 +41,7 @@ pub struct Draft {
 pub fn parse(text: &str) -> Result<Named, Fault> {
     let draft = Draft::of(text)?;
     match draft.has_equipment {
-        true => by_sheet(draft.named, &draft.entries),
+        true => by_sheet(draft.named, &draft.entries, read_sheet),
         false => Ok(draft.named),
     }
 }

@@ -1,5 +1,4 @@
-//! The ring that is told by its equipment: the text holds the rows of document 002's table 2, and the sheet and the plan
-//! file are those of the text.
+//! The ring that is told by its equipment: the text holds the rows of document 002's table 2.
 
 use account::sheet::{Line, Sheet};
 use account::{Event, LARGEST_CAP};

@@ -1,4 +1,5 @@
-//! Damage to equipment sheets: fields at and past their limits, members out of order, bytes changed, added and taken away.
+//! Damage to equipment sheets: fields at and past their limits, members out of order, bytes changed, added and taken
+//! away.
 
 use account::sheet::{layout, Sheet};
 
@@ -14,7 +15,7 @@ const COUNTS: usize = 5;
 const MEMBER_COUNT: usize = 12;
 const MEMBERS: usize = 13;
 
-/// A random file: one in four valid, one in forty of random bytes, the others damaged, with more than 128 lines, or both.
+/// A random file: one in four valid, one in forty of random bytes, the others damaged, of more than 128 lines, or both.
 pub fn random_sheet_file(rng: &mut Rng) -> Vec<u8> {
     if rng.one_in(4) {
         return layout(&random_sheet(rng));

@@ -110,7 +110,7 @@ fn factors_of(rng: &mut Rng, product: u64) -> [u32; 3] {
     let mut factors = [1; 3];
     let mut rest = product;
     for prime in [2, 3, 5, 7, 11, 13] {
-        while rest % prime == 0 {
+        while rest.is_multiple_of(prime) {
             rest /= prime;
             factors[rng.below(3)] *= prime;
         }
