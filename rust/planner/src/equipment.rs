@@ -180,7 +180,8 @@ mod tests {
     #[test]
     fn a_sheet_that_is_refused_is_told() {
         let refused = "refused 11, bytes are left after the last line";
-        let told = format!("line 5: expected a sheet that the proved reader takes; found {refused}");
+        let told =
+            format!("line 5: expected a sheet that the proved reader takes; found {refused}");
         assert_eq!(names(|_| Err(11)), Err(told));
     }
 }
