@@ -40,6 +40,9 @@ fn a_text_with_equipment_becomes_a_sheet_and_a_plan() {
     let text = scratch_with("row.txt", TEXT);
     let (sheet, plan) = (out_path("row.sheet"), out_path("row.plan"));
     quietly(&["sheet", &text, &sheet]);
+    let bytes = std::fs::read(&sheet).expect("the sheet");
+    let first = [5, 0, 0, 0, 1, 0, 0, 0, 1, 0, 0, 0, 1, 0, 1];
+    assert_eq!(bytes[8..23], first, "the first line of events in the text");
     assert_eq!(events_of(&["events", &sheet]), EVENTS);
     quietly(&["file", &text, &plan]);
     assert_eq!(events_of(&["text", &plan]), EVENTS);
