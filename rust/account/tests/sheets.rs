@@ -3,22 +3,10 @@
 use account::calls::{check_sheet, read_sheet};
 use account::sheet::{layout, parse, Line, Sheet};
 use account::Refusal;
+use plans::sheet_bytes::{header, line};
 
 const MOST: u32 = u32::MAX;
 const BILLION: u32 = 1_000_000_000;
-
-/// A header with these counts of nodes, links and lines.
-fn header(nodes: u8, links: u8, lines: u8) -> Vec<u8> {
-    vec![b'E', b'Q', b'S', 1, 0, nodes, links, lines]
-}
-
-/// A line: FIT, hours, length, and the bytes of its members.
-fn line(numbers: [u32; 3], members: &[u8]) -> Vec<u8> {
-    let mut bytes = numbers.map(u32::to_le_bytes).concat();
-    bytes.push(members.len() as u8 / 2);
-    bytes.extend(members);
-    bytes
-}
 
 /// A sheet of two nodes and three links.
 fn sheet(lines: &[Vec<u8>]) -> Vec<u8> {

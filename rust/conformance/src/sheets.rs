@@ -30,32 +30,21 @@ pub fn check(sheet: &[u8]) -> u32 {
     unsafe { raw::probe_check_sheet(sheet.as_ptr(), sheet.len()) }
 }
 
+type Reader = unsafe extern "C" fn(*const u8, usize, *mut u64, usize, *mut u64, usize) -> u32;
+
+fn read_by(reader: Reader, sheet: &[u8], events: &mut [u64], counts: &mut [u64]) -> u32 {
+    let (to, room) = (events.as_mut_ptr(), events.len());
+    let (numbers, most) = (counts.as_mut_ptr(), counts.len());
+    // Safety: every pointer comes with the length of its slice, and no two slices overlap.
+    unsafe { reader(sheet.as_ptr(), sheet.len(), to, room, numbers, most) }
+}
+
 /// The reader of a sheet; it gives the counts as far as their list has room.
 pub fn read(sheet: &[u8], events: &mut [u64], counts: &mut [u64]) -> u32 {
-    // Safety: every pointer comes with the length of its slice, and no two slices overlap.
-    unsafe {
-        raw::probe_sheet(
-            sheet.as_ptr(),
-            sheet.len(),
-            events.as_mut_ptr(),
-            events.len(),
-            counts.as_mut_ptr(),
-            counts.len(),
-        )
-    }
+    read_by(raw::probe_sheet, sheet, events, counts)
 }
 
 /// The reader of a sheet by way of a list of records.
 pub fn read_records(sheet: &[u8], events: &mut [u64], counts: &mut [u64]) -> u32 {
-    // Safety: every pointer comes with the length of its slice, and no two slices overlap.
-    unsafe {
-        raw::probe_sheet_records(
-            sheet.as_ptr(),
-            sheet.len(),
-            events.as_mut_ptr(),
-            events.len(),
-            counts.as_mut_ptr(),
-            counts.len(),
-        )
-    }
+    read_by(raw::probe_sheet_records, sheet, events, counts)
 }

@@ -2,19 +2,7 @@
 //! the tests where several fail. What is expected stands here as numbers; the account has no part in it.
 
 use conformance::sheets;
-
-/// A header with these counts of nodes, links and lines.
-fn header(nodes: u8, links: u8, lines: u8) -> Vec<u8> {
-    vec![b'E', b'Q', b'S', 1, 0, nodes, links, lines]
-}
-
-/// A line: FIT, hours, length, and the bytes of its members.
-fn line(numbers: [u32; 3], members: &[u8]) -> Vec<u8> {
-    let mut bytes = numbers.map(u32::to_le_bytes).concat();
-    bytes.push(members.len() as u8 / 2);
-    bytes.extend(members);
-    bytes
-}
+use plans::sheet_bytes::{header, line};
 
 /// A sheet of two nodes and one link.
 fn sheet(lines: &[Vec<u8>]) -> Vec<u8> {
@@ -220,4 +208,19 @@ fn short_lists_of_counts() {
             assert_eq!(counts, vec![0; length]);
         }
     }
+}
+
+/// The sheet that docs/FORMAT.md has byte by byte gives the events that the page says.
+#[test]
+fn the_sheet_of_the_page() {
+    let page = include_str!("../../../docs/FORMAT.md");
+    let after = page.split("The 38 bytes, in hexadecimal:").nth(1);
+    let lines = after.expect("the page has the sheet").lines();
+    let shown = lines.skip_while(|line| !line.starts_with("    "));
+    let shown = shown.take_while(|line| line.starts_with("    "));
+    let byte = |word| u8::from_str_radix(word, 16).expect("a byte in hexadecimal");
+    let bytes: Vec<u8> = shown.flat_map(str::split_whitespace).map(byte).collect();
+    assert_eq!(bytes.len(), 38);
+    let words = [1_368_000, 0, 1, 0, 90_000, 2, 0, 0];
+    expect_read(&bytes, [2, 1, 2], &words);
 }

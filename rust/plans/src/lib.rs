@@ -4,6 +4,7 @@ pub mod damage;
 pub mod examples;
 pub mod lists;
 pub mod rng;
+pub mod sheet_bytes;
 pub mod sheet_damage;
 pub mod sheets;
 pub mod valid;
