@@ -29,7 +29,7 @@ pub fn product(fit: u64, hours: u64, extent: u64) -> u64
 }
 
 // 17: the product of FIT, hours and length is above 10^9.
-pub fn product_test(fit: u64, hours: u64, extent: u64) -> u32
+fn product_test(fit: u64, hours: u64, extent: u64) -> u32
     ensures { λ r. ⌜ r ≡ productTest fit hours extent ⌝ }
 {
     if mass::CERTAIN < product(fit, hours, extent) {
@@ -39,7 +39,7 @@ pub fn product_test(fit: u64, hours: u64, extent: u64) -> u32
 }
 
 // 18: more than 128 lines.
-pub fn lines_test(lines: u64) -> u32
+fn lines_test(lines: u64) -> u32
     ensures { λ r. ⌜ r ≡ linesTest lines ⌝ }
 {
     if 128 < lines {
@@ -49,7 +49,7 @@ pub fn lines_test(lines: u64) -> u32
 }
 
 // 1 for the header, then 2, 3, 4.
-pub fn header_refusal(s: &[u8]) -> u32
+fn header_refusal(s: &[u8]) -> u32
     ensures { λ r. ⌜ r ≡ sheetHeaderRefusal (now (s .entry)) ⌝ }
 {
     let short = refusals::short_test(s.len(), 8);
@@ -68,7 +68,7 @@ pub fn header_refusal(s: &[u8]) -> u32
 }
 
 // A line: 1, then each member, then 17.
-pub fn line_refusal(s: &[u8], at: usize, nodes: u64, links: u64) -> u32
+fn line_refusal(s: &[u8], at: usize, nodes: u64, links: u64) -> u32
     ensures { λ r. ⌜ r ≡ lineRefusal nodes links (drop at (now (s .entry))) ⌝ }
 {
     let short = refusals::short_test(left_of(s, at), 13);
@@ -95,7 +95,7 @@ pub fn line_size(s: &[u8], at: usize) -> usize
 }
 
 // All lines, then 11.
-pub fn lines_refusal(s: &[u8], start: usize, count: u64, nodes: u64, links: u64) -> u32
+fn lines_refusal(s: &[u8], start: usize, count: u64, nodes: u64, links: u64) -> u32
     ensures { λ r. ⌜ r ≡ linesRefusal nodes links count (drop start (now (s .entry))) ⌝ }
 {
     let mut at = start;
