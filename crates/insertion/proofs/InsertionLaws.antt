@@ -15,6 +15,7 @@ use Rattle.plan.specs.Plan.{Event}
 use Rattle.plan.specs.Lists.{eventsOf, eventWords}
 use Rattle.layout.proofs.ListLaws.{events-laid}
 use Rattle.order.specs.Order.{placeOf, withElement}
+use Rattle.insertion.specs.Inserted.{probability, insertedWords}
 
 -- ---- runs of stores
 
@@ -102,10 +103,6 @@ room-end l from i to h k =
 
 -- ---- the place of an event
 
--- an event's probability is the key of the order
-abbrev pub probability : Event → ℕ
-probability e = e .probability
-
 pub place-most : (q : ℕ) (es : List Event) → placeOf probability q es ≤ length es
 unfolding placeOf
 place-most q [] = omega arith
@@ -142,11 +139,6 @@ module _ (w : List ℕ) (q count : ℕ) where
   place-end i h = let d : count - i ≡ 0 = omega arith in rw d (omega arith)
 
 -- ---- the words of events, one more laid down in its place
-
--- what `insert` leaves in an array with the words of `count` events
-abbrev pub insertion : List ℕ → ℕ → ℕ → ℕ → ℕ → ℕ → List ℕ
-insertion w count q n lo hi =
-    let p = placeOf probability q (eventsOf count w) in sets w (4 * p) (q ∷ n ∷ lo ∷ hi ∷ take (4 * (count - p)) (drop (4 * p) w))
 
 pub length-words : (es : List Event) → length (eventWords es) ≡ 4 * length es
 unfolding eventWords
@@ -204,7 +196,7 @@ module _ (w₀ : List ℕ) (es : List Event) (fits : 4 * length es + 4 ≤ lengt
 
     -- the words of the event, and of those after it moved on by four, laid down at the place: the words of the events with this one placed
     inserted : (q n lo hi : ℕ) → q ≡ e .probability → n ≡ e .nodes → lo ≡ e .links % 2 ^ 64 → hi ≡ e .links / 2 ^ 64
-        → insertion w (length es) q n lo hi ≡ sets w₀ 0 (eventWords (withElement probability e es))
+        → insertedWords w (length es) q n lo hi ≡ sets w₀ 0 (eventWords (withElement probability e es))
     unfolding withElement eventWords
     inserted q n lo hi eq en el eh =
         rw (eq, en, el, eh, same-events, moved)
@@ -220,6 +212,6 @@ module _ (w₀ : List ℕ) (es : List Event) (fits : 4 * length es + 4 ≤ lengt
 pub inserted-in : (w₀ words : List ℕ) (es : List Event) (count : ℕ) → words ≡ sets w₀ 0 (eventWords es) → length es ≡ count
     → 4 * count + 4 ≤ length w₀
     → (e : Event) (q n lo hi : ℕ) → q ≡ e .probability → n ≡ e .nodes → lo ≡ e .links % 2 ^ 64 → hi ≡ e .links / 2 ^ 64
-    → insertion words count q n lo hi ≡ sets w₀ 0 (eventWords (withElement probability e es))
+    → insertedWords words count q n lo hi ≡ sets w₀ 0 (eventWords (withElement probability e es))
 inserted-in w₀ words es count same long fits e q n lo hi eq en el eh =
-    ap₂ (λ (l : List ℕ) (k : ℕ). insertion l k q n lo hi) same (sym long) ∙ inserted w₀ es (omega arith) e q n lo hi eq en el eh
+    ap₂ (λ (l : List ℕ) (k : ℕ). insertedWords l k q n lo hi) same (sym long) ∙ inserted w₀ es (omega arith) e q n lo hi eq en el eh

@@ -2,18 +2,17 @@
 // Assumes nothing.
 use files::Members;
 ghost use mathlib.Core.Path.{_≡_};
-ghost use mathlib.Core.List.{_∷_};
 ghost use Prim.Native.Nat.{_+_, _-_, _*_, _≤_, _<_};
 ghost use lib.ListN.{length, take, drop};
 ghost use lib.Seq.{sets};
-ghost use Rattle.plan.specs.Plan.{Event};
 ghost use Rattle.plan.specs.Lists.{eventsOf};
 ghost use Rattle.order.specs.Order.{placeOf};
+ghost use Rattle.insertion.specs.Inserted.{probability, insertedWords};
 
 // How many of the first `count` events stand before the first one whose probability is below q.
 fn place_of(words: &[u64], count: usize, q: u64) -> usize
     requires { ⌜ 4 * count ≤ length (now words) ⌝ }
-    ensures { λ r. ⌜ (r ≡ placeOf (λ (e : Event). e .probability) q (eventsOf count (now (words .entry)))) × (r ≤ count) ⌝ }
+    ensures { λ r. ⌜ (r ≡ placeOf probability q (eventsOf count (now (words .entry)))) × (r ≤ count) ⌝ }
 {
     let mut i = 0;
     // No probability of the first i events is below q. Each turn raises i, up to `count`.
@@ -43,11 +42,7 @@ fn make_room(words: &mut [u64; 512], from: usize, to: usize)
 pub fn insert(words: &mut [u64; 512], count: usize, q: u64, m: Members)
     requires { ⌜ count < 128 ⌝ }
     ensures long { λ r. ⌜ length (now (words .entry)) ≡ 512 ⌝ }
-    ensures words { λ r. ⌜ now (words .exit) ≡ sets (now (words .entry))
-        (4 * placeOf (λ (e : Event). e .probability) q (eventsOf count (now (words .entry))))
-        (q ∷ m .nodes ∷ m .low ∷ m .high ∷ take
-        (4 * (count - placeOf (λ (e : Event). e .probability) q (eventsOf count (now (words .entry)))))
-        (drop (4 * placeOf (λ (e : Event). e .probability) q (eventsOf count (now (words .entry)))) (now (words .entry)))) ⌝ }
+    ensures words { λ r. ⌜ now (words .exit) ≡ insertedWords (now (words .entry)) count q (m .nodes) (m .low) (m .high) ⌝ }
 {
     let place = place_of(words, count, q);
     make_room(&mut *words, 4 * place, 4 * count);

@@ -29,7 +29,7 @@ use Rattle.sheets.specs.Valid.{ValidLines, ValidSheet}
 use Rattle.sheets.specs.SheetLayout.{sheetLayout}
 use Rattle.sheets.specs.SheetFile.{linesIn, sheetRefusal, sheetOf}
 use Rattle.sheets.specs.SheetCalls.{sheetWords}
-use Rattle.insertion.proofs.InsertionLaws.{probability}
+use Rattle.insertion.specs.Inserted.{probability}
 use Rattle.sheets.proofs.ReadLaws.{length-sheet-events, length-sheet-words}
 use Rattle.sheet_layout.proofs.SheetBytes.{sheet-none, layout-accepted, layout-read, read-valid, read-layout}
 

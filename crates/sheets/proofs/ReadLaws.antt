@@ -22,7 +22,8 @@ use Rattle.sheets.specs.SheetCalls.{countsOf, readSheetRefusal, readShee
 use Rattle.sheets.specs.declared.Counts.{Counts}
 use Rattle.sheets.specs.declared.SheetReading.the-variants as reading
 use Rattle.sheets.proofs.CheckLaws.{accepted-counts}
-use Rattle.insertion.proofs.InsertionLaws.{probability, length-words}
+use Rattle.insertion.specs.Inserted.{probability}
+use Rattle.insertion.proofs.InsertionLaws.{length-words}
 
 -- ---- the loop over the lines
 

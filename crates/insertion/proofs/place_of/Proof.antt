@@ -7,7 +7,8 @@ use borrow.Author.Needs.{needs}
 use lib.ListN.{drop}
 use Rattle.plan.specs.Lists.{eventsOf}
 use Rattle.order.specs.Order.{placeOf}
-use Rattle.insertion.proofs.InsertionLaws.{probability, place-start, place-here, place-later, place-end}
+use Rattle.insertion.specs.Inserted.{probability}
+use Rattle.insertion.proofs.InsertionLaws.{place-start, place-here, place-later, place-end}
 use Rattle.insertion.proofs.place_of.Statement.{statement}
 use Rattle.insertion.proofs.place_of.Tie as tie
 

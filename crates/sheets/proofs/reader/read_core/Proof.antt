@@ -11,7 +11,7 @@ use Rattle.sheets.specs.SheetFile.{sheetRefusal, linesAt, sheetOf}
 use Rattle.sheets.specs.SheetCalls.{countsOf, readSheetRefusal}
 use Rattle.sheets.specs.declared.Counts.{Counts}
 use Rattle.sheets.proofs.CheckLaws.{sheet-fits, accepted-lines, accepted-counts}
-use Rattle.insertion.proofs.InsertionLaws.{probability}
+use Rattle.insertion.specs.Inserted.{probability}
 use Rattle.sheets.proofs.ReadLaws.{reading-stop, reading-go, read-accepted}
 use Rattle.sheets.proofs.reader.read_core.Statement.{statement}
 use Rattle.sheets.proofs.reader.read_core.Tie as tie
