@@ -1,4 +1,5 @@
-//! Links the archives of proved code, which `rt staticlib NAME` writes under the repository's target/.
+//! Links the archives of proved code, which `rt staticlib NAME` writes under the repository's target/. The script `bench` gives
+//! the folder of a copy of the probe's archive by the variable `WELLEMBER_PROBE`.
 
 use std::path::{Path, PathBuf};
 
@@ -8,7 +9,9 @@ fn main() {
         probe.exists(),
         "libprobe.a is missing: run `rt staticlib probe` at the root of the repository"
     );
-    println!("cargo:rustc-link-search=native={}", folder().display());
+    println!("cargo:rerun-if-env-changed=WELLEMBER_PROBE");
+    let from = std::env::var("WELLEMBER_PROBE").map_or_else(|_| folder(), PathBuf::from);
+    println!("cargo:rustc-link-search=native={}", from.display());
     println!("cargo:rustc-link-lib=static=probe");
     // Only the tests use the archive for C.
     println!(
