@@ -3,3 +3,5 @@ pub mod Digits
 pub mod Laws
 pub mod LowestLaws
 pub mod Bools
+pub mod WhereLaws
+pub mod SearchLaws

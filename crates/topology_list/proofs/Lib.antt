@@ -3,7 +3,6 @@ pub mod WorkingSets
 pub mod Turn
 pub mod Answers
 pub mod Theorems
-pub mod SetLaws
 pub mod ListLaws
 pub mod RoomLaws
 pub mod ListBounds

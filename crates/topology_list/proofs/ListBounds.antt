@@ -9,7 +9,7 @@ use native.Mathlib.Omega.{arith}
 use borrow.Author.Tests.{lt-ltb, le-ltb}
 use lib.Dec.{ltb}
 use lib.ListN.{length}
-use Rattle.sets.specs.Sets.{bit, joined}
+use Rattle.sets.specs.Sets.{bit, joined, setWhere}
 use Rattle.sets.proofs.Laws.{bit-joined-low, bit-joined-high}
 use Rattle.plan.specs.Plan.{Link, linkAt}
 use Rattle.network.specs.Outage.{Outage}
@@ -18,8 +18,8 @@ use Rattle.topology.specs.Paths.{disconnected}
 use Rattle.topology.proofs.Laws.{same-working}
 use Rattle.walk.specs.Scenario.{Scenario}
 use Rattle.walk.specs.Ends.{End, dropped, relevant, sumEnds}
-use Rattle.topology_list.specs.TopologyList.{setWhere, topologyIn}
-use Rattle.topology_list.proofs.SetLaws.{set-lt, set-bit}
+use Rattle.topology_list.specs.TopologyList.{topologyIn}
+use Rattle.sets.proofs.WhereLaws.{set-lt, set-bit}
 use Rattle.topology_list.specs.ListBounds.{downIn}
 
 -- ---- the three words fix what works

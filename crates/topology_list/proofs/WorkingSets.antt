@@ -18,7 +18,7 @@ use Rattle.walk.specs.Scenario.{scenarioOf}
 use Rattle.walk.proofs.ScenarioLaws.{number-scenario}
 use Rattle.bounds.specs.Bounds.{intact}
 use Rattle.topology_list.specs.TopologyList.{topologyIn, topologyAfter}
-use Rattle.topology_list.proofs.SetLaws.{set-is}
+use Rattle.sets.proofs.WhereLaws.{set-is}
 
 -- sets with the working nodes and links as elements
 topology-is : (net : Network) (nodes low high : ℕ) → nodes < 2 ^ 64 → low < 2 ^ 64 → high < 2 ^ 64

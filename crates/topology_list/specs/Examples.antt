@@ -3,14 +3,14 @@
 use mathlib.Core.Path.{_≡_, refl}
 use mathlib.Core.List.{[], _∷_}
 use Prim.Native.Nat.{ℕ}
-use Rattle.sets.specs.Sets.{bit, anyBelow}
+use Rattle.sets.specs.Sets.{bit, setWhere, anyBelow}
 use Rattle.plan.specs.Plan.{Plan, Event}
 use Rattle.network.specs.Outage.{unionOf}
 use Rattle.network.specs.Topology.{nodeWorks, linkWorks, joins, adjacent}
 use Rattle.topology.specs.Paths.{via, disconnected}
 use Rattle.walk.specs.Ends.{ends}
 use Rattle.entries.specs.Entries.{entry, sameTopology, topologyList, entryWords}
-use Rattle.topology_list.specs.TopologyList.{setWhere, topologyIn, topologyListOf}
+use Rattle.topology_list.specs.TopologyList.{topologyIn, topologyListOf}
 use Rattle.topology_list.specs.ListBounds.{lowerFrom}
 use Rattle.entries.specs.declared.Topology.{Topology}
 

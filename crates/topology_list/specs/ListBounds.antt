@@ -3,13 +3,12 @@
 use mathlib.Core.Bool.{Bool, not}
 use mathlib.Core.List.{List, [], _∷_}
 use Prim.Native.Nat.{ℕ, _+_, _*_}
-use Rattle.sets.specs.Sets.{bit, joined, digit}
+use Rattle.sets.specs.Sets.{bit, joined, digit, setWhere}
 use Rattle.plan.specs.Plan.{Plan}
 use Rattle.network.specs.Outage.{Outage}
 use Rattle.network.specs.Topology.{networkOf}
 use Rattle.topology.specs.Paths.{disconnected}
 use Rattle.entries.specs.Entries.{Entry}
-use Rattle.topology_list.specs.TopologyList.{setWhere}
 use Rattle.entries.specs.declared.Topology.{Topology}
 
 -- the sum over the entries of mass × weight of the topology

@@ -1,22 +1,16 @@
 -- The topology list: document 01, section "Further readings of a plan".
 -- Assumes nothing.
-use mathlib.Core.Bool.{Bool}
 use mathlib.Core.List.{List, [], _∷_}
-use Prim.Native.Nat.{ℕ, zero, suc, _+_, _*_, _^_}
+use Prim.Native.Nat.{ℕ, zero, suc, _+_}
 use Rattle.plan.specs.Plan.{Plan}
 use Rattle.network.specs.Topology.{Network, nodeWorks, linkWorks}
 use Rattle.walk.specs.Scenario.{Scenario}
-use Rattle.sets.specs.Sets.{digit}
+use Rattle.sets.specs.Sets.{setWhere}
 use Rattle.walk.specs.Ends.{End, dropped, relevant}
 use Rattle.walk.specs.Walk.{firstEnds}
 use Rattle.bounds.specs.Bounds.{topologyOf}
 use Rattle.entries.specs.Entries.{added, TopologyList, topologyList, fitted}
 use Rattle.entries.specs.declared.Topology.{Topology}
-
--- the set of the elements below k that pass a test
-unfoldable pub setWhere : (ℕ → Bool) → ℕ → ℕ
-setWhere test zero = 0
-setWhere test (suc k) = setWhere test k + digit (test k) * 2 ^ k
 
 -- an effective topology in three words: the working nodes, the working links 0 to 63, the working links 64 to 127
 unfoldable pub topologyIn : Network → Topology

@@ -8,10 +8,9 @@ use native.Mathlib.Nat.{pow-succ'}
 use native.Mathlib.Omega.{arith}
 use borrow.Author.Tests.{ne-eqb, eq-eqb}
 use lib.Dec.{eqb}
-use Rattle.sets.specs.Sets.{bit, digit}
+use Rattle.sets.specs.Sets.{bit, digit, setWhere}
 use Rattle.sets.proofs.Laws.{bit-add, bit-past, bit-ext}
 use Rattle.sets.proofs.Bools.{or-right}
-use Rattle.topology_list.specs.TopologyList.{setWhere}
 
 module _ (test : ℕ → Bool) where
   -- law: it is below 2^k
