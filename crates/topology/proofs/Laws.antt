@@ -50,7 +50,7 @@ module _ (nodes : ℕ) (links : List Link) (out other : Outage)
     (same-nodes : (v : ℕ) → nodeWorks (networkOf nodes links out) v ≡ nodeWorks (networkOf nodes links other) v)
     (same-links : (i : ℕ) → linkWorks (networkOf nodes links out) i ≡ linkWorks (networkOf nodes links other) i)
   where
-    same-step : (v w : ℕ) → WorkingLink (networkOf nodes links out) v w → WorkingLink (networkOf nodes links other) v w
+    pub same-step : (v w : ℕ) → WorkingLink (networkOf nodes links out) v w → WorkingLink (networkOf nodes links other) v w
     unfolding joins
     same-step v w s = (s .0, ap (λ (x : Bool). x && hasEnds (linkAt links (s .0)) v w) (sym (same-links (s .0))) ∙ s .1)
 

@@ -4,7 +4,7 @@ use mathlib.Core.Path.{_≡_, refl, sym, ap, _∙_}
 use mathlib.Core.Bool.{Bool, true, false, not, _&&_}
 use mathlib.Core.List.{List}
 use mathlib.Core.Logic.{_↔_}
-use Prim.Native.Nat.{ℕ}
+use Prim.Native.Nat.{ℕ, _≤_}
 use lib.Dec.{ltb, eqb}
 use lib.ListN.{getD}
 use Rattle.sets.specs.Sets.{bit, digit}
@@ -17,7 +17,10 @@ use Rattle.topology.proofs.Chains.{chain-map}
 use Rattle.network.proofs.Works.{adjacent-link, link-adjacent, adjacent-sym, link-nodes}
 use Rattle.topology.proofs.Connection.{connected-is}
 use Rattle.topology.proofs.Laws.{path-leads}
-use Rattle.topology.specs.RowPaths.{RowStep, Reached, Joining}
+use Rattle.topology.specs.RowPaths.{RowStep, Reached, reachByRows, Joining}
+use Rattle.topology.specs.Rounds.{itself, reachOf}
+use Rattle.topology.proofs.RoundPaths.{start-below, near-below}
+use Rattle.topology.proofs.RoundSame.{reach-same}
 
 -- ---- what a node reaches is what it is connected to
 
@@ -64,6 +67,18 @@ module _ (net : Network) (nodes : ℕ) (rows : List ℕ)
       λ e. (sym (up v) ∙ reached w .0 e .0, chain-map step-link (reached w .0 e .1)),
       λ h. reached w .1 (up v ∙ h .0, chain-map link-step (h .1)),
     )
+
+    -- and in as many rounds
+    pub rounds-are : net .nodes ≤ 64 → (v : ℕ) → reachByRows nodes rows v ≡ reachOf net v
+    unfolding reachByRows reachOf
+    rounds-are few v =
+        sym
+        (reach-same (net .nodes) 64 (itself (nodeWorks net v) v) (itself (bit nodes v) v) (adjacent net) (λ u w. bit (getD rows u 0) w)
+        few
+        (λ w. ap (λ (x : Bool). itself x v w) (sym (up v)))
+        (λ u w. sym (row u w))
+        (start-below net v)
+        (near-below net v))
 
 -- ---- a node that is not among what another reaches
 

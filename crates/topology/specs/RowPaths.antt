@@ -8,6 +8,8 @@ use Prim.Native.Nat.{ℕ}
 use lib.ListN.{getD}
 use Rattle.sets.specs.Sets.{bit}
 use Rattle.topology.specs.Paths.{Chain}
+use Rattle.topology.specs.Rounds.{reachBy, itself}
+use Rattle.topology.specs.declared.Reach.{Reach}
 
 -- a step: w is in the row of v
 abbrev pub RowStep : List ℕ → ℕ → ℕ → Type 0
@@ -24,6 +26,10 @@ InRows rows set w = (u : ℕ) × (bit set u ≡ true) × RowStep rows u w
 -- the set has w exactly where v is one of the nodes and a path joins v and w
 abbrev pub Reached : ℕ → List ℕ → ℕ → ℕ → Type 0
 Reached nodes rows v set = (w : ℕ) → (bit set w ≡ true) ↔ ((bit nodes v ≡ true) × RowPath rows v w)
+
+-- the same by rounds: w is a neighbour of u where it is in the row of u
+unfoldable pub reachByRows : ℕ → List ℕ → ℕ → Reach
+reachByRows nodes rows v = reachBy 64 (itself (bit nodes v) v) (λ u w. bit (getD rows u 0) w)
 
 -- the rows join both ways, and only nodes of the set
 pub record Joining (nodes : ℕ) (rows : List ℕ) : Type 0 where

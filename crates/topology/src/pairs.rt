@@ -10,11 +10,12 @@ ghost use mathlib.Core.Logic.{_↔_};
 ghost use Prim.Native.Nat.{ℕ, _<_};
 ghost use Rattle.sets.specs.Sets.{bit};
 ghost use Rattle.topology.specs.Paths.{Reaches, disconnected};
+ghost use Rattle.topology.specs.Rounds.{reachOf};
 ghost use Rattle.network.specs.Code.{networkIn};
 ghost use Rattle.plan.specs.Held.{LinksHeld};
 ghost use Rattle.network.specs.Table.{LinksAt};
 
-// What node v reaches: w exactly where v works and a path of working links joins v and w.
+// What node v reaches: w exactly where v works and a path of working links joins v and w. Beside it, the number of rounds.
 pub fn reach_from(
     n: usize,
     failed: Failed,
@@ -26,7 +27,8 @@ pub fn reach_from(
     requires { ⌜ LinksHeld n (now links) count ⌝ }
     requires { ⌜ LinksAt (now links) count (now table) ⌝ }
     requires { ⌜ v < 64 ⌝ }
-    ensures { λ r. ⌜ ((w : ℕ) → (bit (r .set) w ≡ true) ↔ Reaches (networkIn n failed (now (links .entry)) count) v w) ⌝ }
+    ensures paths { λ r. ⌜ ((w : ℕ) → (bit (r .set) w ≡ true) ↔ Reaches (networkIn n failed (now (links .entry)) count) v w) ⌝ }
+    ensures rounds { λ r. ⌜ r ≡ reachOf (networkIn n failed (now (links .entry)) count) v ⌝ }
 {
     let rows = neighbours(n, links, count, table, failed);
     let nodes = working_nodes(n, failed.nodes);

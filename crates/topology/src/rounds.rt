@@ -5,7 +5,7 @@ ghost use mathlib.Core.Bool.{true};
 ghost use mathlib.Core.Logic.{_↔_};
 ghost use Prim.Native.Nat.{ℕ, _<_};
 ghost use Rattle.sets.specs.Sets.{bit};
-ghost use Rattle.topology.specs.RowPaths.{InRows, Reached};
+ghost use Rattle.topology.specs.RowPaths.{InRows, Reached, reachByRows};
 
 // The union of the rows of a set.
 pub fn rows_of(rows: &[u64; 64], set: u64) -> u64
@@ -22,18 +22,22 @@ pub fn rows_of(rows: &[u64; 64], set: u64) -> u64
     all
 }
 
-// What node v reaches: each round adds the neighbours of the fresh nodes, until none is fresh. A node that does not work reaches nothing.
+// What node v reaches, by rounds, up to the first one that adds no node. A round reads the rows of the fresh nodes only: those that the
+// round before has added. A node that does not work reaches nothing, in one round.
 pub fn reach(rows: [u64; 64], nodes: u64, v: usize) -> Reach
     requires { ⌜ v < 64 ⌝ }
-    ensures { λ r. ⌜ Reached nodes rows v (r .set) ⌝ }
+    ensures paths { λ r. ⌜ Reached nodes rows v (r .set) ⌝ }
+    ensures rounds { λ r. ⌜ r ≡ reachByRows nodes rows v ⌝ }
 {
-    let mut seen = 0;
-    let mut fresh = sets::both(nodes, sets::only(1, v));
-    // A path joins v to each seen or fresh node, v is one where it works, and each neighbour of a seen node is seen or fresh. No fresh
-    // node is seen, so each turn adds nodes to `seen`, which grows as a number.
+    let mut seen = sets::both(nodes, sets::only(1, v));
+    let mut fresh = sets::less(rows_of(&rows, seen), seen);
+    let mut rounds = 1;
+    // `fresh` is what round `rounds` adds, and `seen` the set before it. Each round before has added a node, so there are fewer of them than
+    // nodes, and each turn raises `rounds`.
     while fresh != 0 {
         seen = sets::union(seen, fresh);
         fresh = sets::less(rows_of(&rows, fresh), seen);
+        rounds += 1;
     }
-    Reach { set: seen }
+    Reach { set: seen, rounds }
 }

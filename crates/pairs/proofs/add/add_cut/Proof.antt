@@ -29,11 +29,11 @@ less-requires c κs = search needs
 
 returns : tie.Need-returns Inv-loop μ-loop
 returns c =
-    all-joined _ _ _ _ _ _ _ (c .before .before .before .before .before .loop .inv) _ (c .before .before .before .before .before .before .first .ensures) _ _ (c .before .before .before .lowest .ensures .1 .1 .0) (c .before .before .reach .ensures) _ (c .before .less .ensures) (c .if1 .taken)
+    all-joined _ _ _ _ _ _ _ (c .before .before .before .before .before .loop .inv) _ (c .before .before .before .before .before .before .first .ensures) _ _ (c .before .before .before .lowest .ensures .1 .1 .0) (c .before .before .reach .ensures .0) _ (c .before .less .ensures) (c .if1 .taken)
 
 add-rows-requires : tie.Need-add-rows-requires Inv-loop μ-loop
 add-rows-requires c κs =
-    part-asked _ _ _ _ _ _ _ (c .before .before .before .before .before .before .loop .inv) _ (c .before .before .before .before .before .before .before .first .ensures) _ _ (c .before .before .before .before .lowest .ensures .1 .1 .0) (c .before .before .before .reach .ensures) _ (c .before .before .less .ensures)
+    part-asked _ _ _ _ _ _ _ (c .before .before .before .before .before .before .loop .inv) _ (c .before .before .before .before .before .before .before .first .ensures) _ _ (c .before .before .before .before .lowest .ensures .1 .1 .0) (c .before .before .before .reach .ensures .0) _ (c .before .before .less .ensures)
 
 less-requires-2 : tie.Need-less-requires-2 Inv-loop μ-loop
 less-requires-2 c κs = search needs
@@ -43,11 +43,11 @@ loop-less c =
     let low = c .before .before .before .before .before .before .lowest in
     let loop = c .before .before .before .before .before .before .before .before .loop in
     shrinks (loop .left) (c .before .before .before .before .before .reach .result .set) (c .less2 .result) (low .result) (c .less2 .ensures) (low .ensures .1 .1 .0)
-    (has-first _ _ _ _ _ _ _ (loop .inv) _ (c .before .before .before .before .before .before .before .before .before .first .ensures) _ _ (low .ensures .1 .1 .0) (c .before .before .before .before .before .reach .ensures))
+    (has-first _ _ _ _ _ _ _ (loop .inv) _ (c .before .before .before .before .before .before .before .before .before .first .ensures) _ _ (low .ensures .1 .1 .0) (c .before .before .before .before .before .reach .ensures .0))
 
 loop-again : tie.Need-loop-again Inv-loop μ-loop
 loop-again c =
-    cut-turned _ _ _ _ _ _ _ (c .before .before .before .before .before .before .before .before .loop .inv) _ (c .before .before .before .before .before .before .before .before .before .first .ensures) _ _ (c .before .before .before .before .before .before .lowest .ensures .1 .1 .0) (c .before .before .before .before .before .reach .ensures) _ (c .before .before .before .before .less .ensures) _ (c .before .add-rows .ensures) _ (c .less2 .ensures)
+    cut-turned _ _ _ _ _ _ _ (c .before .before .before .before .before .before .before .before .loop .inv) _ (c .before .before .before .before .before .before .before .before .before .first .ensures) _ _ (c .before .before .before .before .before .before .lowest .ensures .1 .1 .0) (c .before .before .before .before .before .reach .ensures .0) _ (c .before .before .before .before .less .ensures) _ (c .before .add-rows .ensures) _ (c .less2 .ensures)
 
 less-requires-3 : tie.Need-less-requires-3 Inv-loop μ-loop
 less-requires-3 c κs = search needs

@@ -18,7 +18,7 @@ returns c =
     let net = networkIn (a .n) (a .failed) (a .links .now) (a .count) in
     absent (c .at .result) (found .result .set) (a .w) _
     (c .at .ensures)
-    (connected-bit net (a .v) (found .result .set) (a .w) (found .ensures (a .w)))
+    (connected-bit net (a .v) (found .result .set) (a .w) (found .ensures .0 (a .w)))
 
 pub is-disconnected-spec : {M : Type 1} → statement M
 is-disconnected-spec = tie.close (tie.spec reach-from-requires at-requires returns)

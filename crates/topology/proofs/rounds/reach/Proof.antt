@@ -1,20 +1,21 @@
--- `topology::rounds::reach` meets its contract. The loop's invariant: what is seen or fresh is joined to v by a path, and the rows of what is seen
--- lead to nothing else. The measure: what is seen grows as a number. Assumes nothing.
+-- `topology::rounds::reach` meets its contract. The loop's invariant: what is seen is the set after round k, fresh is what round k + 1 adds, and
+-- each round up to k has added a node. The measure: there are at most 64 rounds. Assumes nothing.
 use borrow.Author.Needs.{needs}
 use mathlib.Core.Path.{_≡_, ap, _∙_}
 use mathlib.Core.Bool.{Bool, _&&_}
-use Prim.Native.Nat.{_+_, _-_, _^_, _<_}
+use Prim.Native.Nat.{ℕ, suc, _-_, _^_, _<_, _≤_}
 use native.Mathlib.Omega.{arith}
 use Rattle.sets.specs.Sets.{bit}
-use Rattle.topology.proofs.Round.{Round, round-first, round-next, round-grows, round-last}
+use Rattle.topology.specs.Rounds.{itself}
+use Rattle.topology.proofs.Round.{Turn, turn-first, turn-counts, turn-next, begins, turn-paths, turn-answer}
 use Rattle.topology.proofs.rounds.reach.Statement.{statement}
 use Rattle.topology.proofs.rounds.reach.Tie as tie
 
 abbrev Inv-loop : tie.InvT-loop
-Inv-loop nodes v rows seen₀ fresh₀ seen fresh = (seen < 2 ^ 64) × Round nodes rows v seen fresh
+Inv-loop nodes v rows seen₀ fresh₀ rounds₀ seen fresh rounds = (k : ℕ) × (rounds ≡ suc k) × (seen < 2 ^ 64) × (fresh < 2 ^ 64) × Turn (itself (bit nodes v) v) rows k seen fresh
 
 abbrev μ-loop : tie.MeasureT-loop
-μ-loop nodes v rows seen₀ fresh₀ seen fresh = 2 ^ 64 - seen
+μ-loop nodes v rows seen₀ fresh₀ rounds₀ seen fresh rounds = 64 - rounds
 
 only-requires : tie.Need-only-requires Inv-loop μ-loop
 only-requires c κs = search needs
@@ -22,51 +23,69 @@ only-requires c κs = search needs
 both-requires : tie.Need-both-requires Inv-loop μ-loop
 both-requires c κs = search needs
 
-loop-holds : tie.Need-loop-holds Inv-loop μ-loop
-loop-holds c = (
-  omega arith,
-  round-first _ _ _ _
-      (λ j. c .both .ensures j ∙ ap (λ (x : Bool). bit (c .before .before .args .nodes) j && x) (c .before .only .ensures j)),
-)
-
-union-requires : tie.Need-union-requires Inv-loop μ-loop
-union-requires c κs = search needs
-
 rows-of-requires : tie.Need-rows-of-requires Inv-loop μ-loop
 rows-of-requires c κs = search needs
 
 less-requires : tie.Need-less-requires Inv-loop μ-loop
 less-requires c κs = search needs
 
--- the fresh nodes are added to those seen
-larger : (c : tie.After-less Inv-loop μ-loop)
-    → c .before .before .before .union .result ≡ c .before .before .before .before .before .loop .seen + c .before .before .before .before .before .loop .fresh
-larger c =
-    let start = c .before .before .before .before .before .before .before .before .args in
+loop-holds : tie.Need-loop-holds Inv-loop μ-loop
+loop-holds c = (
+  0,
+  omega arith,
+  omega arith,
+  omega arith,
+  turn-first _ _ _ (c .before .rows-of .result) _ (omega arith) (omega arith)
+      (begins _ _ _
+      (λ w. c .before .before .before .both .ensures w ∙ ap (λ (x : Bool). bit (c .before .before .before .before .before .args .nodes) w && x) (c .before .before .before .before .only .ensures w)))
+      (c .before .rows-of .ensures)
+      (c .less .ensures),
+)
+
+union-requires : tie.Need-union-requires Inv-loop μ-loop
+union-requires c κs = search needs
+
+rows-of-requires-2 : tie.Need-rows-of-requires-2 Inv-loop μ-loop
+rows-of-requires-2 c κs = search needs
+
+less-requires-2 : tie.Need-less-requires-2 Inv-loop μ-loop
+less-requires-2 c κs = search needs
+
+-- a round that adds a node is not the 64th
+room : (c : tie.After-less2 Inv-loop μ-loop) → suc (c .before .before .before .before .before .loop .rounds) ≤ 64
+room c =
     let loop = c .before .before .before .before .before .loop in
-    round-grows (start .nodes) (start .t1) (start .v) (loop .seen) (loop .fresh) (c .before .before .before .union .result) (c .before .rows-of .result) (c .less .result)
-    (c .before .before .before .union .ensures)
-    (c .before .rows-of .ensures)
-    (c .less .ensures)
-    (loop .inv .1)
+    omega (arith, turn-counts _ _ (loop .inv .0) (loop .seen) (loop .fresh) (loop .inv .4) (loop .inv .3) (λ e. omega arith), loop .inv .1)
+
+add-rounds : tie.Need-add-rounds Inv-loop μ-loop
+add-rounds c = omega (arith, room c)
 
 loop-less : tie.Need-loop-less Inv-loop μ-loop
-loop-less c = omega (arith, larger c)
+loop-less c = omega (arith, room c)
 
 loop-again : tie.Need-loop-again Inv-loop μ-loop
 loop-again c =
-    let start = c .before .before .before .before .before .before .before .before .args in
     let loop = c .before .before .before .before .before .loop in (
+      suc (loop .inv .0),
+      omega (arith, loop .inv .1),
       omega arith,
-      round-next (start .nodes) (start .t1) (start .v) (loop .seen) (loop .fresh) (c .before .before .before .union .result) (c .before .rows-of .result) (c .less .result)
+      omega arith,
+      turn-next _ _ (loop .inv .0) (loop .seen) (loop .fresh) (loop .inv .4) (c .before .before .before .union .result) (c .before .rows-of2 .result) (c .less2 .result)
+          (loop .inv .3)
+          (omega arith)
+          (λ e. omega arith)
           (c .before .before .before .union .ensures)
-          (c .before .rows-of .ensures)
-          (c .less .ensures)
-          (loop .inv .1),
+          (c .before .rows-of2 .ensures)
+          (c .less2 .ensures),
     )
 
 returns : tie.Need-returns Inv-loop μ-loop
-returns c = round-last _ _ _ _ _ (c .loop-test .left) (c .before .loop .inv .1)
+returns c =
+    let loop = c .before .loop in
+    let start = c .before .before .before .before .before .before .before in (
+      turn-paths _ _ _ (loop .inv .0) (loop .seen) (loop .fresh) (loop .inv .4) (loop .inv .2) (omega arith) (start .pre),
+      turn-answer _ _ _ (loop .inv .0) (loop .seen) (loop .fresh) (loop .inv .4) (loop .inv .2) (omega arith) (loop .rounds) (loop .inv .1),
+    )
 
 pub reach-spec : {M : Type 1} → statement M
 reach-spec =
@@ -76,10 +95,13 @@ reach-spec =
     μ-loop
     only-requires
     both-requires
-    loop-holds
-    union-requires
     rows-of-requires
     less-requires
+    loop-holds
+    union-requires
+    rows-of-requires-2
+    less-requires-2
+    add-rounds
     loop-less
     loop-again
     returns)
