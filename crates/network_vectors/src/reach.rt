@@ -5,8 +5,8 @@ use vectors::same_at;
 use vectors::same_part;
 ghost use Rattle.plan.specs.Held.{LinksHeld};
 
-// What is expected at node v: the list starts at node `first`, and all others have the empty set.
-fn at_node(want: &[u64], first: usize, v: usize) -> u64 {
+// The set that is expected at node v: the list starts at node `first`, and all others have the empty set.
+fn set_at(want: &[u64], first: usize, v: usize) -> u64 {
     if v < first {
         return 0;
     }
@@ -16,7 +16,19 @@ fn at_node(want: &[u64], first: usize, v: usize) -> u64 {
     0
 }
 
-// Holds what each node reaches to a list of sets.
+// The number of rounds that is expected at node v: all others have 1.
+fn rounds_at(want: &[u8], first: usize, v: usize) -> u64 {
+    if v < first {
+        return 1;
+    }
+    if v - first < want.len() {
+        return plan::byte_at(want, v - first);
+    }
+    1
+}
+
+// Holds what each node reaches to a list of sets, and its number of rounds to a list of numbers. Both start at node `first`; all others
+// reach nothing, in one round.
 pub fn parts(
     label: &[u8],
     n: usize,
@@ -25,9 +37,10 @@ pub fn parts(
     failed: Failed,
     first: usize,
     want: &[u64],
+    rounds: &[u8],
 ) {
     if held(n, links, count) {
-        compared(label, n, links, count, failed, first, want);
+        compared(label, n, links, count, failed, first, want, rounds);
     } else {
         same_part(label, b"valid", 0, 1);
     }
@@ -41,6 +54,7 @@ fn compared(
     failed: Failed,
     first: usize,
     want: &[u64],
+    rounds: &[u8],
 )
     requires { ⌜ LinksHeld n (now links) count ⌝ }
 {
@@ -48,7 +62,8 @@ fn compared(
     let mut v = 0;
     while v < 64 {
         let reach = topology::reach_from(n, failed, links, count, &table, v);
-        same_at(label, v, reach.set, at_node(want, first, v));
+        same_at(label, v, reach.set, set_at(want, first, v));
+        same_at(label, v, reach.rounds, rounds_at(rounds, first, v));
         v += 1;
     }
 }

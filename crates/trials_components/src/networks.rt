@@ -9,14 +9,33 @@ use vectors::many_links;
 // No link: every node that works is alone. What stands in the array past the count, here 0-1, joins nothing.
 pub fn without_links() {
     let l = links(b"\x00\x01");
-    parts(b"one node", 1, &l, 0, failed(0, 0, 0), 0, &[1]);
-    parts(b"one node, down", 1, &l, 0, failed(1, 0, 0), 0, &[0]);
-    parts(b"three nodes", 3, &l, 0, failed(0, 0, 0), 0, &[1, 2, 4]);
+    parts(b"one node", 1, &l, 0, failed(0, 0, 0), 0, &[1], b"\x01");
+    parts(
+        b"one node, down",
+        1,
+        &l,
+        0,
+        failed(1, 0, 0),
+        0,
+        &[0],
+        b"\x01",
+    );
+    parts(
+        b"three nodes",
+        3,
+        &l,
+        0,
+        failed(0, 0, 0),
+        0,
+        &[1, 2, 4],
+        b"\x01\x01\x01",
+    );
 }
 
-// Links 0-1, 1-2, 2-3, 3-4, 4-5, 0-5.
+// Links 0-1, 1-2, 2-3, 3-4, 4-5, 0-5. The number of rounds is one more than the links to the farthest node that is reached.
 pub fn ring() {
     let l = links(b"\x00\x01\x01\x02\x02\x03\x03\x04\x04\x05\x00\x05");
+    // 0-1 down: the line 1, 2, 3, 4, 5, 0
     parts(
         b"ring, one link down",
         6,
@@ -25,8 +44,9 @@ pub fn ring() {
         failed(0, 1, 0),
         0,
         &[63, 63, 63, 63, 63, 63],
+        b"\x06\x06\x05\x04\x04\x05",
     );
-    // 0-1 and 3-4 down: 1, 2, 3 (2 + 4 + 8 = 14) and 0, 4, 5 (1 + 16 + 32 = 49)
+    // 0-1 and 3-4 down: the lines 1, 2, 3 (2 + 4 + 8 = 14) and 4, 5, 0 (1 + 16 + 32 = 49)
     parts(
         b"ring, two links down",
         6,
@@ -35,6 +55,7 @@ pub fn ring() {
         failed(0, 9, 0),
         0,
         &[49, 14, 14, 14, 49, 49],
+        b"\x03\x03\x02\x03\x03\x02",
     );
 }
 
@@ -50,6 +71,7 @@ pub fn ring_nodes() {
         failed(9, 0, 0),
         0,
         &[0, 6, 6, 0, 48, 48],
+        b"\x01\x02\x02\x01\x02\x02",
     );
 }
 
@@ -64,6 +86,7 @@ pub fn islands() {
         failed(0, 0, 0),
         0,
         &[21, 10, 21, 10, 21],
+        b"\x03\x02\x02\x02\x03",
     );
 }
 
@@ -81,6 +104,7 @@ pub fn top_bits() {
         failed(down, 0, 0),
         62,
         &[13_835_058_055_282_163_712, 13_835_058_055_282_163_712],
+        b"\x02\x02",
     );
     parts(
         b"node 63, link 127 down",
@@ -90,5 +114,6 @@ pub fn top_bits() {
         failed(down, 0, 9_223_372_036_854_775_808),
         62,
         &[4_611_686_018_427_387_904, 9_223_372_036_854_775_808],
+        b"\x01\x01",
     );
 }

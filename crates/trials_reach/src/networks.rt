@@ -1,4 +1,5 @@
-// Networks of two and three nodes: document 01, "Effective topology". A set has node or link i as its bit i, of value 2^i.
+// Networks of two and three nodes: document 01, "Effective topology". A set has node or link i as its bit i, of value 2^i. The number of
+// rounds is one more than the links to the farthest node that is reached, and 1 at a node that is alone or down.
 use network_vectors::failed;
 use network_vectors::links;
 use network_vectors::parts;
@@ -6,8 +7,17 @@ use network_vectors::parts;
 // Links 0-1, 0-2, 1-2.
 pub fn triangle() {
     let l = links(b"\x00\x01\x00\x02\x01\x02");
-    parts(b"triangle", 3, &l, 3, failed(0, 0, 0), 0, &[7, 7, 7]);
-    // link 0-1 down: the path goes by node 2
+    parts(
+        b"triangle",
+        3,
+        &l,
+        3,
+        failed(0, 0, 0),
+        0,
+        &[7, 7, 7],
+        b"\x02\x02\x02",
+    );
+    // link 0-1 down: the path goes by node 2, the middle of a line of three
     parts(
         b"triangle, a link down",
         3,
@@ -16,6 +26,7 @@ pub fn triangle() {
         failed(0, 1, 0),
         0,
         &[7, 7, 7],
+        b"\x03\x03\x02",
     );
     // links 0-1 and 0-2 down: node 0 is alone, and 1 and 2 are joined
     parts(
@@ -26,6 +37,7 @@ pub fn triangle() {
         failed(0, 3, 0),
         0,
         &[1, 6, 6],
+        b"\x01\x02\x02",
     );
 }
 
@@ -41,6 +53,7 @@ pub fn end_nodes() {
         failed(4, 0, 0),
         0,
         &[3, 3, 0],
+        b"\x02\x02\x01",
     );
     // node 2 and link 0-1 down: no link is left
     parts(
@@ -51,6 +64,7 @@ pub fn end_nodes() {
         failed(4, 1, 0),
         0,
         &[1, 2, 0],
+        b"\x01\x01\x01",
     );
 }
 
@@ -65,6 +79,7 @@ pub fn parallel() {
         failed(0, 1, 0),
         0,
         &[3, 3],
+        b"\x02\x02",
     );
     parts(
         b"parallel, both down",
@@ -74,6 +89,7 @@ pub fn parallel() {
         failed(0, 3, 0),
         0,
         &[1, 2],
+        b"\x01\x01",
     );
 }
 
@@ -89,5 +105,6 @@ pub fn parallel_end() {
         failed(2, 1, 0),
         0,
         &[1, 0, 4],
+        b"\x01\x01\x01",
     );
 }

@@ -5,10 +5,10 @@ use Rattle.network_vectors.proofs.reach.compared.Statement.{statement}
 use Rattle.network_vectors.proofs.reach.compared.Tie as tie
 
 abbrev Inv-loop : tie.InvT-loop
-Inv-loop label n links count failed first want table v₀ v = v ≤ 64
+Inv-loop label n links count failed first want rounds table v₀ v = v ≤ 64
 
 abbrev μ-loop : tie.MeasureT-loop
-μ-loop label n links count failed first want table v₀ v = 64 - v
+μ-loop label n links count failed first want rounds table v₀ v = 64 - v
 
 links-at-requires : tie.Need-links-at-requires Inv-loop μ-loop
 links-at-requires c κs = search needs
@@ -19,11 +19,17 @@ loop-holds c = search needs
 reach-from-requires : tie.Need-reach-from-requires Inv-loop μ-loop
 reach-from-requires c κs = search needs
 
-at-node-requires : tie.Need-at-node-requires Inv-loop μ-loop
-at-node-requires c κs = search needs
+set-at-requires : tie.Need-set-at-requires Inv-loop μ-loop
+set-at-requires c κs = search needs
 
 same-at-requires : tie.Need-same-at-requires Inv-loop μ-loop
 same-at-requires c κs = search needs
+
+rounds-at-requires : tie.Need-rounds-at-requires Inv-loop μ-loop
+rounds-at-requires c κs = search needs
+
+same-at-requires-2 : tie.Need-same-at-requires-2 Inv-loop μ-loop
+same-at-requires-2 c κs = search needs
 
 add-v : tie.Need-add-v Inv-loop μ-loop
 add-v c = search needs
@@ -46,8 +52,10 @@ compared-spec =
     links-at-requires
     loop-holds
     reach-from-requires
-    at-node-requires
+    set-at-requires
     same-at-requires
+    rounds-at-requires
+    same-at-requires-2
     add-v
     loop-less
     loop-again
