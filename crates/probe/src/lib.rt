@@ -6,6 +6,7 @@ mod by_records;
 mod equipment;
 mod further;
 mod list;
+mod reach;
 
 use plan::Header;
 ghost use mathlib.Core.Path.{_≡_};

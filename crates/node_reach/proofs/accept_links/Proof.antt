@@ -1,0 +1,23 @@
+-- `node_reach::accept_links` meets its contract: the lists' tests, of which those of a plan without events are left out. Assumes nothing.
+use borrow.Author.Needs.{needs}
+use mathlib.Core.Path.{_∙_}
+use mathlib.Core.List.{[], _∷_}
+use Rattle.node_reach.proofs.ReachLaws.{without-events, links-taken}
+use Rattle.node_reach.proofs.accept_links.Statement.{statement}
+use Rattle.node_reach.proofs.accept_links.Tie as tie
+
+slice-aggregate-accept : tie.Need-slice-aggregate-accept
+slice-aggregate-accept c = search needs
+
+accept-requires : tie.Need-accept-requires
+accept-requires c κs = search needs
+
+returns : tie.Need-returns
+returns c =
+    let a = c .before .before .before .before .before .args in (
+      c .accept .ensures .0 ∙ without-events (a .nodes) (a .count) (a .links .now) (0 ∷ []),
+      λ z. links-taken (a .nodes) (a .count) (a .links .now) _ _ _ (c .accept .ensures .1 .0 z),
+    )
+
+pub accept-links-spec : {M : Type 1} → statement M
+accept-links-spec = tie.close (tie.spec slice-aggregate-accept accept-requires returns)

@@ -1,0 +1,2 @@
+-- What the contracts of the crate `node_reach` cite.
+pub mod NodeReach
