@@ -1,7 +1,8 @@
 //! The contract of the instrument in plain Rust, written from documents 01 and 02 alone.
 //!
 //! It shares no method with the proved code: products in 128 bits, a recursive walk that keeps every
-//! examined scenario, components by union-find, and exact sums in a wide integer of its own.
+//! examined scenario, components by union-find, and exact sums in a wide integer of its own. The rounds of a reach are
+//! laid down by document 02; it takes each of them over the list of links, without sets of neighbours.
 
 pub mod bounds;
 pub mod calls;
@@ -11,6 +12,7 @@ pub mod listing;
 pub mod plan;
 pub mod readings;
 pub mod refusal;
+pub mod rounds;
 pub mod sheet;
 mod source;
 pub mod topology;

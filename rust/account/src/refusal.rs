@@ -28,7 +28,7 @@ pub enum Refusal {
     Trailing = 11,
     /// A lent list or buffer is too short.
     Short = 12,
-    /// A pair without v < w < N.
+    /// A pair without v < w < N; for the reach of a node, a v without v < N.
     Pair = 13,
     /// No examined scenario disconnects the pair.
     NoWitness = 14,

@@ -9,8 +9,23 @@ pub struct Topology {
     pub links: u128,
 }
 
-/// The effective topology of a set of failing events: a node works if no failing event names it, a link if none
-/// names it and both its end nodes work.
+/// What works where these nodes and links have failed: a node that has not, and a link that has not and whose two end
+/// nodes work. Bits at or past the plan's counts are not used.
+pub fn working(plan: &Plan, failed_nodes: u64, failed_links: u128) -> Topology {
+    let node_works = |node: usize| failed_nodes >> node & 1 == 0;
+    let mut topology = Topology { nodes: 0, links: 0 };
+    for node in 0..plan.nodes {
+        topology.nodes |= u64::from(node_works(node)) << node;
+    }
+    for (link, &(first, second)) in plan.links.iter().enumerate() {
+        let failed = failed_links >> link & 1 == 1;
+        let works = !failed && node_works(first) && node_works(second);
+        topology.links |= u128::from(works) << link;
+    }
+    topology
+}
+
+/// The effective topology of a set of failing events: what works where all that they name has failed.
 pub fn effective(plan: &Plan, failing: u128) -> Topology {
     let (mut named_nodes, mut named_links) = (0u64, 0u128);
     for (i, event) in plan.events.iter().enumerate() {
@@ -19,17 +34,7 @@ pub fn effective(plan: &Plan, failing: u128) -> Topology {
             named_links |= event.links;
         }
     }
-    let node_works = |node: usize| named_nodes >> node & 1 == 0;
-    let mut topology = Topology { nodes: 0, links: 0 };
-    for node in 0..plan.nodes {
-        topology.nodes |= u64::from(node_works(node)) << node;
-    }
-    for (link, &(first, second)) in plan.links.iter().enumerate() {
-        let named = named_links >> link & 1 == 1;
-        let works = !named && node_works(first) && node_works(second);
-        topology.links |= u128::from(works) << link;
-    }
-    topology
+    working(plan, named_nodes, named_links)
 }
 
 /// The component of each node, named by one of its nodes; none for a node that is down.
