@@ -132,7 +132,8 @@ fn probability(rng: &mut Rng) -> u64 {
     rng.pick(&[0, 1, CERTAIN - 1, CERTAIN, CERTAIN + 1, u64::from(u32::MAX)])
 }
 
-fn count(rng: &mut Rng) -> u64 {
+/// A count of lent lists: around the limits of all counts, or far past them.
+pub(crate) fn count(rng: &mut Rng) -> u64 {
     let past = [1 << 32, 1 << 61, 1 << 62, 1 << 63, u64::MAX];
     match rng.one_in(4) {
         true => rng.pick(&past),
@@ -161,16 +162,17 @@ fn damage_lists(rng: &mut Rng, lists: &mut Lists) {
         4 => lists.header.cap = cap(rng) << rng.pick(&[0, 0, 0, 32]),
         5 => lists.links.truncate(rng.below(lists.links.len() + 1)),
         6 => lists.events.truncate(rng.below(lists.events.len() + 1)),
-        7 => damage_link_list(rng, lists),
+        7 => damage_end(rng, lists.header.nodes, &mut lists.links),
         _ => damage_event_list(rng, lists),
     }
 }
 
-fn damage_link_list(rng: &mut Rng, lists: &mut Lists) {
-    let ends = [lists.header.nodes as u8, 0, 63, 64, 255, rng.bits() as u8];
-    if !lists.links.is_empty() {
-        let at = rng.below(lists.links.len());
-        lists.links[at] = rng.pick(&ends);
+/// One end of a link changed, if the list has one.
+pub(crate) fn damage_end(rng: &mut Rng, nodes: u64, links: &mut [u8]) {
+    let ends = [nodes as u8, 0, 63, 64, 255, rng.bits() as u8];
+    if !links.is_empty() {
+        let at = rng.below(links.len());
+        links[at] = rng.pick(&ends);
     }
 }
 

@@ -1,8 +1,11 @@
-//! Plans and equipment sheets for the tests and the benchmark: random ones, valid and damaged, and the example files.
+//! Plans, equipment sheets and networks for the tests and the benchmark: random ones, valid and damaged, some that are
+//! written down by hand, and the example files.
 
 pub mod damage;
 pub mod examples;
 pub mod lists;
+pub mod networks;
+pub mod reach;
 pub mod rng;
 pub mod sheet_bytes;
 pub mod sheet_damage;
