@@ -1,10 +1,11 @@
 //! Each call of `probe` beside the account's, on the same input and on lent memory with the same pattern. Each
 //! function returns the refusal's number and panics where anything differs.
 
+use account::rounds::{reach as own_reach, Network};
 use account::{calls, number, Header};
 use plans::{Lists, Rng};
 
-use crate::probe;
+use crate::{probe, rounds};
 
 /// A length for a lent list: most often enough, sometimes too short.
 pub fn lent_length(rng: &mut Rng, needed: usize) -> usize {
@@ -19,6 +20,15 @@ pub fn lent_length(rng: &mut Rng, needed: usize) -> usize {
 /// Lent words with a random pattern.
 pub fn words(rng: &mut Rng, length: usize) -> Vec<u64> {
     (0..length).map(|_| rng.bits()).collect()
+}
+
+/// A lent list after words are laid down in it, as far as it has room; other entries as before.
+pub fn laid_down(lent: &[u64], words: &[u64]) -> Vec<u64> {
+    let mut after = lent.to_vec();
+    for (entry, &word) in after.iter_mut().zip(words) {
+        *entry = word;
+    }
+    after
 }
 
 fn numbers_of(header: Header) -> [u64; 5] {
@@ -121,5 +131,18 @@ pub fn pair(rng: &mut Rng, lists: &Lists) -> u32 {
     assert_eq!(refusal, number(&expected), "pair {v} {w} of {lists:?}");
     let own_result = expected.map_or([0; 2], |bounds| [bounds.lower, bounds.upper]);
     assert_eq!(result, own_result, "pair {v} {w} of {lists:?}");
+    refusal
+}
+
+/// The reach of a node, on a list of any length up to four words.
+pub fn reach(rng: &mut Rng, network: &Network, v: u64) -> u32 {
+    let length = rng.pick(&[0, 1, 2, 2, 2, 3, 4]);
+    let mut result = words(rng, length);
+    let expected = own_reach(network, v);
+    let own_words = expected.map_or([0; 2], |reach| [reach.nodes, reach.rounds]);
+    let own_result = laid_down(&result, &own_words);
+    let refusal = rounds::reach(network, v, &mut result);
+    assert_eq!(refusal, number(&expected), "reach of {v} in {network:?}");
+    assert_eq!(result, own_result, "reach of {v} in {network:?}");
     refusal
 }

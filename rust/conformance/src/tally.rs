@@ -17,4 +17,12 @@ impl Tally {
         let met: Vec<u32> = (0..19).filter(|&n| self.0[n as usize] > 0).collect();
         assert_eq!(met, expected, "answers met: {:?}", self.0);
     }
+
+    /// Asserts that exactly these answers were met, each at least so many times.
+    #[track_caller]
+    pub fn expect_each(&self, numbers: &[u32], least: u64) {
+        self.expect(numbers.iter().copied());
+        let often = numbers.iter().all(|&n| self.0[n as usize] >= least);
+        assert!(often, "answers met: {:?}", self.0);
+    }
 }

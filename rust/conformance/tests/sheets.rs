@@ -3,7 +3,7 @@
 use account::file::parse as parse_plan;
 use account::sheet::{layout, Sheet};
 use account::{calls, number, Header, LARGEST_CAP, WHOLE};
-use conformance::compare::{lent_length, words};
+use conformance::compare::{laid_down, lent_length, words};
 use conformance::{probe, proved, sheets, Tally};
 use plans::sheet_damage::random_sheet_file;
 use plans::sheets::{random_sheet, sheet_of};
@@ -29,15 +29,6 @@ fn room(rng: &mut Rng, bytes: &[u8]) -> usize {
     }
 }
 
-/// The list of counts after a call: those of the account, or 0, as far as the list has room; other entries as before.
-fn counts_after(before: &[u64], counts: [u64; 3]) -> Vec<u64> {
-    let mut after = before.to_vec();
-    for (entry, count) in after.iter_mut().zip(counts) {
-        *entry = count;
-    }
-    after
-}
-
 /// Both readers beside the account's, on lent lists with the same pattern.
 fn read(rng: &mut Rng, bytes: &[u8]) -> u32 {
     let length = room(rng, bytes);
@@ -46,7 +37,7 @@ fn read(rng: &mut Rng, bytes: &[u8]) -> u32 {
     let lent_counts = words(rng, length);
     let mut own_events = lent.clone();
     let expected = calls::read_sheet(bytes, &mut own_events);
-    let own_counts = counts_after(&lent_counts, expected.unwrap_or([0; 3]));
+    let own_counts = laid_down(&lent_counts, &expected.unwrap_or([0; 3]));
     let expected = number(&expected);
     for (name, reader) in [
         (
