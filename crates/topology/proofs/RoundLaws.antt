@@ -90,6 +90,7 @@ module _ (n : ℕ) (start : ℕ → Bool) (near : ℕ → ℕ → Bool) where
     pub before : (j : ℕ) → j < k → addsAfter n start near j ≡ true
     pub idle : addsAfter n start near k ≡ false
 
+  -- how many rounds add a node before the first that does not
   abbrev last : ℕ
   last = firstBelow (λ k. not (addsAfter n start near k)) n
 
@@ -107,7 +108,7 @@ module _ (n : ℕ) (start : ℕ → Bool) (near : ℕ → ℕ → Bool) where
           let some = adds-one last e .1 in
           absurd (omega (arith, some, adding-most last adds-before (omega (arith, some)))))
 
-  -- law: it is one after k exactly where round k is the last that adds a node
+  -- law: the number is k + 1 exactly where the round after round k is the first that adds no node
   pub last-is : (k : ℕ) → Last k → lastRound n start near ≡ suc k
   unfolding lastRound
   last-is k l = ap suc (go (decLt last k) (decLt k last))

@@ -41,7 +41,7 @@ module _ (n : ℕ) (start : ℕ → Bool) (near : ℕ → ℕ → Bool) where
   start-kept zero w e = e
   start-kept (suc k) w e = round-keeps n start near k w (start-kept k w e)
 
-  -- the last set: n is more than its elements and all that their neighbours are
+  -- where the set begins below n, and the neighbours of the last set are below n
   module _ (starts : (w : ℕ) → start w ≡ true → w < n)
       (within : (u w : ℕ) → u < n → inRound n start near (lastRound n start near) u ≡ true → near u w ≡ true → w < n)
     where

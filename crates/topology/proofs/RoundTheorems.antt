@@ -94,7 +94,7 @@ same-reach nodes links out other same-nodes same-links v =
         (λ e. link-adjacent _ u w (same-step nodes links out other same-nodes same-links u w (adjacent-link _ u w e)))
         (λ e. link-adjacent _ u w (same-step nodes links other out (λ x. sym (same-nodes x)) (λ i. sym (same-links i)) u w (adjacent-link _ u w e)))
 
--- so what stands in a set of failed nodes or links past the counts changes nothing
+-- below a count two tests agree, and so they do where a number has to be below it
 masked : (k i : ℕ) (a b : Bool) → (i < k → a ≡ b) → (ltb i k && not a) ≡ (ltb i k && not b)
 masked k i a b same = go (decLt i k)
   where
@@ -104,6 +104,7 @@ masked k i a b same = go (decLt i k)
         let past : ltb i k ≡ false = le-ltb i k (omega arith) in
         rw past
 
+-- so what stands in a set of failed nodes or links past the counts changes nothing
 module _ (nodes : ℕ) (links : List Link) (out other : Outage)
     (same-nodes : (v : ℕ) → v < nodes → bit (out .nodes) v ≡ bit (other .nodes) v)
     (same-links : (i : ℕ) → i < length links → bit (out .links) i ≡ bit (other .links) i)
