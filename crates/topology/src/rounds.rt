@@ -32,8 +32,8 @@ pub fn reach(rows: [u64; 64], nodes: u64, v: usize) -> Reach
     let mut seen = sets::both(nodes, sets::only(1, v));
     let mut fresh = sets::less(rows_of(&rows, seen), seen);
     let mut rounds = 1;
-    // `fresh` is what round `rounds` adds, and `seen` the set before it. Each round before has added a node, so there are fewer of them than
-    // nodes, and each turn raises `rounds`.
+    // `fresh` is what round `rounds` adds, and `seen` the set before it. Each round before it has added a node, so there are fewer of those
+    // than nodes; each turn raises `rounds`.
     while fresh != 0 {
         seen = sets::union(seen, fresh);
         fresh = sets::less(rows_of(&rows, fresh), seen);
