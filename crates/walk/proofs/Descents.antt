@@ -12,7 +12,7 @@ use lib.ListN.{length, getD, drop, replicate, length-drop, drop-of-length-le}
 use lib.Pow.{pow-pos, pow-mono}
 use lib.Seq.{sets, drop-cons}
 use Rattle.mass.specs.Split.{certain, whole, failing, working}
-use Rattle.mass.proofs.Theorems.{fails-le, works-le}
+use Rattle.mass.proofs.Theorems.{parts-le, fails-le, works-le}
 use Rattle.sets.specs.Sets.{joined}
 use Rattle.plan.specs.Plan.{Event}
 use Rattle.plan.specs.Lists.{eventsOf}
@@ -23,9 +23,9 @@ use Rattle.walk.specs.Ends.{End, dropped, relevant, after, ends}
 use Rattle.walk.proofs.EndsLaws.{ends-cut, ends-leaf}
 use Rattle.walk.specs.Pending.{Branch, branch, branchEnds}
 use Rattle.walk.proofs.StackLaws.{branch-node, pathEnd-cut, pathEnd-enough, path-last, path-cut, path-on, words-run, words-branch}
-use Rattle.walk.proofs.StackLaws.{descent-cut, descent-enough}
+use Rattle.walk.proofs.StackLaws.{mass-run, mass-branch, descent-cut, descent-enough}
 use Rattle.walk.specs.WorksPath.{pathSteps, pathMass, pathEnd}
-use Rattle.walk.specs.Stack.{branchOf, SoundBranch, toCome, SoundEntry, SoundEntries, Stack}
+use Rattle.walk.specs.Stack.{branchOf, SoundBranch, toCome, pendingMass, SoundEntry, SoundEntries, Stack}
 use Rattle.walk.specs.Steps.{Stopped, Pushed, Delayed, Descended, descentOf}
 use Rattle.walk.specs.declared.Stop.{Stop}
 use Rattle.walk.proofs.Branches.{events-length, events-probability, probability-le, next-works, next-fails}
@@ -39,16 +39,17 @@ none = record { probability = 0; nodes = 0; links = 0 }
 left-at : (count : ℕ) (words : List ℕ) (depth : ℕ) → length (drop depth (eventsOf count words)) ≡ count - depth
 left-at count words depth = omega (arith, length-drop depth (eventsOf count words), events-length count words)
 
--- on a "works" path: it stops where it stops from the start
+-- on a "works" path: it stops where it stops from the start, and the mass is not above that at the start
 pub record OnPath (count threshold : ℕ) (words : List ℕ) (depth₀ mass₀ depth mass : ℕ) : Type 0 where
   pub steps : depth₀ + pathSteps threshold mass₀ (drop depth₀ (eventsOf count words)) ≡ depth + pathSteps threshold mass (drop depth (eventsOf count words))
   pub stops : pathMass threshold mass₀ (drop depth₀ (eventsOf count words)) ≡ pathMass threshold mass (drop depth (eventsOf count words))
   pub within : depth ≤ count
   pub light : mass ≤ whole
+  pub lighter : mass ≤ mass₀
 
 pub path-begun : (count threshold : ℕ) (words : List ℕ) (depth mass mass′ : ℕ) → mass′ ≡ mass → depth ≤ count → mass ≤ whole
     → OnPath count threshold words depth mass depth mass′
-path-begun count threshold words depth mass mass′ e h l = rw e (record { steps = refl; stops = refl; within = h; light = l })
+path-begun count threshold words depth mass mass′ e h l = rw e (record { steps = refl; stops = refl; within = h; light = l; lighter = omega arith })
 
 module _ (count : ℕ) (words : List ℕ) (falls : Falling certain (eventsOf count words)) where
   -- the event at a depth: its probability, and that later ones fall from it
@@ -63,7 +64,13 @@ module _ (count : ℕ) (words : List ℕ) (falls : Falling certain (eventsOf cou
     pub path-stopped : mass < threshold → Stopped count threshold words depth₀ mass₀ (record { depth = depth; mass = mass })
     path-stopped h =
         let s = path-cut threshold mass (drop depth (eventsOf count words)) h in
-        record { steps = omega (arith, on .steps, s .0); stops = omega (arith, on .stops, s .1); within = on .within; light = on .light }
+        record {
+          steps = omega (arith, on .steps, s .0);
+          stops = omega (arith, on .stops, s .1);
+          within = on .within;
+          light = on .light;
+          lighter = on .lighter;
+        }
 
     pub path-ended : count ≤ depth → Stopped count threshold words depth₀ mass₀ (record { depth = depth; mass = mass })
     path-ended h =
@@ -72,6 +79,7 @@ module _ (count : ℕ) (words : List ℕ) (falls : Falling certain (eventsOf cou
           stops = omega (arith, on .stops, ap (pathMass threshold mass) over, path-last threshold mass .1);
           within = on .within;
           light = on .light;
+          lighter = on .lighter;
         }
       where
         over : drop depth (eventsOf count words) ≡ []
@@ -83,11 +91,15 @@ module _ (count : ℕ) (words : List ℕ) (falls : Falling certain (eventsOf cou
           steps = omega (arith, on .steps, rw same at (s .0), add-one depth, ap (λ (n : ℕ). pathSteps threshold mass′ (drop n events)) (add-one depth));
           stops = on .stops ∙ rw same at (s .1) ∙ ap (λ (n : ℕ). pathMass threshold mass′ (drop n events)) (sym (add-one depth));
           within = omega arith;
-          light = omega (arith, e, works-le mass (getD words (depth * 4) 0) (probable depth l), on .light);
+          light = omega (arith, on .light, less);
+          lighter = omega (arith, on .lighter, less);
         }
       where
         events : List Event
         events = eventsOf count words
+
+        less : mass′ ≤ mass
+        less = omega (arith, e, works-le mass (getD words (depth * 4) 0) (probable depth l))
 
         same : working mass (getD events depth none .probability) ≡ mass′
         same = ap (working mass) (events-probability count words depth none l) ∙ sym e
@@ -96,18 +108,21 @@ module _ (count : ℕ) (words : List ℕ) (falls : Falling certain (eventsOf cou
             × (pathMass threshold mass (drop depth events) ≡ pathMass threshold (working mass (getD events depth none .probability)) (drop (suc depth) events))
         s = rw (drop-cons events depth none (omega (arith, events-length count words))) (path-on threshold mass (getD events depth none) (drop (suc depth) events) h)
 
--- on the way down: a branch in hand, the pending entries on the stack, and the same ends to come as at the start
-pub record Going (count threshold : ℕ) (words : List ℕ) (all : List End) (depth mass low high top : ℕ) (stack : List ℕ) : Type 0 where
+-- on the way down: a branch in hand, the pending entries on the stack, and the same ends to come as at the start; the masses of the branch
+-- and the entries are at most the mass pending at the start
+pub record Going (count threshold : ℕ) (words : List ℕ) (all : List End) (pending depth mass low high top : ℕ) (stack : List ℕ) : Type 0 where
   pub hand : SoundBranch count depth mass low high (length (drop top stack))
   pub held : Stack count top stack
   pub ahead : all ≡ branchEnds threshold (eventsOf count words) (branchOf depth mass low high) ++ toCome count threshold words top stack
+  pub lighter : mass + pendingMass (drop top stack) ≤ pending
 
 module _ (count threshold : ℕ) (words : List ℕ) where
-  module _ (all : List End) (depth mass low high top : ℕ) (stack : List ℕ) (g : Going count threshold words all depth mass low high top stack) where
+  module _ (all : List End) (pending depth mass low high top : ℕ) (stack : List ℕ)
+      (g : Going count threshold words all pending depth mass low high top stack) where
     -- the ends of the branch in hand are one end, which stops at the mass m, and n dropped ones
     pub come : (m n : ℕ) → ends threshold mass (drop depth (eventsOf count words)) ≡ pathEnd threshold m (count - depth) ∷ replicate n dropped
-        → m ≤ whole → (0 < n → 4 ≤ top) → Descended count threshold words all stack (descentOf threshold top m low high n)
-    come m n below light room = step (decLt m threshold)
+        → m ≤ mass → (0 < n → 4 ≤ top) → Descended count threshold words all pending stack (descentOf threshold top m low high n)
+    come m n below less room = step (decLt m threshold)
       where
         k : ℕ
         k = joined low high
@@ -124,7 +139,7 @@ module _ (count threshold : ℕ) (words : List ℕ) where
         whole-path : path ++ replicate (count - depth) false ≡ scenarioOf count k
         whole-path = rw deep at (sym (scenario-works depth (count - depth) k (g .hand .decided)))
 
-        step : Dec (m < threshold) → Descended count threshold words all stack (descentOf threshold top m low high n)
+        step : Dec (m < threshold) → Descended count threshold words all pending stack (descentOf threshold top m low high n)
         step (yes h) =
             rw (descent-cut threshold top m low high n h)
             (record {
@@ -133,6 +148,7 @@ module _ (count threshold : ℕ) (words : List ℕ) where
               room = room;
               light = omega arith;
               decided = omega (arith, pow-pos count);
+              lighter = omega (arith, g .lighter);
             })
         step (no h) =
             rw (descent-enough threshold top m low high n (omega arith))
@@ -140,18 +156,19 @@ module _ (count threshold : ℕ) (words : List ℕ) where
               ends = first ∙ rw (pathEnd-enough threshold m (count - depth) (omega arith), whole-path);
               held = g .held;
               room = room;
-              light = light;
+              light = omega (arith, g .hand .light);
               decided = omega (arith, g .hand .decided, pow-mono {i = depth} {j = count} (g .hand .deep));
+              lighter = omega (arith, g .lighter);
             })
 
     -- a branch below the threshold
-    pub come-cut : mass < threshold → Descended count threshold words all stack (descentOf threshold top mass low high 0)
+    pub come-cut : mass < threshold → Descended count threshold words all pending stack (descentOf threshold top mass low high 0)
     come-cut h =
-        come mass 0 (rw (ends-cut threshold mass (drop depth (eventsOf count words)) h, pathEnd-cut threshold mass (count - depth) h)) (g .hand .light) (λ (z : 0 < 0). omega arith)
+        come mass 0 (rw (ends-cut threshold mass (drop depth (eventsOf count words)) h, pathEnd-cut threshold mass (count - depth) h)) (omega arith) (λ (z : 0 < 0). omega arith)
 
     -- a branch with no event left
-    pub come-leaf : threshold ≤ mass → count ≤ depth → Descended count threshold words all stack (descentOf threshold top mass low high 0)
-    come-leaf h l = come mass 0 (rw (over, nothing, ends-leaf threshold mass h, pathEnd-enough threshold mass 0 h)) (g .hand .light) (λ (z : 0 < 0). omega arith)
+    pub come-leaf : threshold ≤ mass → count ≤ depth → Descended count threshold words all pending stack (descentOf threshold top mass low high 0)
+    come-leaf h l = come mass 0 (rw (over, nothing, ends-leaf threshold mass h, pathEnd-enough threshold mass 0 h)) (omega arith) (λ (z : 0 < 0). omega arith)
       where
         over : drop depth (eventsOf count words) ≡ []
         over = drop-of-length-le (eventsOf count words) {i = depth} (omega (arith, events-length count words))
@@ -163,15 +180,19 @@ module _ (count threshold : ℕ) (words : List ℕ) where
       pub room : 4 ≤ top
       room = omega (arith, g .hand .room, length-drop top stack, g .held .sized)
 
+      worked-less : (works : ℕ) → works ≡ working mass (getD words (depth * 4) 0) → works ≤ mass
+      worked-less works e = omega (arith, e, works-le mass (getD words (depth * 4) 0) (probable count words falls depth l))
+
       pub worked-le : (works : ℕ) → works ≡ working mass (getD words (depth * 4) 0) → works ≤ whole
-      worked-le works e = omega (arith, e, works-le mass (getD words (depth * 4) 0) (probable count words falls depth l), g .hand .light)
+      worked-le works e = omega (arith, worked-less works e, g .hand .light)
 
       -- the "fails" side falls below the threshold
       pub come-straight : failing mass (getD words (depth * 4) 0) < threshold → (works : ℕ) → works ≡ working mass (getD words (depth * 4) 0)
           → (s : Stop) → Stopped count threshold words (depth + 1) works s
-          → Descended count threshold words all stack (descentOf threshold top (s .mass) low high (s .depth - depth))
+          → Descended count threshold words all pending stack (descentOf threshold top (s .mass) low high (s .depth - depth))
       come-straight less works worked s stopped =
-          come (s .mass) (s .depth - depth) (rw (← left-at count words depth, stops, steps) path) (stopped .light) (λ (z : 0 < s .depth - depth). room)
+          come (s .mass) (s .depth - depth) (rw (← left-at count words depth, stops, steps) path) (omega (arith, stopped .lighter, worked-less works worked))
+          (λ (z : 0 < s .depth - depth). room)
         where
           events : List Event
           events = drop depth (eventsOf count words)
@@ -200,13 +221,13 @@ module _ (count threshold : ℕ) (words : List ℕ) where
       -- else it is laid down, and the "works" side is in hand
       pub down : (stack′ : List ℕ) (fails works : ℕ) → fails ≡ failing mass (getD words (depth * 4) 0) → works ≡ working mass (getD words (depth * 4) 0)
           → Pushed depth fails low high (top - 4) stack stack′
-          → Going count threshold words all (depth + 1) works low high (top - 4) stack′
+          → Going count threshold words all pending (depth + 1) works low high (top - 4) stack′
       down stack′ fails works failed worked d =
           record {
             hand =
                 record {
                   deep = omega arith;
-                  light = omega (arith, worked, works-le mass q fits, g .hand .light);
+                  light = worked-le works worked;
                   word = g .hand .word;
                   decided = omega (arith, g .hand .decided, pow-succ' 2 depth, ap (λ (n : ℕ). 2 ^ n) (add-one depth));
                   room = omega (arith, length-drop (top - 4) stack′, size′, g .hand .room, length-drop top stack, g .held .sized);
@@ -219,6 +240,7 @@ module _ (count threshold : ℕ) (words : List ℕ) where
                   entries = rw (four, again) (laid, g .held .entries);
                 };
             ahead = g .ahead ∙ both;
+            lighter = rw (four, again, mass-branch (depth + 1) fails (omega arith)) (omega (arith, failed, worked, parts-le mass q fits, g .lighter));
           }
         where
           events : List Event
@@ -294,11 +316,14 @@ module _ (count threshold : ℕ) (words : List ℕ) where
         ++ toCome count threshold words (at + 4) stack
     taken-ends l = rw (words-at stack at fits, words-branch threshold (eventsOf count words) (getD stack at 0) (getD stack (at + 1) 0) (getD stack (at + 2) 0) (getD stack (at + 3) 0) l)
 
+    pub taken-mass : getD stack at 0 ≤ 128 → pendingMass (drop at stack) ≡ getD stack (at + 1) 0 + pendingMass (drop (at + 4) stack)
+    taken-mass l = rw (words-at stack at fits, mass-branch (getD stack at 0) (getD stack (at + 1) 0) l)
+
     pub run-some : 128 < getD stack at 0 → 0 < getD stack (at + 1) 0
     run-some l = laid .0 .run l
 
     pub taken-run : 128 < getD stack at 0
-        → Descended count threshold words (toCome count threshold words at stack) stack
+        → Descended count threshold words (toCome count threshold words at stack) (pendingMass (drop at stack)) stack
         (record { at = at + 4; relevant = false; mass = 0; low = 0; high = 0; dropped = getD stack (at + 1) 0 - 1 })
     taken-run l =
         record {
@@ -309,6 +334,7 @@ module _ (count threshold : ℕ) (words : List ℕ) where
           room = λ (z : 0 < getD stack (at + 1) 0 - 1). omega arith;
           light = omega arith;
           decided = omega (arith, pow-pos count);
+          lighter = rw (words-at stack at fits) (omega arith);
         }
       where
         more : getD stack (at + 1) 0 ≡ suc (getD stack (at + 1) 0 - 1)
@@ -316,7 +342,7 @@ module _ (count threshold : ℕ) (words : List ℕ) where
 
 -- dropped ends laid down
 pub delayed-none : (number at : ℕ) (stack : List ℕ) → number ≡ 0 → Delayed number at stack stack at
-delayed-none number at stack e = record { ahead = λ count threshold words s. rw e; held = λ count s. s }
+delayed-none number at stack e = record { ahead = λ count threshold words s. rw e; held = λ count s. s; same = λ count s. refl }
 
 pub delayed-some : (number at : ℕ) (stack stack′ : List ℕ) → 0 < number → 4 ≤ at
     → stack′ ≡ sets stack (at - 4) (129 ∷ number ∷ 0 ∷ 0 ∷ []) → Delayed number at stack stack′ (at - 4)
@@ -331,6 +357,7 @@ delayed-some number at stack stack′ some room laid =
             sized = laid-size stack stack′ (at - 4) 129 number 0 0 laid (s .sized);
             entries = rw (four count s, again) (record { run = λ (z : 128 < 129). some; branch = λ (z : 129 ≤ 128). absurd (omega arith) }, s .entries);
           };
+      same = λ count s. rw (four count s, again, mass-run 129 number (omega arith)) (omega arith);
     }
   where
     again : at - 4 + 4 ≡ at

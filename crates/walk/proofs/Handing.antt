@@ -6,28 +6,29 @@ use mathlib.Core.List.{List, _++_}
 use Prim.Native.Nat.{ℕ, suc, _+_, _-_, _≤_, _<_, min}
 use native.Mathlib.Nat.{zero-add}
 use native.Mathlib.Omega.{arith}
-use lib.ListN.{length, replicate, length-append, length-replicate}
+use lib.ListN.{length, drop, replicate, length-append, length-replicate}
 use lib.Pow.{pow-pos}
 use Rattle.walk.specs.Ends.{End, dropped}
-use Rattle.walk.specs.Stack.{toCome, Stack}
+use Rattle.walk.specs.Stack.{toCome, pendingMass, Stack}
 use Rattle.walk.specs.Steps.{Handed, Delayed, Descended}
 use Rattle.walk.specs.declared.Descent.{Descent}
 use Rattle.walk.proofs.Dropped.{runs-add}
 use Rattle.walk.proofs.Resume.{none-to-come}
 
--- on the way: so many dropped ends were passed, and the others are to come
-pub record Passing (count threshold : ℕ) (words : List ℕ) (all : List End) (allowed at left : ℕ) (stack : List ℕ) : Type 0 where
+-- on the way: so many dropped ends were passed, the others are to come, and no more mass is pending
+pub record Passing (count threshold : ℕ) (words : List ℕ) (at₀ : ℕ) (stack₀ : List ℕ) (allowed at left : ℕ) (stack : List ℕ) : Type 0 where
   pub passed : ℕ
-  pub ends : all ≡ replicate passed dropped ++ toCome count threshold words at stack
+  pub ends : toCome count threshold words at₀ stack₀ ≡ replicate passed dropped ++ toCome count threshold words at stack
   pub counted : allowed ≡ passed + left
   pub held : Stack count at stack
+  pub lighter : pendingMass (drop at stack) ≤ pendingMass (drop at₀ stack₀)
 
 pub starts : (count threshold : ℕ) (words : List ℕ) (allowed at : ℕ) (stack : List ℕ) → Stack count at stack
-    → Passing count threshold words (toCome count threshold words at stack) allowed at allowed stack
-starts count threshold words allowed at stack s = record { passed = 0; ends = refl; counted = sym (zero-add allowed); held = s }
+    → Passing count threshold words at stack allowed at allowed stack
+starts count threshold words allowed at stack s = record { passed = 0; ends = refl; counted = sym (zero-add allowed); held = s; lighter = omega arith }
 
 module _ (count threshold : ℕ) (words : List ℕ) (at₀ : ℕ) (stack₀ : List ℕ) (allowed at left : ℕ) (stack : List ℕ)
-    (g : Passing count threshold words (toCome count threshold words at₀ stack₀) allowed at left stack) where
+    (g : Passing count threshold words at₀ stack₀ allowed at left stack) where
   -- no end may be reached any more
   pub used-up : left ≡ 0 → Handed count threshold words at₀ stack₀ allowed stack (record { at = at; left = 0; found = false; mass = 0; low = 0; high = 0 })
   used-up e =
@@ -40,6 +41,7 @@ module _ (count threshold : ℕ) (words : List ℕ) (at₀ : ℕ) (stack₀ : Li
         light = omega arith;
         decided = omega (arith, pow-pos count);
         nothing = λ same. (refl, refl, refl);
+        lighter = omega (arith, g .lighter);
       }
 
   -- no end is to come
@@ -54,13 +56,14 @@ module _ (count threshold : ℕ) (words : List ℕ) (at₀ : ℕ) (stack₀ : Li
         light = omega arith;
         decided = omega (arith, pow-pos count);
         nothing = λ same. (refl, refl, refl);
+        lighter = omega (arith, g .lighter);
       }
     where
       last : at ≡ 512
       last = omega (arith, g .held .within)
 
   -- a descent
-  module _ (some : left ≡ 0 → ⊥) (stack₁ : List ℕ) (d : Descent) (s : Descended count threshold words (toCome count threshold words at stack) stack₁ d) where
+  module _ (some : left ≡ 0 → ⊥) (stack₁ : List ℕ) (d : Descent) (s : Descended count threshold words (toCome count threshold words at stack) (pendingMass (drop at stack)) stack₁ d) where
     -- to dropped ends: so many as may be reached are passed, the others are laid down
     module _ (e : d .relevant ≡ false) (passed : ℕ) (reached : passed ≡ min (d .dropped + 1) left) (stack₂ : List ℕ) (top : ℕ)
         (laid : Delayed (d .dropped - (passed - 1)) (d .at) stack₁ stack₂ top) where
@@ -77,13 +80,14 @@ module _ (count threshold : ℕ) (words : List ℕ) (at₀ : ℕ) (stack₀ : Li
           ∙ sym (runs-add passed (d .dropped - (passed - 1)) rest)
           ∙ ap (λ l. replicate passed dropped ++ l) (sym (laid .ahead count threshold words (s .held)))
 
-      pub further : Passing count threshold words (toCome count threshold words at₀ stack₀) allowed top (left - passed) stack₂
+      pub further : Passing count threshold words at₀ stack₀ allowed top (left - passed) stack₂
       further =
           record {
             passed = g .passed + passed;
             ends = g .ends ∙ ap (λ l. replicate (g .passed) dropped ++ l) parts ∙ runs-add (g .passed) passed (toCome count threshold words top stack₂);
             counted = omega (arith, g .counted, reached);
             held = laid .held count (s .held);
+            lighter = omega (arith, g .lighter, s .lighter, laid .same count (s .held));
           }
 
       -- fewer ends are then to come
@@ -103,4 +107,5 @@ module _ (count threshold : ℕ) (words : List ℕ) (at₀ : ℕ) (stack₀ : Li
           light = s .light;
           decided = s .decided;
           nothing = λ (clash : true ≡ false). absurd (true≢false clash);
+          lighter = omega (arith, g .lighter, s .lighter, laid .same count (s .held));
         }

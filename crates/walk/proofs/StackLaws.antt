@@ -14,7 +14,7 @@ use Rattle.walk.specs.Pending.{Branch, branch, branchEnds, root}
 use borrow.Author.Tests.{lt-ltb, le-ltb}
 use Rattle.mass.specs.Split.{working}
 use Rattle.walk.specs.WorksPath.{pathSteps, pathMass, pathEnd}
-use Rattle.walk.specs.Stack.{branchOf, wordsEnds}
+use Rattle.walk.specs.Stack.{branchOf, wordsEnds, entryMass}
 use Rattle.walk.specs.Steps.{descentOf}
 
 -- law: where its mass is at least the threshold and events are left, a branch is its two parts at the next event, "works" before "fails"
@@ -73,6 +73,15 @@ module _ (t : ℕ) (events : List Event) (depth mass low high : ℕ) where
   pub words-branch : depth ≤ 128 → wordsEnds t events depth mass low high ≡ branchEnds t events (branchOf depth mass low high)
   unfolding wordsEnds
   words-branch h = rw (le-ltb 128 depth h, wordsEnds)
+
+-- and the mass of each
+pub mass-run : (depth mass : ℕ) → 128 < depth → entryMass depth mass ≡ 0
+unfolding entryMass
+mass-run depth mass h = rw (lt-ltb 128 depth h, entryMass)
+
+pub mass-branch : (depth mass : ℕ) → depth ≤ 128 → entryMass depth mass ≡ mass
+unfolding entryMass
+mass-branch depth mass h = rw (le-ltb 128 depth h, entryMass)
 
 module _ (threshold at mass low high number : ℕ) where
   pub descent-cut : mass < threshold

@@ -1,9 +1,9 @@
 -- The stack of the walk in memory: what its words denote.
 -- Assumes nothing.
-use mathlib.Core.Path.{_≡_}
+use mathlib.Core.Path.{_≡_, refl}
 use mathlib.Core.Bool.{true, false}
 use mathlib.Core.List.{List, [], _∷_, _++_}
-use Prim.Native.Nat.{ℕ, _*_, _%_, _^_, _≤_, _<_}
+use Prim.Native.Nat.{ℕ, _+_, _*_, _%_, _^_, _≤_, _<_}
 use lib.Dec.{ltb}
 use lib.ListN.{length, drop, replicate}
 use lib.Seq.{sets}
@@ -36,6 +36,23 @@ stackEnds t events (depth ∷ mass ∷ low ∷ high ∷ rest) = wordsEnds t even
 -- the ends still to come: the stack is the words from `at` on; `count` events in `words`, four words to an event
 abbrev pub toCome : ℕ → ℕ → List ℕ → ℕ → List ℕ → List End
 toCome count threshold words at stack = stackEnds threshold (eventsOf count words) (drop at stack)
+
+-- the mass that one entry holds, by its first two words, as in wordsEnds
+unfoldable pub entryMass : ℕ → ℕ → ℕ
+entryMass depth mass = elim (ltb 128 depth) [ true ↦ 0 | false ↦ mass ]
+
+-- the mass of the pending branches that a list of words holds, four words to an entry, as in stackEnds; dropped ends have none
+abbrev pub pendingMass : List ℕ → ℕ
+pendingMass [] = 0
+pendingMass (a ∷ []) = 0
+pendingMass (a ∷ b ∷ []) = 0
+pendingMass (a ∷ b ∷ c ∷ []) = 0
+pendingMass (depth ∷ mass ∷ low ∷ high ∷ rest) = entryMass depth mass + pendingMass rest
+
+-- example: of a branch of mass 7, five dropped ends and a branch of mass 20, the branches count
+example-pending : pendingMass (2 ∷ 7 ∷ 0 ∷ 0 ∷ 129 ∷ 5 ∷ 0 ∷ 0 ∷ 1 ∷ 20 ∷ 0 ∷ 0 ∷ []) ≡ 27
+unfolding entryMass
+example-pending = refl
 
 -- what holds of a branch in four words, and of the words under them: no more entries lie under a branch than its depth says
 pub record SoundBranch (count depth mass low high below : ℕ) : Type 0 where

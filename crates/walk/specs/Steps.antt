@@ -13,7 +13,7 @@ use Rattle.plan.specs.Lists.{eventsOf}
 use Rattle.walk.specs.Scenario.{scenarioOf}
 use Rattle.walk.specs.Ends.{End, dropped, relevant}
 use Rattle.walk.specs.WorksPath.{pathSteps, pathMass}
-use Rattle.walk.specs.Stack.{toCome, Stack}
+use Rattle.walk.specs.Stack.{toCome, pendingMass, Stack}
 use Rattle.walk.specs.declared.Descent.{Descent}
 use Rattle.walk.specs.declared.Parted.{Parted}
 use Rattle.walk.specs.declared.Step.{Step}
@@ -26,7 +26,7 @@ handedOut count false mass low high = []
 
 -- A step, from a stack that begins at `at`, where so many ends as `allowed` may still be reached: the ends to come begin with `passed`
 -- dropped ones, then the one handed out; the ends then still to come, and how many may still be reached, are the rest. Where none is
--- handed out, no more may be reached, or none is to come.
+-- handed out, no more may be reached, or none is to come. The mass handed out comes off that of the pending branches.
 pub record Handed (count threshold : ℕ) (words : List ℕ) (at : ℕ) (stack : List ℕ) (allowed : ℕ) (stack′ : List ℕ) (r : Step) : Type 0 where
   pub passed : ℕ
   pub ends : toCome count threshold words at stack
@@ -37,6 +37,7 @@ pub record Handed (count threshold : ℕ) (words : List ℕ) (at : ℕ) (stack :
   pub light : r .mass ≤ whole
   pub decided : joined (r .low) (r .high) < 2 ^ count
   pub nothing : r .found ≡ false → (r .mass ≡ 0) × (r .low ≡ 0) × (r .high ≡ 0)
+  pub lighter : r .mass + pendingMass (drop (r .at) stack′) ≤ pendingMass (drop at stack)
 
 -- a mass in two parts
 pub record TwoParts (mass : ℕ) (m : Parted) : Type 0 where
@@ -51,6 +52,7 @@ pub record Stopped (count threshold : ℕ) (words : List ℕ) (depth mass : ℕ)
   pub stops : r .mass ≡ pathMass threshold mass (drop depth (eventsOf count words))
   pub within : r .depth ≤ count
   pub light : r .mass ≤ whole
+  pub lighter : r .mass ≤ mass
 
 -- the branch where an event fails, laid down: its set of failing events is in two words
 pub record Pushed (depth mass low high at : ℕ) (stack stack′ : List ℕ) : Type 0 where
@@ -60,19 +62,21 @@ pub record Pushed (depth mass low high at : ℕ) (stack stack′ : List ℕ) : T
   pub set : joined setLow setHigh ≡ joined low high + 2 ^ depth
   pub laid : stack′ ≡ sets stack at ((depth + 1) ∷ mass ∷ setLow ∷ setHigh ∷ [])
 
--- so many dropped ends laid down before the ends to come of a stack, whatever the plan
+-- so many dropped ends laid down before the ends to come of a stack, whatever the plan; the mass pending is the same
 pub record Delayed (number at : ℕ) (stack stack′ : List ℕ) (r : ℕ) : Type 0 where
   pub ahead : (count threshold : ℕ) (words : List ℕ) → Stack count at stack
       → toCome count threshold words r stack′ ≡ replicate number dropped ++ toCome count threshold words at stack
   pub held : (count : ℕ) → Stack count at stack → Stack count r stack′
+  pub same : (count : ℕ) → Stack count at stack → pendingMass (drop r stack′) ≡ pendingMass (drop at stack)
 
 -- the end that a descent comes to
 abbrev pub endOf : ℕ → Bool → ℕ → ℕ → ℕ → End
 endOf count true mass low high = relevant (scenarioOf count (joined low high)) mass
 endOf count false mass low high = dropped
 
--- a descent takes an entry off the stack: one end, then so many dropped ones as it says, then what is left on the stack
-pub record Descended (count threshold : ℕ) (words : List ℕ) (all : List End) (stack : List ℕ) (r : Descent) : Type 0 where
+-- a descent takes an entry off the stack: one end, then so many dropped ones as it says, then what is left on the stack; the end's mass
+-- comes off `pending`, the mass that was pending before
+pub record Descended (count threshold : ℕ) (words : List ℕ) (all : List End) (pending : ℕ) (stack : List ℕ) (r : Descent) : Type 0 where
   pub ends : all
       ≡ endOf count (r .relevant) (r .mass) (r .low) (r .high)
       ∷ (replicate (r .dropped) dropped ++ toCome count threshold words (r .at) stack)
@@ -80,6 +84,7 @@ pub record Descended (count threshold : ℕ) (words : List ℕ) (all : List End)
   pub room : 0 < r .dropped → 4 ≤ r .at
   pub light : r .mass ≤ whole
   pub decided : joined (r .low) (r .high) < 2 ^ count
+  pub lighter : r .mass + pendingMass (drop (r .at) stack) ≤ pending
 
 -- the answer of a descent that stops at a mass: `number` dropped ends follow
 unfoldable pub descentOf : ℕ → ℕ → ℕ → ℕ → ℕ → ℕ → Descent

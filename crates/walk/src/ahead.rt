@@ -16,7 +16,7 @@ ghost use Rattle.plan.specs.Held.{Falling};
 ghost use mathlib.Core.List.{_++_};
 ghost use mathlib.Core.Bool.{false};
 ghost use Rattle.walk.specs.Pending.{branchEnds};
-ghost use Rattle.walk.specs.Stack.{branchOf, SoundBranch, toCome, Stack};
+ghost use Rattle.walk.specs.Stack.{branchOf, SoundBranch, toCome, pendingMass, Stack};
 ghost use Rattle.walk.specs.Steps.{Handed, TwoParts, Stopped, Pushed, Delayed, Descended, descentOf};
 
 // The first word of an entry that is a number of dropped ends, and no branch.
@@ -159,7 +159,7 @@ fn go_down(
     ensures { λ r. ⌜ Descended count threshold (now (events .entry))
         (branchEnds threshold (eventsOf count (now (events .entry))) (branchOf depth mass low high)
         ++ toCome count threshold (now (events .entry)) at (now (stack .entry)))
-        (now (stack .exit)) r ⌝ }
+        (mass + pendingMass (drop at (now (stack .entry)))) (now (stack .exit)) r ⌝ }
 {
     let mut top = at;
     let mut d = depth;
@@ -196,7 +196,8 @@ fn descend(
 ) -> Descent
     requires { ⌜ (count ≤ 128) × Falling certain (eventsOf count (now events)) × (at < 512) × Stack count at (now stack) ⌝ }
     ensures { λ r. ⌜ Descended count threshold (now (events .entry))
-        (toCome count threshold (now (events .entry)) at (now (stack .entry))) (now (stack .exit)) r ⌝ }
+        (toCome count threshold (now (events .entry)) at (now (stack .entry))) (pendingMass (drop at (now (stack .entry))))
+        (now (stack .exit)) r ⌝ }
 {
     let depth = stack[at];
     let mass = stack[at + 1];

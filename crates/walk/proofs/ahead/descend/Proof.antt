@@ -1,7 +1,7 @@
 -- `walk::ahead::descend` meets its contract: the entry taken off the stack is a number of dropped ends, or a branch to go down from.
 -- Assumes nothing.
 use native.Mathlib.Omega.{arith}
-use Rattle.walk.proofs.Descents.{under, taken, taken-ends, run-some, taken-run}
+use Rattle.walk.proofs.Descents.{under, taken, taken-ends, taken-mass, run-some, taken-run}
 use Rattle.walk.proofs.ahead.descend.Statement.{statement}
 use Rattle.walk.proofs.ahead.descend.Tie as tie
 
@@ -69,7 +69,10 @@ returns-2 : tie.Need-returns-2
 returns-2 c =
     let one = c .before .before .before .before in
     let s = one .before .before .before in
-    rw (taken-ends (s .args .count) (s .args .threshold) (s .args .events .now) (s .args .at) (s .args .stack .now) (s .pre .3) (s .pre .2) (one .if1 .left)) (c .go-down .ensures)
+    rw (
+      taken-ends (s .args .count) (s .args .threshold) (s .args .events .now) (s .args .at) (s .args .stack .now) (s .pre .3) (s .pre .2) (one .if1 .left),
+      taken-mass (s .args .count) (s .args .threshold) (s .args .events .now) (s .args .at) (s .args .stack .now) (s .pre .3) (s .pre .2) (one .if1 .left),
+    ) (c .go-down .ensures)
 
 pub descend-spec : {M : Type 1} → statement M
 descend-spec =

@@ -2,38 +2,40 @@
 -- ends to come as at the start. The measure is the number of events not yet decided. Assumes nothing.
 use mathlib.Core.Path.{refl}
 use mathlib.Core.List.{_++_}
-use Prim.Native.Nat.{_-_}
+use Prim.Native.Nat.{_+_, _-_}
 use borrow.Author.Needs.{needs}
 use native.Mathlib.Omega.{arith}
+use lib.ListN.{drop}
 use Rattle.plan.specs.Lists.{eventsOf}
 use Rattle.walk.specs.Pending.{branchEnds}
-use Rattle.walk.specs.Stack.{branchOf, toCome}
+use Rattle.walk.specs.Stack.{branchOf, toCome, pendingMass}
 use Rattle.walk.proofs.Descents.{probable, Going, come-cut, come-leaf, come-straight, worked-le, room, room-next, down}
 use Rattle.walk.proofs.ahead.go_down.Statement.{statement}
 use Rattle.walk.proofs.ahead.go_down.Tie as tie
 
 abbrev Inv-loop : tie.InvT-loop
 Inv-loop count threshold events stack₀ at depth mass low high top₀ d₀ m₀ stack top d m =
-    Going count threshold events (branchEnds threshold (eventsOf count events) (branchOf depth mass low high) ++ toCome count threshold events at stack₀) d m low high top stack
+    Going count threshold events (branchEnds threshold (eventsOf count events) (branchOf depth mass low high) ++ toCome count threshold events at stack₀)
+    (mass + pendingMass (drop at stack₀)) d m low high top stack
 
 abbrev μ-loop : tie.MeasureT-loop
 μ-loop count threshold events stack₀ at depth mass low high top₀ d₀ m₀ stack top d m = count - d
 
 loop-holds : tie.Need-loop-holds Inv-loop μ-loop
-loop-holds c = record { hand = c .pre .1 .0; held = c .pre .1 .1; ahead = refl }
+loop-holds c = record { hand = c .pre .1 .0; held = c .pre .1 .1; ahead = refl; lighter = omega arith }
 
 come-to-requires : tie.Need-come-to-requires Inv-loop μ-loop
 come-to-requires c κs = search needs
 
 returns : tie.Need-returns Inv-loop μ-loop
-returns c = rw (c .come-to .ensures) (come-cut _ _ _ _ _ _ _ _ _ _ (c .before .before .loop .inv) (c .before .if1 .taken))
+returns c = rw (c .come-to .ensures) (come-cut _ _ _ _ _ _ _ _ _ _ _ (c .before .before .loop .inv) (c .before .if1 .taken))
 
 come-to-requires-2 : tie.Need-come-to-requires-2 Inv-loop μ-loop
 come-to-requires-2 c κs = search needs
 
 returns-2 : tie.Need-returns-2 Inv-loop μ-loop
 returns-2 c =
-    rw (c .come-to2 .ensures) (come-leaf _ _ _ _ _ _ _ _ _ _ (c .before .before .before .loop .inv) (c .before .before .if1 .left) (c .before .if2 .taken))
+    rw (c .come-to2 .ensures) (come-leaf _ _ _ _ _ _ _ _ _ _ _ (c .before .before .before .loop .inv) (c .before .before .if1 .left) (c .before .if2 .taken))
 
 fails-requires : tie.Need-fails-requires Inv-loop μ-loop
 fails-requires c κs = (omega arith, c .before .before .loop .inv .hand .light, probable _ _ (c .before .before .before .pre .0 .1) _ (c .if2 .left))
@@ -50,7 +52,7 @@ straight-requires : tie.Need-straight-requires Inv-loop μ-loop
 straight-requires c κs =
     let two = c .before .before .before in
     let s = two .before .before .before in
-    let l = worked-le _ _ _ _ _ _ _ _ _ _ (two .before .before .loop .inv) (s .pre .0 .0) (s .pre .0 .1) (two .before .if1 .left) (two .if2 .left) _ (c .before .works .ensures) in
+    let l = worked-le _ _ _ _ _ _ _ _ _ _ _ (two .before .before .loop .inv) (s .pre .0 .0) (s .pre .0 .1) (two .before .if1 .left) (two .if2 .left) _ (c .before .works .ensures) in
     (s .pre .0 .0, omega arith, l, s .pre .0 .1)
 
 sub-come-to : tie.Need-sub-come-to Inv-loop μ-loop
@@ -66,21 +68,21 @@ returns-3 c =
     let two = fell .before in
     let s = two .before .before .before in
     rw (c .come-to3 .ensures)
-    (come-straight _ _ _ _ _ _ _ _ _ _ (two .before .before .loop .inv) (s .pre .0 .0) (s .pre .0 .1) (two .before .if1 .left) (two .if2 .left)
+    (come-straight _ _ _ _ _ _ _ _ _ _ _ (two .before .before .loop .inv) (s .pre .0 .0) (s .pre .0 .1) (two .before .if1 .left) (two .if2 .left)
     (rw (fell .fails .ensures) at (three .if3 .taken)) _ (three .before .works .ensures) _ (c .before .before .straight .ensures))
 
 sub-top : tie.Need-sub-top Inv-loop μ-loop
 sub-top c =
     let two = c .before .before .before in
     let s = two .before .before .before in
-    room _ _ _ _ _ _ _ _ _ _ (two .before .before .loop .inv) (s .pre .0 .0) (s .pre .0 .1) (two .before .if1 .left) (two .if2 .left)
+    room _ _ _ _ _ _ _ _ _ _ _ (two .before .before .loop .inv) (s .pre .0 .0) (s .pre .0 .1) (two .before .if1 .left) (two .if2 .left)
 
 push-requires : tie.Need-push-requires Inv-loop μ-loop
 push-requires c κs =
     let two = c .before .before .before .before in
     let s = two .before .before .before in
     let g = two .before .before .loop .inv in
-    (omega arith, g .hand .word, g .hand .decided, room-next _ _ _ _ _ _ _ _ _ _ g (s .pre .0 .0) (s .pre .0 .1) (two .before .if1 .left) (two .if2 .left))
+    (omega arith, g .hand .word, g .hand .decided, room-next _ _ _ _ _ _ _ _ _ _ _ g (s .pre .0 .0) (s .pre .0 .1) (two .before .if1 .left) (two .if2 .left))
 
 add-d : tie.Need-add-d Inv-loop μ-loop
 add-d c = omega arith
@@ -94,7 +96,7 @@ loop-again c =
     let fell = worked .before in
     let two = fell .before in
     let s = two .before .before .before in
-    down _ _ _ _ _ _ _ _ _ _ (two .before .before .loop .inv) (s .pre .0 .0) (s .pre .0 .1) (two .before .if1 .left) (two .if2 .left) _ _ _
+    down _ _ _ _ _ _ _ _ _ _ _ (two .before .before .loop .inv) (s .pre .0 .0) (s .pre .0 .1) (two .before .if1 .left) (two .if2 .left) _ _ _
     (fell .fails .ensures) (worked .works .ensures) (c .push .ensures)
 
 pub go-down-spec : {M : Type 1} → statement M

@@ -10,7 +10,7 @@ use Rattle.walk.proofs.ahead.next_relevant.Tie as tie
 
 abbrev Inv-loop : tie.InvT-loop
 Inv-loop count threshold events stack₀ at allowed top₀ left₀ stack top left =
-    Passing count threshold events (toCome count threshold events at stack₀) allowed top left stack
+    Passing count threshold events at stack₀ allowed top left stack
 
 abbrev μ-loop : tie.MeasureT-loop
 μ-loop count threshold events stack₀ at allowed top₀ left₀ stack top left = length (toCome count threshold events top stack)
