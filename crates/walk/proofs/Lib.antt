@@ -11,5 +11,6 @@ pub mod EndsLaws
 pub mod MemberLaws
 pub mod StackLaws
 pub mod Laws
+pub mod PendingMass
 pub mod Valid
 pub mod Theorems

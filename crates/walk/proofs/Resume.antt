@@ -20,10 +20,10 @@ use Rattle.walk.specs.Scenario.{Scenario, scenarioOf}
 use Rattle.walk.proofs.ScenarioLaws.{scenario-length}
 use Rattle.walk.specs.Ends.{End, dropped, relevant, after, ends, endsAfter, sumEnds, scenarios}
 use Rattle.walk.proofs.EndsLaws.{ends-cut, ends-leaf, ends-node}
-use Rattle.walk.proofs.StackLaws.{root-ends, words-run, words-branch}
+use Rattle.walk.proofs.StackLaws.{root-ends, words-run, words-branch, mass-branch}
 use Rattle.walk.proofs.Words.{laid-size, laid-words}
 use Rattle.walk.specs.Walk.{planEnds, complete}
-use Rattle.walk.specs.Stack.{Begun, SoundBranch, wordsEnds, stackEnds, toCome, SoundEntry, SoundEntries, Stack}
+use Rattle.walk.specs.Stack.{Begun, SoundBranch, wordsEnds, stackEnds, toCome, pendingMass, SoundEntry, SoundEntries, Stack}
 use Rattle.walk.specs.Steps.{Handed}
 use Rattle.walk.specs.declared.Step.{Step}
 
@@ -62,6 +62,10 @@ module _ (depth mass low high at : ℕ) (stack : List ℕ) (b : Alone depth mass
       → toCome count threshold words at stack ≡ endsAfter (scenarioOf depth (joined low high)) threshold mass (drop depth (eventsOf count words))
   begun-ends count threshold words =
       rw (b .only, words-branch threshold (eventsOf count words) depth mass low high few, append-nil, scenario-length)
+
+  -- its mass is the branch's
+  pub begun-mass : pendingMass (drop at stack) ≡ mass
+  begun-mass = rw (b .only, mass-branch depth mass few) (omega arith)
 
 -- at the root: the whole walk
 pub begun-whole : (at : ℕ) (stack : List ℕ) → Alone 0 whole 0 0 at stack → (count threshold : ℕ) (words : List ℕ)
@@ -177,6 +181,22 @@ module _ (count threshold : ℕ) (words : List ℕ) (at : ℕ) (stack : List ℕ
   none-dropped e zero same = refl
   none-dropped e (suc k) same = rw (s .ended e (omega arith), drop-nil {A = End} (suc k))
 
+  -- law: the ends that are reached
+  take-found : r .found ≡ true → take allowed before ≡ replicate (s .passed) dropped ++ (relevant scenario (r .mass) ∷ take (r .left) next)
+  take-found e = rw (ends-found e, counted-found e) (take-run (s .passed) (suc (r .left)) (relevant scenario (r .mass) ∷ next))
+
+  take-none : r .found ≡ false → take allowed before ≡ replicate (s .passed) dropped ++ []
+  take-none e =
+      rw (ends-none e, counted-none e)
+      (take-run (s .passed) (r .left) next ∙ ap (λ l. replicate (s .passed) dropped ++ l) (none-taken e (r .left) refl))
+
+  -- law: how many there are
+  pub left-found : r .found ≡ true → length (take allowed before) + r .left ≡ allowed + length (take (r .left) next)
+  left-found e = rw (take-found e, length-append, length-replicate (s .passed) dropped) (omega (arith, counted-found e))
+
+  pub left-none : r .found ≡ false → r .left + length (take allowed before) ≡ allowed
+  left-none e = rw (take-none e, length-append, length-replicate (s .passed) dropped) (omega (arith, counted-none e))
+
   -- law: the ends after those that may be reached
   pub drop-found : r .found ≡ true → drop allowed before ≡ drop (r .left) next
   drop-found e = rw (ends-found e, counted-found e) (drop-run (s .passed) (suc (r .left)) (relevant scenario (r .mass) ∷ next))
@@ -191,15 +211,10 @@ module _ (count threshold : ℕ) (words : List ℕ) (at : ℕ) (stack : List ℕ
     passes-run (suc n) list = passes (replicate n dropped ++ list) ∙ passes-run n list
 
     pub value-found : r .found ≡ true → value (take allowed before) ≡ value (relevant scenario (r .mass) ∷ take (r .left) next)
-    value-found e =
-        rw (ends-found e, counted-found e)
-        (ap value (take-run (s .passed) (suc (r .left)) (relevant scenario (r .mass) ∷ next))
-        ∙ passes-run (s .passed) (relevant scenario (r .mass) ∷ take (r .left) next))
+    value-found e = rw (take-found e) (passes-run (s .passed) (relevant scenario (r .mass) ∷ take (r .left) next))
 
     pub value-none : r .found ≡ false → value (take allowed before) ≡ value []
-    value-none e =
-        rw (ends-none e, counted-none e)
-        (ap value (take-run (s .passed) (r .left) next) ∙ passes-run (s .passed) (take (r .left) next) ∙ ap value (none-taken e (r .left) refl))
+    value-none e = rw (take-none e) (passes-run (s .passed) [])
 
   -- sums
   pub sum-found : (f : Scenario → ℕ → ℕ) → r .found ≡ true

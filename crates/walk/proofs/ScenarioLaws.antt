@@ -23,6 +23,12 @@ pub falling-probable : (q : ℕ) (events : List Event) → q ≤ certain → Fal
 falling-probable q [] h f = tt
 falling-probable q (e ∷ events) h f = let fits : e .probability ≤ certain = omega (arith, f .0) in (fits, falling-probable (e .probability) events fits (f .1))
 
+-- law: from any event on, they are still at most 1
+pub probable-drop : (i : ℕ) (events : List Event) → Probabilities events → Probabilities (drop i events)
+probable-drop zero events p = p
+probable-drop (suc i) [] p = tt
+probable-drop (suc i) (e ∷ events) p = probable-drop i events (p .1)
+
 -- law: from any event on, they fall from its own probability
 pub falling-drop : (q : ℕ) (events : List Event) (i : ℕ) (none : Event) → Falling q events → i < length events
     → Falling (getD events i none .probability) (drop i events)
