@@ -21,16 +21,16 @@ use Rattle.walk.proofs.Valid.{held-probable}
 use Rattle.walk.proofs.Resume.{Alone, begun-stack, begun-whole, root-entry, complete-at}
 use Rattle.pairs.specs.Pairs.{place}
 use Rattle.bounds.specs.Bounds.{cuts}
-use Rattle.bounds.specs.Tallied.{coming, Ready, Tallied, Summed, Cleared}
+use Rattle.bounds.specs.Tallied.{coming, reached, Ready, Tallied, Summed, Cleared}
 use Rattle.bounds.specs.Calls.{totalsOf}
 use Rattle.bounds.specs.declared.Tally.{Tally}
 
 module _ (h : Header) (links words : List ℕ) (at : ℕ) (stack lower : List ℕ) (b : Alone 0 whole 0 0 at stack) (clear : Cleared lower) where
   -- nothing is examined at the root
   abbrev start : Tally
-  start = record { at = at; number = 0; mass = 0 }
+  start = record { at = at; left = h .limit; number = 0; mass = 0 }
 
-  pub ready-whole : Held h links words → h .limit < 4294967296 → Ready h links words stack lower start (h .limit)
+  pub ready-whole : Held h links words → h .limit < 4294967296 → Ready h links words stack lower start
   ready-whole held few =
       record {
         held = held;
@@ -43,7 +43,7 @@ module _ (h : Header) (links words : List ℕ) (at : ℕ) (stack lower : List �
         counted = omega arith;
       }
 
-  module _ (stack′ lower′ : List ℕ) (r : Tally) (t : Tallied h links words stack lower start (h .limit) stack′ lower′ r) where
+  module _ (stack′ lower′ : List ℕ) (r : Tally) (t : Tallied h links words stack lower start stack′ lower′ r) where
     abbrev p : Plan
     p = planOfLists h links words
 
@@ -51,7 +51,7 @@ module _ (h : Header) (links words : List ℕ) (at : ℕ) (stack lower : List �
     unfolding planOfLists
     from-root = begun-whole at stack b (h .events) (h .threshold) words
 
-    firsts : take (h .limit) (coming h words at stack) ≡ firstEnds p
+    firsts : reached h words stack start ≡ firstEnds p
     unfolding planOfLists
     firsts = ap (take (h .limit)) from-root
 

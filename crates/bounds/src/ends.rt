@@ -37,7 +37,7 @@ fn examine(
     add_cut(&mut *lower, n, rows, nodes, step.mass);
 }
 
-// Goes on with a walk for at most k ends, adding up what they give.
+// Goes on with a walk for so many ends as may still be reached, adding up what they give.
 pub fn go_on(
     h: Header,
     links: &[u8; 256],
@@ -46,25 +46,29 @@ pub fn go_on(
     stack: &mut [u64; 512],
     lower: &mut [u64; 2016],
     so_far: Tally,
-    k: u64,
 ) -> Tally
     requires { ⌜ LinksAt (now links) (h .links) (now table) ⌝ }
-    requires { ⌜ Ready h (now links) (now words) (now stack) (now lower) «so_far» k ⌝ }
-    ensures { λ r. ⌜ Tallied h (now (links .entry)) (now (words .entry)) (now (stack .entry)) (now (lower .entry)) «so_far» k
+    requires { ⌜ Ready h (now links) (now words) (now stack) (now lower) «so_far» ⌝ }
+    ensures { λ r. ⌜ Tallied h (now (links .entry)) (now (words .entry)) (now (stack .entry)) (now (lower .entry)) «so_far»
         (now (stack .exit)) (now (lower .exit)) r ⌝ }
 {
     let mut at = so_far.at;
+    let mut left = so_far.left;
     let mut number = so_far.number;
     let mut mass = so_far.mass;
-    let mut left = k;
-    // Going on from here for `left` ends gives what the call is to give for k ends from the start.
+    // Going on from here gives what the call is to give from the start.
     // A scenario that is found takes one end or more, so `left` falls in each turn that does not return.
     loop {
         let step = walk::next_relevant(h.events, h.threshold, words, &mut *stack, at, left);
         at = step.at;
         left = step.left;
         if !step.found {
-            return Tally { at, number, mass };
+            return Tally {
+                at,
+                left,
+                number,
+                mass,
+            };
         }
         examine(h, links, words, table, &mut *lower, step);
         number += 1;

@@ -36,10 +36,11 @@ pub fn walk_all(h: Header, links: &[u8; 256], words: &[u64; 512], lower: &mut [u
     let at = walk::begin(&mut stack, 0, mass::Mass::WHOLE.units, 0, 0);
     let so_far = Tally {
         at,
+        left: h.limit,
         number: 0,
         mass: 0,
     };
-    let r = go_on(h, links, words, &table, &mut stack, lower, so_far, h.limit);
+    let r = go_on(h, links, words, &table, &mut stack, lower, so_far);
     Totals {
         count: r.number,
         complete: none_left(r.at),

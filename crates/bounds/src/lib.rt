@@ -6,11 +6,13 @@ mod full_walk;
 
 pub use calls::pair;
 pub use calls::run;
+pub use ends::go_on;
 pub use full_walk::walk_all;
 
-// Where the stack of the walk begins, how many scenarios are examined so far, and their mass.
+// Where the stack of the walk begins, how many ends may still be reached, how many scenarios are examined so far, and their mass.
 pub struct Tally {
     pub at: usize,
+    pub left: u64,
     pub number: u64,
     pub mass: u64,
 }

@@ -6,22 +6,20 @@ use Rattle.bounds.proofs.ends.go_on.Statement.{statement}
 use Rattle.bounds.proofs.ends.go_on.Tie as tie
 
 abbrev Inv-loop : tie.InvT-loop
-Inv-loop h links words table stack₀ lower₀ k at₀ number₀ mass₀ left₀ stack lower at number mass left =
+Inv-loop h links words table stack₀ lower₀ at₀ left₀ number₀ mass₀ stack lower at left number mass =
     Turn
     h
     links
     words
     stack₀
     lower₀
-    (record { at = at₀; number = number₀; mass = mass₀ })
-    k
+    (record { at = at₀; left = left₀; number = number₀; mass = mass₀ })
     stack
     lower
-    (record { at = at; number = number; mass = mass })
-    left
+    (record { at = at; left = left; number = number; mass = mass })
 
 abbrev μ-loop : tie.MeasureT-loop
-μ-loop h links words table stack₀ lower₀ k at₀ number₀ mass₀ left₀ stack lower at number mass left = left
+μ-loop h links words table stack₀ lower₀ at₀ left₀ number₀ mass₀ stack lower at left number mass = left
 
 loop-holds : tie.Need-loop-holds Inv-loop μ-loop
 loop-holds c = record { ready = c .pre .1; goes = λ stack lower r t. t }
@@ -34,29 +32,29 @@ next-relevant-requires c κs =
 returns : tie.Need-returns Inv-loop μ-loop
 returns c =
     let t = c .before .before .before .before .loop .inv in
-    t .goes _ _ _ (stopped _ _ _ _ _ _ _ (t .ready) _ _ (c .before .before .next-relevant .ensures) (not-true _ (c .if1 .taken)))
+    t .goes _ _ _ (stopped _ _ _ _ _ _ (t .ready) _ _ (c .before .before .next-relevant .ensures) (not-true _ (c .if1 .taken)))
 
 examine-requires : tie.Need-examine-requires Inv-loop μ-loop
 examine-requires c κs =
     let ready = c .before .before .before .before .before .loop .inv .ready in
     let s = c .before .before .before .next-relevant .ensures in
-    (ready .held, (c .before .before .before .before .before .before .pre .0, (s .decided, room _ _ _ _ _ _ _ ready _ _ s (not-false _ (c .before .if1 .left)))))
+    (ready .held, (c .before .before .before .before .before .before .pre .0, (s .decided, room _ _ _ _ _ _ ready _ _ s (not-false _ (c .before .if1 .left)))))
 
 add-number : tie.Need-add-number Inv-loop μ-loop
 add-number c =
-    omega (arith, number-fits _ _ _ _ _ _ _ (c .before .before .before .before .before .before .loop .inv .ready) _ _ (c .before .before .before .before .next-relevant .ensures) (not-false _ (c .before .before .if1 .left)))
+    omega (arith, number-fits _ _ _ _ _ _ (c .before .before .before .before .before .before .loop .inv .ready) _ _ (c .before .before .before .before .next-relevant .ensures) (not-false _ (c .before .before .if1 .left)))
 
 add-mass : tie.Need-add-mass Inv-loop μ-loop
 add-mass c =
-    omega (arith, mass-fits _ _ _ _ _ _ _ (c .before .before .before .before .before .before .before .loop .inv .ready) _ _ (c .before .before .before .before .before .next-relevant .ensures) (not-false _ (c .before .before .before .if1 .left)))
+    omega (arith, mass-fits _ _ _ _ _ _ (c .before .before .before .before .before .before .before .loop .inv .ready) _ _ (c .before .before .before .before .before .next-relevant .ensures) (not-false _ (c .before .before .before .if1 .left)))
 
 loop-less : tie.Need-loop-less Inv-loop μ-loop
-loop-less c = less _ _ _ _ _ _ _ (c .before .before .before .before .before .before .before .loop .inv .ready) _ _ (c .before .before .before .before .before .next-relevant .ensures) (not-false _ (c .before .before .before .if1 .left))
+loop-less c = less _ _ _ _ _ _ (c .before .before .before .before .before .before .before .loop .inv .ready) _ _ (c .before .before .before .before .before .next-relevant .ensures) (not-false _ (c .before .before .before .if1 .left))
 
 loop-again : tie.Need-loop-again Inv-loop μ-loop
 loop-again c =
     let t = c .before .before .before .before .before .before .before .loop .inv in
-    turned _ _ _ _ _ _ _ (t .ready) _ _ (c .before .before .before .before .before .next-relevant .ensures) (not-false _ (c .before .before .before .if1 .left)) _ (c .before .examine .ensures) _ _ _ _ (t .goes)
+    turned _ _ _ _ _ _ (t .ready) _ _ (c .before .before .before .before .before .next-relevant .ensures) (not-false _ (c .before .before .before .if1 .left)) _ (c .before .examine .ensures) _ _ _ (t .goes)
 
 pub go-on-spec : {M : Type 1} → statement M
 go-on-spec =
