@@ -156,7 +156,7 @@ fn reaches(count: u64, set: u64) -> bool
 }
 
 // Whether a set of two words has an element that is `count` or more.
-fn reaches_wide(count: u64, low: u64, high: u64) -> bool
+pub fn reaches_wide(count: u64, low: u64, high: u64) -> bool
     requires { ⌜ count ≤ 128 ⌝ }
     ensures { λ r. ⌜ r ≡ leb (2 ^ count) (joined low high) ⌝ }
 {
