@@ -56,14 +56,6 @@ pair-inside nodes v w e =
     let t = or-none (leb w v) (leb nodes w) (refuse-none _ 12 e) in
     (leb-false w v (t .0), leb-false nodes w (t .1))
 
--- the place of a pair, from the start of its node's pairs
-pub at-place-is : (n v w s : ℕ) → s ≡ start n v → s + (w - (v + 1)) ≡ place n v w
-at-place-is n v w s e = rw (e, add-one v) (sym (place-is n v w))
-
-pub inside : (n v w : ℕ) → n ≤ 64 → (v < w) × (w < n) → (s : ℕ) → s ≡ start n v → s + (w - (v + 1)) < 2016
-inside n v w few h s e =
-    omega (arith, at-place-is n v w s e, place-lt n v w few (h .0) (h .1), pairs-most n few)
-
 -- ---- the bounds of an accepted plan
 
 module _ (p : Plan) (valid : planRefusal p ≡ 0) where

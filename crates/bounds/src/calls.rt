@@ -5,6 +5,7 @@ use crate::Ran;
 use crate::full_walk::walk_all;
 use pairs::give_bounds;
 use pairs::pair_test;
+use pairs::place_of;
 use pairs::start_of;
 use plan::Header;
 ghost use mathlib.Core.Path.{_≡_};
@@ -74,8 +75,7 @@ fn bounds_at(n: usize, mass: u64, sums: &[u64; 2016], v: usize, w: usize) -> Pai
     ensures { λ r. ⌜ (r .lower ≡ getD (now (sums .entry)) (place n v w) 0)
         × (r .upper ≡ (whole - mass) + getD (now (sums .entry)) (place n v w) 0) ⌝ }
 {
-    let at = start_of(n, v) + (w - (v + 1));
-    let lower = sums[at];
+    let lower = sums[place_of(n, v, w)];
     PairBounds {
         lower,
         upper: (mass::Mass::WHOLE.units - mass) + lower,

@@ -13,8 +13,7 @@ ghost use Rattle.bounds.specs.Calls.{totalsOf};
 ghost use Rattle.bounds.specs.Tallied.{Summed, Cleared};
 
 // 1 where no branch is left on the stack, else 0.
-fn none_left(at: usize) -> u64
-    requires { ⌜ at ≤ 512 ⌝ }
+pub fn none_left(at: usize) -> u64
     ensures { λ r. ⌜ r ≡ digit (leb 512 at) ⌝ }
 {
     if 512 <= at {

@@ -7,6 +7,7 @@ mod full_walk;
 pub use calls::pair;
 pub use calls::run;
 pub use ends::go_on;
+pub use full_walk::none_left;
 pub use full_walk::walk_all;
 
 // Where the stack of the walk begins, how many ends may still be reached, how many scenarios are examined so far, and their mass.

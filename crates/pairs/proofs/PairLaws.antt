@@ -5,6 +5,7 @@ use mathlib.Core.List.{List, [], _∷_, _++_, map, map-append}
 use Prim.Native.Nat.{ℕ, zero, suc, _+_, _-_, _*_, _/_, _^_, _<_, _≤_}
 use native.Mathlib.Nat.{add-zero, add-suc, zero-add, suc-add, sub-zero, mul-le-mul, mul-le-mul-left}
 use native.Mathlib.Decide.{decLt}
+use native.Mathlib.Numerals.{add-one}
 use native.Mathlib.Omega.{arith}
 use lib.ListN.{length, getD, take, drop, length-append, List·getD-append}
 use lib.Seq.{getD-append-add, drop-cons, take-add, drop-drop}
@@ -70,6 +71,14 @@ pub place-lt : (n v w : ℕ) → n ≤ 64 → v < w → w < n → place n v w < 
 place-lt n v w few h k =
     let e : suc v + (n - suc v) ≡ n = omega arith in
     omega (arith, place-before n v w h k, rw e at (start-mono n (suc v) (n - suc v)))
+
+-- law: the place of a pair, from the start of its node's pairs; it is inside the 2,016 entries
+module _ (n v w s : ℕ) (e : s ≡ start n v) where
+  pub at-place-is : s + (w - (v + 1)) ≡ place n v w
+  at-place-is = rw (e, add-one v) (sym (place-is n v w))
+
+  pub inside : n ≤ 64 → v < w → w < n → s + (w - (v + 1)) < 2016
+  inside few l k = omega (arith, at-place-is, place-lt n v w few l k, pairs-most n few)
 
 -- ---- the table
 

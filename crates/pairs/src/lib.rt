@@ -7,4 +7,5 @@ mod places;
 pub use add::add_cut;
 pub use give::give_bounds;
 pub use places::pair_test;
+pub use places::place_of;
 pub use places::start_of;

@@ -1,7 +1,7 @@
 // The places of the pairs in their order, and the test of a pair.
 ghost use mathlib.Core.Path.{_≡_};
-ghost use Prim.Native.Nat.{_≤_};
-ghost use Rattle.pairs.specs.Pairs.{start, pairTest};
+ghost use Prim.Native.Nat.{_≤_, _<_};
+ghost use Rattle.pairs.specs.Pairs.{start, place, pairTest};
 
 // The place of the first pair of node v, of n nodes.
 pub fn start_of(n: usize, v: usize) -> usize
@@ -9,6 +9,14 @@ pub fn start_of(n: usize, v: usize) -> usize
     ensures { λ r. ⌜ r ≡ start n v ⌝ }
 {
     (v * (2 * n - v) - v) / 2
+}
+
+// The place of the pair (v, w), of n nodes.
+pub fn place_of(n: usize, v: usize, w: usize) -> usize
+    requires { ⌜ (n ≤ 64) × (v < w) × (w < n) ⌝ }
+    ensures { λ r. ⌜ (r ≡ place n v w) × (r < 2016) ⌝ }
+{
+    start_of(n, v) + (w - (v + 1))
 }
 
 // 13: a pair without v < w < N.
