@@ -18,9 +18,9 @@ use Rattle.plan.proofs.FileLawsAccepted.{accepted-counts}
 use Rattle.plan.specs.declared.Header.{Header}
 use Rattle.refusals.proofs.TestLaws.{counts-none}
 use Rattle.mass.specs.Split.{certain}
-use Rattle.layout.proofs.LayoutFile.{ValidPlan, file-none, read-valid}
+use Rattle.layout.proofs.LayoutFile.{ValidPlan, file-none, read-valid, valid-pass}
 use Rattle.layout.proofs.ListLaws.{length-links-of, length-events-of}
-use Rattle.layout.proofs.Theorems.{read-denotes}
+use Rattle.layout.proofs.Theorems.{read-denotes, lists-accepted}
 use Rattle.files.proofs.ReaderLawsAnswer.{length-links, length-events}
 use Rattle.input.specs.Loaded.{Loaded}
 
@@ -43,25 +43,6 @@ same-refusal b = go (refusal b) refl
         rw (roomed 256 (2 * linksIn b) (omega (arith, k .1)), roomed 128 (eventsIn b) (k .2))
     go (suc n) e = refl
 
--- lists that denote a valid plan are accepted
-lists-accepted : (h : Header) (links words : List ℕ) → ValidPlan (planOfLists h links words) → listsRefusal h 256 128 links words ≡ 0
-unfolding listsRefusal planOfLists first
-lists-accepted h links words v =
-    let counts : countsTest (h .nodes) (h .links) (h .events) ≡ 0 =
-    rw (length-links-of (h .links) links, length-events-of (h .events) words) at (v .counts) in
-    let fit = counts-none (h .nodes) (h .links) (h .events) counts in
-    let events : eventListRefusal (h .nodes) (h .links) certain (eventsOf (h .events) words) ≡ 0 =
-    rw (length-links-of (h .links) links) at (v .events) in
-    rw (
-      counts,
-      v .threshold,
-      v .limit,
-      roomed 256 (2 * h .links) (omega (arith, fit .links-fit)),
-      roomed 128 (h .events) (fit .events-fit),
-      v .links,
-      events,
-    )
-
 module _ (b links words : List ℕ) (bytes : Bytes b) (e : refusal b ≡ 0) (l : length links ≡ 256) (w : length words ≡ 512) where
   abbrev linkList : List ℕ
   linkList = sets links 0 (linkBytes ((planOf b) .links))
@@ -80,7 +61,7 @@ module _ (b links words : List ℕ) (bytes : Bytes b) (e : refusal b ≡ 0) (l :
   pub loaded : Loaded b linkList wordList
   loaded =
       record {
-        accepted = lists-accepted (headerOf b) linkList wordList (subst ValidPlan (sym denoted) (read-valid b bytes (file-none b e)));
+        accepted = lists-accepted (headerOf b) linkList wordList (valid-pass _ (subst ValidPlan (sym denoted) (read-valid b bytes (file-none b e))));
         denoted = denoted;
       }
 

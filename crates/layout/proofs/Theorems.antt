@@ -10,13 +10,15 @@ use Rattle.mass.specs.Split.{certain}
 use Rattle.plan.specs.Plan.{Plan}
 use Rattle.plan.specs.Layout.{layout, Bytes}
 use Rattle.plan.specs.File.{refusal, planOf, nodesIn, linksIn, eventsIn, eventsAt}
-use Rattle.plan.specs.LentLists.{planRefusal, planOfLists, listsRefusal}
-use Rattle.refusals.proofs.TestLaws.{counts-none}
+use Rattle.plan.specs.LentLists.{eventListRefusal, planRefusal, planOfLists, listsRefusal}
+use Rattle.mass.specs.Refusal.{first}
+use Rattle.refusals.specs.Tests.{countsTest}
+use Rattle.refusals.proofs.TestLaws.{counts-none, room-pass}
 use Rattle.layout.proofs.LayoutFile.{file-none, valid-none, valid-pass, layout-accepted, layout-read, read-valid, read-layout}
 use Rattle.layout.proofs.LayoutPrefix.{file-same}
 use lib.Seq.{sets}
 use Rattle.mass.proofs.RefusalLaws.{first-none}
-use Rattle.plan.specs.Lists.{linksOf, linkBytes, eventWords}
+use Rattle.plan.specs.Lists.{linksOf, eventsOf, linkBytes, eventWords}
 use Rattle.plan.specs.Calls.{headerOf}
 use Rattle.plan.specs.declared.Header.{Header}
 use Rattle.layout.proofs.ListLaws.{length-links-of, length-events-of, links-laid, events-laid, length-events-at}
@@ -73,6 +75,26 @@ lists-denote h linkRoom eventRoom links words e =
       links = l .0;
       events = rw (length-links-of (h .links) links) (first-none _ _ (l .1) .0);
     })
+
+-- lists in arrays that denote a valid plan are accepted
+pub lists-accepted : (h : Header) (links words : List ℕ) → planRefusal (planOfLists h links words) ≡ 0 → listsRefusal h 256 128 links words ≡ 0
+unfolding listsRefusal planOfLists first
+lists-accepted h links words e =
+    let v = valid-none (planOfLists h links words) e in
+    let counts : countsTest (h .nodes) (h .links) (h .events) ≡ 0 =
+    rw (length-links-of (h .links) links, length-events-of (h .events) words) at (v .counts) in
+    let fit = counts-none (h .nodes) (h .links) (h .events) counts in
+    let events : eventListRefusal (h .nodes) (h .links) certain (eventsOf (h .events) words) ≡ 0 =
+    rw (length-links-of (h .links) links) at (v .events) in
+    rw (
+      counts,
+      v .threshold,
+      v .limit,
+      room-pass 256 (2 * h .links) (omega (arith, fit .links-fit)),
+      room-pass 128 (h .events) (fit .events-fit),
+      v .links,
+      events,
+    )
 
 -- the lists that a reader filled denote the plan that was read
 pub read-denotes : (b links words : List ℕ)
