@@ -1,0 +1,31 @@
+-- `panel::calls::ends_open` meets its contract. Assumes nothing.
+use borrow.Author.Needs.{needs}
+use borrow.Author.Tests.{not-true, not-false}
+use mathlib.Core.Path.{sym, _∙_}
+use native.Mathlib.Omega.{arith}
+use Rattle.panel.proofs.SoundLaws.{sound-is}
+use Rattle.panel.proofs.Wanted.{open-unsound, open-ended, open-sound}
+use Rattle.panel.proofs.calls.ends_open.Statement.{statement}
+use Rattle.panel.proofs.calls.ends_open.Tie as tie
+
+is-sound-requires : tie.Need-is-sound-requires
+is-sound-requires c κs = search needs
+
+returns : tie.Need-returns
+returns c = sym (open-unsound _ (sym (c .before .is-sound .ensures) ∙ not-true _ (c .if1 .taken)))
+
+returns-2 : tie.Need-returns-2
+returns-2 c = sym (open-ended _ (c .if2 .taken) (sym (c .before .before .is-sound .ensures) ∙ not-false _ (c .before .if1 .left)))
+
+sub-result : tie.Need-sub-result
+sub-result c =
+    let one = c .before .before in
+    sound-is _ (sym (one .before .is-sound .ensures) ∙ not-false _ (one .if1 .left)) .under-cap
+
+returns-3 : tie.Need-returns-3
+returns-3 c =
+    let one = c .before .before in
+    sym (open-sound _ (c .before .if2 .left) (sym (one .before .is-sound .ensures) ∙ not-false _ (one .if1 .left)))
+
+pub ends-open-spec : {M : Type 1} → statement M
+ends-open-spec = tie.close (tie.spec is-sound-requires returns returns-2 sub-result returns-3)

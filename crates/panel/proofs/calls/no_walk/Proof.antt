@@ -1,0 +1,12 @@
+-- `panel::calls::no_walk` meets its contract. Assumes nothing.
+use mathlib.Core.Path.{refl}
+use Rattle.panel.specs.Walks.{noWalk}
+use Rattle.panel.proofs.calls.no_walk.Statement.{statement}
+use Rattle.panel.proofs.calls.no_walk.Tie as tie
+
+returns : tie.Need-returns
+unfolding noWalk
+returns c = refl
+
+pub no-walk-spec : {M : Type 1} → statement M
+no-walk-spec = tie.close (tie.spec returns)

@@ -1,0 +1,213 @@
+// A walk begun, and gone on with.
+use crate::GoneOn;
+use crate::Quota;
+use crate::Walk;
+use crate::WalkAnswer;
+use crate::sound::is_sound;
+use bounds::Tally;
+use plan::Header;
+ghost use mathlib.Core.Path.{_≡_};
+ghost use Prim.Native.Nat.{min};
+ghost use lib.ListN.{length};
+ghost use Rattle.plan.specs.LentLists.{planOfLists};
+ghost use Rattle.lent.specs.Taken.{listsNumber};
+ghost use Rattle.bounds.specs.Tallied.{Ready, Tallied};
+ghost use Rattle.panel.specs.Walks.{WalkAt, noWalk, rootWalk};
+ghost use Rattle.panel.specs.Calls.{quotaTest, walkAnswer, openEnds, WentOn};
+
+// A walk of zeros.
+pub fn no_walk() -> Walk
+    ensures { λ r. ⌜ r ≡ noWalk ⌝ }
+{
+    let header = Header {
+        nodes: 0,
+        links: 0,
+        events: 0,
+        threshold: 0,
+        limit: 0,
+    };
+    Walk {
+        header,
+        links: [0u8; 256],
+        events: [0u64; 512],
+        stack: [0u64; 512],
+        sums: [0u64; 2016],
+        at: 0,
+        reached: 0,
+        count: 0,
+        mass: 0,
+    }
+}
+
+// Begins the walk of a plan in lent lists.
+pub fn begin(h: Header, links: &[u8], events: &[u64]) -> WalkAnswer
+    ensures answer { λ r. ⌜ r ≡ walkAnswer (listsNumber h (now (links .entry)) (now (events .entry)))
+        (rootWalk h (now (links .entry)) (now (events .entry))) ⌝ }
+    ensures begun { λ r. ⌜ (listsNumber h (now (links .entry)) (now (events .entry)) ≡ 0
+        → WalkAt (planOfLists h (now (links .entry)) (now (events .entry))) 0 (r .walk)) ⌝ }
+{
+    let mut bytes = [0u8; 256];
+    let mut words = [0u64; 512];
+    let number = lent::accept(h, links, events, &mut bytes, &mut words);
+    if number != 0 {
+        return WalkAnswer {
+            number,
+            walk: no_walk(),
+        };
+    }
+    let mut stack = [0u64; 512];
+    let at = walk::begin(&mut stack, 0, mass::Mass::WHOLE.units, 0, 0);
+    let walk = Walk {
+        header: h,
+        links: bytes,
+        events: words,
+        stack,
+        sums: [0u64; 2016],
+        at,
+        reached: 0,
+        count: 0,
+        mass: 0,
+    };
+    WalkAnswer { number: 0, walk }
+}
+
+// 19: the quota is empty.
+fn quota_test(left: u64) -> u32
+    ensures { λ r. ⌜ r ≡ quotaTest left ⌝ }
+{
+    if left == 0 {
+        return 19;
+    }
+    0
+}
+
+// The smaller of two numbers.
+fn smaller(a: u64, b: u64) -> u64
+    ensures { λ r. ⌜ r ≡ min a b ⌝ }
+{
+    if a < b {
+        return a;
+    }
+    b
+}
+
+// How many ends the cap still allows: none from a state that is no walk or has no end to come.
+fn ends_open(
+    h: Header,
+    links: &[u8; 256],
+    events: &[u64; 512],
+    stack: &[u64; 512],
+    sums: &[u64; 2016],
+    at: usize,
+    reached: u64,
+    count: u64,
+    mass: u64,
+) -> u64
+    requires { ⌜ (length (now stack) ≡ 512) × (length (now sums) ≡ 2016) ⌝ }
+    ensures { λ r. ⌜ r ≡ openEnds (record {
+      header = h;
+      links = now (links .entry);
+      events = now (events .entry);
+      stack = now (stack .entry);
+      sums = now (sums .entry);
+      at = «at»;
+      reached = «reached»;
+      count = «count»;
+      mass = «mass»;
+    }) ⌝ }
+{
+    if !is_sound(h, links, events, stack, sums, at, reached, count, mass) {
+        return 0;
+    }
+    if 512 <= at {
+        return 0;
+    }
+    h.limit - reached
+}
+
+// Goes on with a walk by the loop of the run.
+fn reach(
+    h: Header,
+    links: &[u8; 256],
+    events: &[u64; 512],
+    stack: &mut [u64; 512],
+    sums: &mut [u64; 2016],
+    so_far: Tally,
+) -> Tally
+    requires { ⌜ Ready h (now links) (now events) (now stack) (now sums) «so_far» ⌝ }
+    ensures { λ r. ⌜ Tallied h (now (links .entry)) (now (events .entry)) (now (stack .entry)) (now (sums .entry)) «so_far»
+        (now (stack .exit)) (now (sums .exit)) r ⌝ }
+{
+    let table = network::links_at(h.nodes as usize, links, h.links as usize);
+    bounds::go_on(h, links, events, &table, stack, sums, so_far)
+}
+
+// The answer of a go-on that reaches no end.
+fn unmoved(number: u32, walk: Walk, quota: Quota) -> GoneOn
+    ensures { λ r. ⌜ r ≡ record { number = number; reached = 0; walk = walk; quota = quota } ⌝ }
+{
+    GoneOn {
+        number,
+        reached: 0,
+        walk,
+        quota,
+    }
+}
+
+// Goes on with a walk for at most k ends, drawing on the quota.
+pub fn go_on(w: Walk, quota: Quota, k: u64) -> GoneOn
+    ensures { λ r. ⌜ WentOn w quota k r ⌝ }
+{
+    let h = w.header;
+    let links = w.links;
+    let events = w.events;
+    let mut stack = w.stack;
+    let mut sums = w.sums;
+    let open = ends_open(
+        h,
+        &links,
+        &events,
+        &stack,
+        &sums,
+        w.at,
+        w.reached,
+        w.count,
+        w.mass,
+    );
+    let wanted = smaller(k, open);
+    if wanted == 0 {
+        return unmoved(0, w, quota);
+    }
+    let empty = quota_test(quota.left);
+    if empty != 0 {
+        return unmoved(empty, w, quota);
+    }
+    let allowed = smaller(wanted, quota.left);
+    let so_far = Tally {
+        at: w.at,
+        left: allowed,
+        number: w.count,
+        mass: w.mass,
+    };
+    let r = reach(h, &links, &events, &mut stack, &mut sums, so_far);
+    let reached = allowed - r.left;
+    let walk = Walk {
+        header: h,
+        links,
+        events,
+        stack,
+        sums,
+        at: r.at,
+        reached: w.reached + reached,
+        count: r.number,
+        mass: r.mass,
+    };
+    GoneOn {
+        number: 0,
+        reached,
+        walk,
+        quota: Quota {
+            left: quota.left - reached,
+        },
+    }
+}
