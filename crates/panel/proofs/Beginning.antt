@@ -16,10 +16,11 @@ use Rattle.walk.specs.Stack.{Begun}
 use Rattle.walk.proofs.Resume.{Alone, begun-alone, begun-stack, begun-whole, begun-mass, root-entry}
 use Rattle.pairs.specs.Pairs.{place}
 use Rattle.bounds.proofs.Zeros.{cleared}
-use Rattle.panel.specs.Walks.{WalkAt, noWalk, rootWalk}
-use Rattle.panel.specs.Calls.{walkAnswer}
-use Rattle.panel.specs.declared.Walk.{Walk}
-use Rattle.panel.specs.declared.WalkAnswer.{WalkAnswer}
+use Rattle.walk_state.specs.States.{noWalk}
+use Rattle.panel.specs.Walks.{WalkAt, rootWalk}
+use Rattle.walk_state.specs.States.{walkAnswer}
+use Rattle.walk_state.specs.declared.Walk.{Walk}
+use Rattle.walk_state.specs.declared.WalkAnswer.{WalkAnswer}
 
 -- an array of zeros
 abbrev zeros : ℕ → List ℕ

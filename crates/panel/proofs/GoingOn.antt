@@ -25,9 +25,9 @@ use Rattle.bounds.specs.Bounds.{cuts, lowerOf}
 use Rattle.bounds.specs.Tallied.{Ready, Tallied, Summed, reached}
 use Rattle.bounds.specs.declared.Tally.{Tally}
 use Rattle.panel.specs.Walks.{capped, walkPlan, endsToCome, WalkAt}
-use Rattle.panel.specs.declared.Walk.{Walk}
-use Rattle.panel.proofs.SoundLaws.{SoundWalk}
-use Rattle.panel.proofs.StateLaws.{entries-are, below-is}
+use Rattle.walk_state.specs.declared.Walk.{Walk}
+use Rattle.walk_state.proofs.SoundLaws.{SoundWalk}
+use Rattle.walk_state.proofs.StateLaws.{entries-are, below-is}
 
 -- ---- what the loop asks
 
@@ -75,7 +75,7 @@ module _ (w : Walk) (s : SoundWalk w) where
 -- ---- the first ends of a list, and more of them
 
 -- so many as there are
-take-there : (k : ℕ) (list : List End) → take (length (take k list)) list ≡ take k list
+pub take-there : (k : ℕ) (list : List End) → take (length (take k list)) list ≡ take k list
 take-there zero list = refl
 take-there (suc k) [] = refl
 take-there (suc k) (x ∷ list) = ap {B = List End} (λ l. x ∷ l) (take-there k list)

@@ -27,8 +27,8 @@ use Rattle.bounds.specs.declared.Totals.{Totals}
 use Rattle.bounds.proofs.Answers.{pair-inside}
 use Rattle.panel.specs.Walks.{capped, walkPlan, WalkAt}
 use Rattle.panel.specs.Calls.{lookOf, mayShow, boundsShown, lookPairOf}
-use Rattle.panel.specs.declared.Walk.{Walk}
-use Rattle.panel.proofs.EntryLaws.{stops, goes}
+use Rattle.walk_state.specs.declared.Walk.{Walk}
+use Rattle.walk_state.proofs.EntryLaws.{stops, goes}
 
 -- ---- the test of what is shown
 
@@ -116,4 +116,11 @@ looked-pair p n w at v x =
     → pairAnswer (pairTest (w .header .nodes) v x) (lookPairOf w v x) ≡ pairAnswer (pairTest (q .nodes) v x) (boundsOf (capped q n) v x))
     (at .plan)
     (λ (here : WalkAt (walkPlan w) n w). own-answer w n here v x)
+    at
+
+pub pair-looked : (p : Plan) (n : ℕ) (w : Walk) → WalkAt p n w → (v x : ℕ) → v < x → x < p .nodes → lookPairOf w v x ≡ boundsOf (capped p n) v x
+unfolding planOfLists
+pair-looked p n w at v x =
+    subst (λ (q : Plan). WalkAt q n w → v < x → x < q .nodes → lookPairOf w v x ≡ boundsOf (capped q n) v x) (at .plan)
+    (λ (here : WalkAt (walkPlan w) n w). own-pair w n here v x)
     at

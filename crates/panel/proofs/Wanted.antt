@@ -7,7 +7,7 @@ use mathlib.Core.List.{List, []}
 use Prim.Native.Nat.{ℕ, _+_, _-_, _≤_, _<_, min}
 use native.Mathlib.Decide.{decLt}
 use native.Mathlib.Omega.{arith}
-use borrow.Author.Tests.{lt-ltb, le-ltb, eqb-true, eqb-false}
+use borrow.Author.Tests.{lt-ltb, le-ltb, eqb-true, eqb-false, ne-eqb}
 use lib.Dec.{ltb, eqb}
 use lib.ListN.{length}
 use Rattle.mass.proofs.RefusalLaws.{refuse-none}
@@ -17,13 +17,13 @@ use Rattle.walk.specs.Stack.{toCome}
 use Rattle.walk.proofs.Resume.{none-to-come, some-to-come}
 use Rattle.bounds.specs.Tallied.{Tallied}
 use Rattle.bounds.specs.declared.Tally.{Tally}
-use Rattle.panel.specs.Sound.{sound}
+use Rattle.walk_state.specs.Sound.{sound}
 use Rattle.panel.specs.Walks.{endsToCome, endsLeft, WalkAt}
 use Rattle.panel.specs.Calls.{quotaTest, openEnds, endsWanted, goOnNumber, WentOn}
-use Rattle.panel.specs.declared.Walk.{Walk}
+use Rattle.walk_state.specs.declared.Walk.{Walk}
 use Rattle.panel.specs.declared.Quota.{Quota}
 use Rattle.panel.specs.declared.GoneOn.{GoneOn}
-use Rattle.panel.proofs.SoundLaws.{SoundWalk, sound-is}
+use Rattle.walk_state.proofs.SoundLaws.{SoundWalk, sound-is}
 use Rattle.panel.proofs.GoingOn.{sound-stack, tallyOf, walkOn, got-is, kept}
 
 -- ---- the smallest of k, what the cap allows (c), what is to come (n) and the quota (q)
@@ -117,6 +117,14 @@ module _ (w : Walk) (quota : Quota) (k : ℕ) where
   number-some : 0 < endsWanted w k → goOnNumber w quota k ≡ quotaTest (quota .left)
   unfolding goOnNumber
   number-some h = rw (lt-ltb 0 (endsWanted w k) h, goOnNumber)
+
+  -- 19 needs an empty quota
+  pub not-empty : 0 < quota .left → goOnNumber w quota k ≡ 0
+  not-empty h = step (decLt 0 (endsWanted w k))
+    where
+      step : Dec (0 < endsWanted w k) → goOnNumber w quota k ≡ 0
+      step (yes some) = number-some some ∙ rw (ne-eqb (quota .left) 0 (λ z. omega arith))
+      step (no none) = number-none (omega arith)
 
   -- no end more
   still : (p : Plan) (n : ℕ) → WalkAt p n w → WalkAt p (n + 0) w

@@ -2,7 +2,7 @@
 -- Assumes nothing.
 use mathlib.Core.Path.{_≡_}
 use mathlib.Core.Bool.{Bool, true, false, _&&_}
-use Prim.Native.Nat.{ℕ, zero, suc, _+_, _-_, min}
+use Prim.Native.Nat.{ℕ, _+_, _-_, min}
 use lib.Dec.{ltb, leb, eqb}
 use lib.ListN.{getD}
 use Rattle.mass.specs.Refusal.{refuse}
@@ -12,11 +12,10 @@ use Rattle.plan.specs.Plan.{Plan}
 use Rattle.pairs.specs.Pairs.{place}
 use Rattle.bounds.specs.declared.Totals.{Totals}
 use Rattle.bounds.specs.declared.PairBounds.{PairBounds}
-use Rattle.panel.specs.Sound.{sound}
-use Rattle.panel.specs.Walks.{WalkAt, endsLeft, noWalk}
-use Rattle.panel.specs.declared.Walk.{Walk}
+use Rattle.walk_state.specs.Sound.{sound}
+use Rattle.panel.specs.Walks.{WalkAt, endsLeft}
+use Rattle.walk_state.specs.declared.Walk.{Walk}
 use Rattle.panel.specs.declared.Quota.{Quota}
-use Rattle.panel.specs.declared.WalkAnswer.{WalkAnswer}
 use Rattle.panel.specs.declared.GoneOn.{GoneOn}
 
 -- "One quota of 10,000,000 ends serves all go-on calls": what is left of it at power-up
@@ -26,11 +25,6 @@ fullQuota = record { left = 10000000 }
 -- 19: the quota is empty
 abbrev pub quotaTest : ℕ → ℕ
 quotaTest left = refuse (eqb left 0) 19
-
--- the answer that a number and a walk stand for: a refusal has a walk of zeros
-abbrev pub walkAnswer : ℕ → Walk → WalkAnswer
-walkAnswer zero walk = record { number = 0; walk = walk }
-walkAnswer (suc number) walk = record { number = suc number; walk = noWalk }
 
 -- how many ends the cap still allows: none from a state that is no walk or has no end to come
 unfoldable pub openEnds : Walk → ℕ

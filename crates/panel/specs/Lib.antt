@@ -1,5 +1,4 @@
 -- What the contracts of the crate `panel` cite.
-pub mod Sound
 pub mod Walks
 pub mod Calls
 pub mod Sessions

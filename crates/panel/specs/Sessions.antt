@@ -3,7 +3,7 @@
 use mathlib.Core.List.{List, [], _∷_}
 use Prim.Native.Nat.{ℕ, _+_}
 use Rattle.panel.specs.Calls.{WentOn}
-use Rattle.panel.specs.declared.Walk.{Walk}
+use Rattle.walk_state.specs.declared.Walk.{Walk}
 use Rattle.panel.specs.declared.Quota.{Quota}
 use Rattle.panel.specs.declared.GoneOn.{GoneOn}
 

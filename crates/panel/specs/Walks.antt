@@ -13,7 +13,7 @@ use Rattle.walk.specs.Ends.{End}
 use Rattle.walk.specs.Walk.{planEnds, count, massExamined}
 use Rattle.walk.specs.Stack.{Stack, pendingMass}
 use Rattle.bounds.specs.Tallied.{coming, Summed}
-use Rattle.panel.specs.declared.Walk.{Walk}
+use Rattle.walk_state.specs.declared.Walk.{Walk}
 
 -- "a run whose cap is the number of ends reached so far": the plan with its cap replaced by r
 abbrev pub capped : Plan → ℕ → Plan
@@ -44,21 +44,6 @@ pub record WalkAt (p : Plan) (r : ℕ) (w : Walk) : Type 0 where
   pub masses : w .mass ≡ massExamined (capped p r)
   pub sums : Summed (capped p r) (p .nodes) (w .sums)
   pub pending : w .mass + pendingMass (drop (w .at) (w .stack)) ≤ whole
-
--- a walk of zeros
-unfoldable pub noWalk : Walk
-noWalk =
-    record {
-      header = record { nodes = 0; links = 0; events = 0; threshold = 0; limit = 0 };
-      links = replicate 256 0;
-      events = replicate 512 0;
-      stack = replicate 512 0;
-      sums = replicate 2016 0;
-      at = 0;
-      reached = 0;
-      count = 0;
-      mass = 0;
-    }
 
 -- the walk that begins: the lists of its plan are copied, the root (no event decided, one whole) is the only entry of the stack, and nothing
 -- is reached

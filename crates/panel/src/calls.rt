@@ -1,43 +1,21 @@
 // A walk begun, and gone on with.
 use crate::GoneOn;
 use crate::Quota;
-use crate::Walk;
-use crate::WalkAnswer;
-use crate::sound::is_sound;
 use bounds::Tally;
 use plan::Header;
+use walk_state::Walk;
+use walk_state::WalkAnswer;
+use walk_state::is_sound;
+use walk_state::no_walk;
 ghost use mathlib.Core.Path.{_≡_};
 ghost use Prim.Native.Nat.{min};
 ghost use lib.ListN.{length};
 ghost use Rattle.plan.specs.LentLists.{planOfLists};
 ghost use Rattle.lent.specs.Taken.{listsNumber};
 ghost use Rattle.bounds.specs.Tallied.{Ready, Tallied};
-ghost use Rattle.panel.specs.Walks.{WalkAt, noWalk, rootWalk};
-ghost use Rattle.panel.specs.Calls.{quotaTest, walkAnswer, openEnds, WentOn};
-
-// A walk of zeros.
-pub fn no_walk() -> Walk
-    ensures { λ r. ⌜ r ≡ noWalk ⌝ }
-{
-    let header = Header {
-        nodes: 0,
-        links: 0,
-        events: 0,
-        threshold: 0,
-        limit: 0,
-    };
-    Walk {
-        header,
-        links: [0u8; 256],
-        events: [0u64; 512],
-        stack: [0u64; 512],
-        sums: [0u64; 2016],
-        at: 0,
-        reached: 0,
-        count: 0,
-        mass: 0,
-    }
-}
+ghost use Rattle.walk_state.specs.States.{walkAnswer};
+ghost use Rattle.panel.specs.Walks.{WalkAt, rootWalk};
+ghost use Rattle.panel.specs.Calls.{quotaTest, openEnds, WentOn};
 
 // Begins the walk of a plan in lent lists.
 pub fn begin(h: Header, links: &[u8], events: &[u64]) -> WalkAnswer

@@ -1,10 +1,10 @@
 // Looks at a walk. They test the fields that they show, and no others.
-use crate::Walk;
 use bounds::PairBounds;
 use bounds::Paired;
 use bounds::Totals;
 use pairs::pair_test;
 use pairs::place_of;
+use walk_state::Walk;
 ghost use mathlib.Core.Path.{_≡_};
 ghost use Prim.Native.Nat.{ℕ, _≤_, _<_};
 ghost use lib.ListN.{getD};

@@ -78,7 +78,7 @@ root-entry count = record { deep = omega arith; light = omega arith; word = omeg
 
 -- ---- nothing is to come exactly where the stack is empty, at 512
 
-ends-some : (t m : ℕ) (events : List Event) → 0 < length (ends t m events)
+pub ends-some : (t m : ℕ) (events : List Event) → 0 < length (ends t m events)
 ends-some t m [] = step (ltb m t) refl
   where
     step : (b : Bool) → ltb m t ≡ b → 0 < length (ends t m [])

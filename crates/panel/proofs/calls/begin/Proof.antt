@@ -4,8 +4,8 @@ use mathlib.Core.Path.{_≡_, sym, ap, _∙_}
 use Prim.Native.Nat.{ℕ}
 use Rattle.lent.specs.Taken.{listsNumber}
 use Rattle.panel.specs.Walks.{rootWalk}
-use Rattle.panel.specs.Calls.{walkAnswer}
-use Rattle.panel.specs.declared.Walk.{Walk}
+use Rattle.walk_state.specs.States.{walkAnswer}
+use Rattle.walk_state.specs.declared.Walk.{Walk}
 use Rattle.panel.proofs.Beginning.{refused, is-root, begun}
 use Rattle.panel.proofs.calls.begin.Statement.{statement}
 use Rattle.panel.proofs.calls.begin.Tie as tie

@@ -5,7 +5,7 @@ use Prim.Native.Nat.{ℕ, _<_, min}
 use native.Mathlib.Omega.{arith}
 use lib.ListN.{length}
 use Rattle.panel.specs.Calls.{openEnds}
-use Rattle.panel.proofs.SoundLaws.{sound-is}
+use Rattle.walk_state.proofs.SoundLaws.{sound-is}
 use Rattle.panel.proofs.GoingOn.{ready, limited}
 use Rattle.panel.proofs.Wanted.{Open, none-open, some-open, none-wanted, none-drawn, quota-some, under-cap, went}
 use Rattle.panel.proofs.calls.go_on.Statement.{statement}

@@ -1,8 +1,8 @@
--- `panel::sound::numbers_sound` meets its contract: at each `return` the tests that led there decide the answer. Assumes nothing.
+-- `walk_state::sound::numbers_sound` meets its contract: at each `return` the tests that led there decide the answer. Assumes nothing.
 use native.Mathlib.Omega.{arith}
-use Rattle.panel.proofs.SoundLaws.{more-examined, past-cap, no-entry, last-number}
-use Rattle.panel.proofs.sound.numbers_sound.Statement.{statement}
-use Rattle.panel.proofs.sound.numbers_sound.Tie as tie
+use Rattle.walk_state.proofs.SoundLaws.{more-examined, past-cap, no-entry, last-number}
+use Rattle.walk_state.proofs.sound.numbers_sound.Statement.{statement}
+use Rattle.walk_state.proofs.sound.numbers_sound.Tie as tie
 
 returns : tie.Need-returns
 returns c = more-examined _ _ _ _ (omega arith)

@@ -16,7 +16,7 @@ use Rattle.sets.proofs.Bools.{and-left, and-right}
 use Rattle.walk.specs.Stack.{entryMass}
 use Rattle.walk.proofs.Words.{words-at}
 use Rattle.walk.proofs.StackLaws.{mass-run, mass-branch}
-use Rattle.panel.specs.Sound.{soundEntry, soundEntries, noneAbove}
+use Rattle.walk_state.specs.Sound.{soundEntry, soundEntries, noneAbove}
 
 -- the two kinds of an entry
 module _ (count room depth mass low high below : ℕ) where

@@ -14,8 +14,8 @@ use Rattle.sets.specs.Sets.{joined}
 use Rattle.sets.proofs.Bools.{and-left, and-right, and-both, clash}
 use Rattle.walk.specs.Stack.{SoundBranch, SoundEntry, SoundEntries, entryMass, pendingMass}
 use Rattle.walk.proofs.StackLaws.{mass-run, mass-branch}
-use Rattle.panel.specs.Sound.{soundEntry, soundEntries, noneAbove}
-use Rattle.panel.proofs.EntryLaws.{entry-run, entry-branch}
+use Rattle.walk_state.specs.Sound.{soundEntry, soundEntries, noneAbove}
+use Rattle.walk_state.proofs.EntryLaws.{entry-run, entry-branch}
 
 -- ---- an entry
 

@@ -10,7 +10,7 @@ use Rattle.mass.specs.Split.{whole}
 use Rattle.sets.specs.Sets.{joined}
 use Rattle.plan.specs.LentLists.{listsRefusal}
 use Rattle.walk.specs.Stack.{entryMass}
-use Rattle.panel.specs.declared.Walk.{Walk}
+use Rattle.walk_state.specs.declared.Walk.{Walk}
 
 -- four words of a stack, with `below` words under them: one dropped end or more; or a pending branch of at most `room` mass, of whose events
 -- (`count` in all) the first `depth` are decided, its failing ones among these, with no more entries under it than events are decided

@@ -1,14 +1,14 @@
--- `panel::sound::none_above` meets its contract: no sum so far is above. Assumes nothing.
+-- `walk_state::sound::none_above` meets its contract: no sum so far is above. Assumes nothing.
 use mathlib.Core.Path.{_≡_, refl, sym, _∙_}
 use Prim.Native.Nat.{_-_, _≤_}
 use native.Mathlib.Omega.{arith}
 use lib.ListN.{drop}
-use Rattle.panel.specs.Sound.{noneAbove}
-use Rattle.panel.proofs.EntryLaws.{above-stop, above-go, above-end}
-use Rattle.panel.proofs.sound.none_above.Statement.{statement}
-use Rattle.panel.proofs.sound.none_above.Tie as tie
-use Rattle.panel.proofs.sound.none_above.Reads as reads
-use Rattle.panel.proofs.sound.none_above.Lts as lts
+use Rattle.walk_state.specs.Sound.{noneAbove}
+use Rattle.walk_state.proofs.EntryLaws.{above-stop, above-go, above-end}
+use Rattle.walk_state.proofs.sound.none_above.Statement.{statement}
+use Rattle.walk_state.proofs.sound.none_above.Tie as tie
+use Rattle.walk_state.proofs.sound.none_above.Reads as reads
+use Rattle.walk_state.proofs.sound.none_above.Lts as lts
 
 abbrev Inv-loop : tie.InvT-loop
 Inv-loop most sums i₀ i = (i ≤ 2016) × (noneAbove most sums ≡ noneAbove most (drop i sums))

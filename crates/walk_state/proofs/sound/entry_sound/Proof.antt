@@ -1,9 +1,9 @@
--- `panel::sound::entry_sound` meets its contract: at each `return` the tests that led there decide the answer. Assumes nothing.
+-- `walk_state::sound::entry_sound` meets its contract: at each `return` the tests that led there decide the answer. Assumes nothing.
 use mathlib.Core.Path.{sym, _∙_}
 use native.Mathlib.Omega.{arith}
-use Rattle.panel.proofs.EntryLaws.{entry-run, too-deep, too-heavy, too-wide, last-test}
-use Rattle.panel.proofs.sound.entry_sound.Statement.{statement}
-use Rattle.panel.proofs.sound.entry_sound.Tie as tie
+use Rattle.walk_state.proofs.EntryLaws.{entry-run, too-deep, too-heavy, too-wide, last-test}
+use Rattle.walk_state.proofs.sound.entry_sound.Statement.{statement}
+use Rattle.walk_state.proofs.sound.entry_sound.Tie as tie
 
 returns : tie.Need-returns
 returns c = sym (entry-run _ _ _ _ _ _ _ (omega arith))

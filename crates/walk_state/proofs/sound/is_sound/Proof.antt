@@ -1,17 +1,17 @@
--- `panel::sound::is_sound` meets its contract: at each `return` the tests that led there decide the answer. Assumes nothing.
+-- `walk_state::sound::is_sound` meets its contract: at each `return` the tests that led there decide the answer. Assumes nothing.
 use borrow.Author.Needs.{needs}
 use borrow.Author.Tests.{not-true, not-false}
 use mathlib.Core.Path.{sym, _∙_}
 use native.Mathlib.Omega.{arith}
-use Rattle.panel.proofs.SoundLaws.{lists-fail, numbers-fail, mass-fails, entries-fail, sums-decide, numbers-are}
-use Rattle.panel.proofs.sound.is_sound.Statement.{statement}
-use Rattle.panel.proofs.sound.is_sound.Tie as tie
-use Rattle.panel.proofs.sound.is_sound.Reads as reads
-use Rattle.panel.proofs.sound.is_sound.Lts as lts
+use Rattle.walk_state.proofs.SoundLaws.{lists-fail, numbers-fail, mass-fails, entries-fail, sums-decide, numbers-are}
+use Rattle.walk_state.proofs.sound.is_sound.Statement.{statement}
+use Rattle.walk_state.proofs.sound.is_sound.Tie as tie
+use Rattle.walk_state.proofs.sound.is_sound.Reads as reads
+use Rattle.walk_state.proofs.sound.is_sound.Lts as lts
 use Rattle.lent.proofs.lists_refusal.Reads as lists-refusal-reads
-use Rattle.panel.proofs.sound.entries_sound.Reads as entries-sound-reads
-use Rattle.panel.proofs.sound.none_above.Reads as none-above-reads
-use Rattle.panel.proofs.sound.numbers_sound.Reads as numbers-sound-reads
+use Rattle.walk_state.proofs.sound.entries_sound.Reads as entries-sound-reads
+use Rattle.walk_state.proofs.sound.none_above.Reads as none-above-reads
+use Rattle.walk_state.proofs.sound.numbers_sound.Reads as numbers-sound-reads
 
 lists-refusal-requires : tie.Need-lists-refusal-requires
 lists-refusal-requires c κs = search needs

@@ -4,7 +4,7 @@ ghost use mathlib.Core.Path.{_≡_};
 ghost use Prim.Native.Nat.{_%_, _≤_};
 ghost use lib.ListN.{length, drop};
 ghost use Rattle.walk.specs.Stack.{entryMass};
-ghost use Rattle.panel.specs.Sound.{soundEntry, soundEntries, noneAbove, soundNumbers, sound};
+ghost use Rattle.walk_state.specs.Sound.{soundEntry, soundEntries, noneAbove, soundNumbers, sound};
 
 // Whether an entry of a stack is sound, where the pending branches may have at most `room` mass and `below` words lie under it.
 fn entry_sound(

@@ -9,9 +9,9 @@ use lib.ListN.{drop}
 use Rattle.mass.specs.Split.{whole}
 use Rattle.sets.proofs.Bools.{and-left, and-right, and-both}
 use Rattle.plan.specs.LentLists.{listsRefusal}
-use Rattle.panel.specs.Sound.{soundEntries, noneAbove, soundNumbers, sound}
-use Rattle.panel.specs.declared.Walk.{Walk}
-use Rattle.panel.proofs.EntryLaws.{stops, goes}
+use Rattle.walk_state.specs.Sound.{soundEntries, noneAbove, soundNumbers, sound}
+use Rattle.walk_state.specs.declared.Walk.{Walk}
+use Rattle.walk_state.proofs.EntryLaws.{stops, goes}
 
 -- ---- the numbers
 

@@ -1,18 +1,18 @@
--- `panel::sound::entries_sound` meets its contract: the entries so far are sound, and their mass is off the room. Assumes nothing.
+-- `walk_state::sound::entries_sound` meets its contract: the entries so far are sound, and their mass is off the room. Assumes nothing.
 use borrow.Author.Needs.{needs}
 use borrow.Author.Tests.{not-true, not-false}
 use mathlib.Core.Path.{_≡_, refl, sym, _∙_}
 use Prim.Native.Nat.{_-_, _%_, _^_, _≤_, _<_}
 use native.Mathlib.Omega.{arith}
 use lib.ListN.{drop}
-use Rattle.panel.specs.Sound.{soundEntries}
-use Rattle.panel.proofs.EntryLaws.{entries-stop, entries-go, entries-end, entry-fits}
-use Rattle.panel.proofs.sound.entries_sound.Statement.{statement}
-use Rattle.panel.proofs.sound.entries_sound.Tie as tie
-use Rattle.panel.proofs.sound.entries_sound.Reads as reads
-use Rattle.panel.proofs.sound.entries_sound.Lts as lts
-use Rattle.panel.proofs.sound.entry_mass.Reads as entry-mass-reads
-use Rattle.panel.proofs.sound.entry_sound.Reads as entry-sound-reads
+use Rattle.walk_state.specs.Sound.{soundEntries}
+use Rattle.walk_state.proofs.EntryLaws.{entries-stop, entries-go, entries-end, entry-fits}
+use Rattle.walk_state.proofs.sound.entries_sound.Statement.{statement}
+use Rattle.walk_state.proofs.sound.entries_sound.Tie as tie
+use Rattle.walk_state.proofs.sound.entries_sound.Reads as reads
+use Rattle.walk_state.proofs.sound.entries_sound.Lts as lts
+use Rattle.walk_state.proofs.sound.entry_mass.Reads as entry-mass-reads
+use Rattle.walk_state.proofs.sound.entry_sound.Reads as entry-sound-reads
 
 abbrev Inv-loop : tie.InvT-loop
 Inv-loop count room stack at i₀ left₀ i left =

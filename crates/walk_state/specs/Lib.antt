@@ -1,0 +1,3 @@
+-- What the contracts of the crate `walk_state` cite.
+pub mod Sound
+pub mod States
