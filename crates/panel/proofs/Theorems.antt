@@ -2,6 +2,7 @@
 -- Assumes nothing.
 use mathlib.Core.Path.{_≡_, refl, sym, ap, ap₂, subst, _∙_}
 use mathlib.Core.Bool.{true, not}
+use mathlib.Core.Logic.{_⊎_, inl, inr}
 use mathlib.Core.List.{List, [], _∷_}
 use Prim.Native.Nat.{ℕ, _+_, _-_, _≤_, _<_, min}
 use native.Mathlib.Decide.{decLe}
@@ -37,7 +38,7 @@ use Rattle.panel.specs.declared.GoneOn.{GoneOn}
 use Rattle.walk_state.proofs.SoundLaws.{SoundWalk, sound-pass}
 use Rattle.walk_state.proofs.StateLaws.{entries-pass, below-pass}
 use Rattle.panel.proofs.GoingOn.{take-there}
-use Rattle.panel.proofs.Wanted.{wanted-sound, not-empty}
+use Rattle.panel.proofs.Wanted.{wanted-sound, not-empty, number-none, number-some}
 use Rattle.panel.proofs.Shown.{looked, pair-looked}
 
 -- ---- every state that an accepted begin and go-ons lead to passes the test of a state
@@ -93,6 +94,31 @@ pub reaches : (p : Plan) (n : ℕ) (w : Walk) (quota : Quota) (k : ℕ) (r : Gon
     → r .reached ≡ min (min k (length (firstEnds p) - n)) (quota .left)
 reaches p n w quota k r at went =
     went .reached ∙ ap (λ (x : ℕ). min x (quota .left)) (wanted-sound w k (walk-sound p n w at) ∙ ap (min k) (walk-left p n w at))
+
+-- "A call on an ended walk, or with k = 0, changes nothing", also where the quota is empty
+pub nothing-to-reach : (p : Plan) (n : ℕ) (w : Walk) (quota : Quota) (k : ℕ) (r : GoneOn) → WalkAt p n w → WentOn w quota k r
+    → (k ≡ 0) ⊎ (length (firstEnds p) ≤ n) → (r .number ≡ 0) × (r .reached ≡ 0) × (r .walk ≡ w) × (r .quota .left ≡ quota .left)
+nothing-to-reach p n w quota k r at went why =
+    let none : endsWanted w k ≡ 0 = wanted-sound w k (walk-sound p n w at) ∙ ap (min k) (walk-left p n w at) ∙ smaller why in
+    let still : r .reached ≡ 0 = omega (arith, went .reached, none) in
+    (went .number ∙ number-none w quota k none, still, went .unmoved still, omega (arith, went .drawn))
+  where
+    smaller : (k ≡ 0) ⊎ (length (firstEnds p) ≤ n) → min k (length (firstEnds p) - n) ≡ 0
+    smaller (inl e) = omega arith
+    smaller (inr e) = omega arith
+
+-- "after those two cases, 19 where the quota is empty, the walk and bounds left unchanged"
+pub quota-empty : (p : Plan) (n : ℕ) (w : Walk) (quota : Quota) (k : ℕ) (r : GoneOn) → WalkAt p n w → WentOn w quota k r
+    → 0 < k → n < length (firstEnds p) → quota .left ≡ 0 → (r .number ≡ 19) × (r .reached ≡ 0) × (r .walk ≡ w) × (r .quota .left ≡ 0)
+quota-empty p n w quota k r at went some more empty =
+    let wanted : endsWanted w k ≡ min k (length (firstEnds p) - n) =
+    wanted-sound w k (walk-sound p n w at) ∙ ap (min k) (walk-left p n w at) in
+    let still : r .reached ≡ 0 = omega (arith, went .reached, empty) in (
+      went .number ∙ number-some w quota k (omega (arith, wanted)) ∙ ap quotaTest empty,
+      still,
+      went .unmoved still,
+      omega (arith, went .drawn),
+    )
 
 -- ---- the cap of an accepted plan, and any cap up to it
 

@@ -7,7 +7,7 @@ use mathlib.Core.List.{List, []}
 use Prim.Native.Nat.{ℕ, _+_, _-_, _≤_, _<_, min}
 use native.Mathlib.Decide.{decLt}
 use native.Mathlib.Omega.{arith}
-use borrow.Author.Tests.{lt-ltb, le-ltb, eqb-true, eqb-false, ne-eqb}
+use borrow.Author.Tests.{lt-ltb, le-ltb, eqb-true, eqb-false, eq-eqb, ne-eqb}
 use lib.Dec.{ltb, eqb}
 use lib.ListN.{length}
 use Rattle.mass.proofs.RefusalLaws.{refuse-none}
@@ -107,14 +107,26 @@ module _ (w : Walk) (size : length (w .stack) ≡ 512) (k : ℕ) where
             wanted = rw (wanted-sound w k e) (some-wanted k (w .header .limit - w .reached) (length (endsToCome w)) (rw left at z) some);
           }
 
+-- ---- the quota
+
+pub quota-refused : (left : ℕ) → left ≡ 0 → 19 ≡ quotaTest left
+quota-refused left e = rw (eq-eqb left 0 e)
+
+pub quota-passed : (left : ℕ) → 0 < left → 0 ≡ quotaTest left
+quota-passed left h = rw (ne-eqb left 0 (λ z. omega arith))
+
+-- a quota that is not refused holds an end or more
+pub quota-some : (left : ℕ) → quotaTest left ≡ 0 → 0 < left
+quota-some left e = let some = eqb-false left 0 (refuse-none (eqb left 0) 18 e) in omega arith
+
 -- ---- the answers
 
 module _ (w : Walk) (quota : Quota) (k : ℕ) where
-  number-none : endsWanted w k ≡ 0 → goOnNumber w quota k ≡ 0
+  pub number-none : endsWanted w k ≡ 0 → goOnNumber w quota k ≡ 0
   unfolding goOnNumber
   number-none e = rw (e, goOnNumber)
 
-  number-some : 0 < endsWanted w k → goOnNumber w quota k ≡ quotaTest (quota .left)
+  pub number-some : 0 < endsWanted w k → goOnNumber w quota k ≡ quotaTest (quota .left)
   unfolding goOnNumber
   number-some h = rw (lt-ltb 0 (endsWanted w k) h, goOnNumber)
 
@@ -123,7 +135,7 @@ module _ (w : Walk) (quota : Quota) (k : ℕ) where
   not-empty h = step (decLt 0 (endsWanted w k))
     where
       step : Dec (0 < endsWanted w k) → goOnNumber w quota k ≡ 0
-      step (yes some) = number-some some ∙ rw (ne-eqb (quota .left) 0 (λ z. omega arith))
+      step (yes some) = number-some some ∙ sym (quota-passed (quota .left) h)
       step (no none) = number-none (omega arith)
 
   -- no end more
@@ -155,10 +167,6 @@ module _ (w : Walk) (quota : Quota) (k : ℕ) where
     where
       empty : quota .left ≡ 0
       empty = eqb-true (quota .left) 0 (so-unless (eqb (quota .left) 0) (λ f. not-none (e ∙ rw f)))
-
--- a quota that is not refused holds an end or more
-pub quota-some : (left : ℕ) → quotaTest left ≡ 0 → 0 < left
-quota-some left e = let some = eqb-false left 0 (refuse-none (eqb left 0) 18 e) in omega arith
 
 -- so many ends are allowed
 module _ (w : Walk) (quota : Quota) (k : ℕ) (size : length (w .stack) ≡ 512) (o : Open w size k) (allowed : ℕ)

@@ -1,6 +1,7 @@
 -- The test of a state: whether fields that are set to anything may be gone on with. Every state that an accepted begin and go-ons lead to
 -- passes it (`walk-sound` in proofs/Theorems.antt).
 -- Assumes nothing.
+use mathlib.Core.Path.{_≡_, refl}
 use mathlib.Core.Bool.{Bool, true, false, _&&_}
 use mathlib.Core.List.{List, [], _∷_}
 use Prim.Native.Nat.{ℕ, _-_, _*_, _%_, _^_}
@@ -30,14 +31,33 @@ soundEntries count room (a ∷ b ∷ c ∷ []) = false
 soundEntries count room (depth ∷ mass ∷ low ∷ high ∷ rest) =
     soundEntry count room depth mass low high (length rest) && soundEntries count (room - entryMass depth mass) rest
 
+-- examples: the root alone; a branch after three events where there are two; more mass than there is room for; an entry of no dropped end
+example-entries : (soundEntries 2 whole (0 ∷ whole ∷ 0 ∷ 0 ∷ []) ≡ true)
+    × (soundEntries 2 whole (3 ∷ whole ∷ 0 ∷ 0 ∷ []) ≡ false)
+    × (soundEntries 2 (whole - 1) (0 ∷ whole ∷ 0 ∷ 0 ∷ []) ≡ false)
+    × (soundEntries 2 whole (129 ∷ 0 ∷ 0 ∷ 0 ∷ []) ≡ false)
+unfolding soundEntries soundEntry entryMass
+example-entries = (refl, refl, refl, refl)
+
 -- no number of a list is above `most`
 unfoldable pub noneAbove : ℕ → List ℕ → Bool
 noneAbove most [] = true
 noneAbove most (x ∷ list) = leb x most && noneAbove most list
 
+-- example: 7 is at most 7, and 8 is not
+example-above : (noneAbove 7 (3 ∷ 7 ∷ []) ≡ true) × (noneAbove 7 (3 ∷ 8 ∷ []) ≡ false)
+unfolding noneAbove
+example-above = (refl, refl)
+
 -- no more scenarios were examined than ends reached, no more ends reached than the cap, and the stack begins at an entry
 unfoldable pub soundNumbers : ℕ → ℕ → ℕ → ℕ → Bool
 soundNumbers limit at reached count = leb count reached && (leb reached limit && (eqb (at % 4) 0 && leb at 512))
+
+-- examples: 5 ends of a cap of 9, 4 of them examined; more examined than reached; more reached than the cap; a stack that begins inside an
+-- entry
+example-numbers : (soundNumbers 9 508 5 4 ≡ true) × (soundNumbers 9 508 5 6 ≡ false) × (soundNumbers 4 508 5 4 ≡ false) × (soundNumbers 9 507 5 4 ≡ false)
+unfolding soundNumbers
+example-numbers = (refl, refl, refl, refl)
 
 -- a state that may be gone on with: its lists meet no refusal, its numbers are sound, what it has and what is pending are at most one whole
 -- together, and no pair has more than it has

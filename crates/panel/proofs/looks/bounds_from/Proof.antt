@@ -14,7 +14,9 @@ returns : tie.Need-returns
 returns c = sym (shown-false _ _ _ (sym (c .before .may-show .ensures) ∙ not-true _ (c .if1 .taken)))
 
 sub-t8 : tie.Need-sub-t8
-sub-t8 c = may-is _ _ _ (sym (c .before .before .may-show .ensures) ∙ not-false _ (c .before .if1 .left)) .0
+sub-t8 c =
+    let fits = may-is _ _ _ (sym (c .before .before .may-show .ensures) ∙ not-false _ (c .before .if1 .left)) in
+    omega (arith, fits .0, fits .1)
 
 add-t9 : tie.Need-add-t9
 add-t9 c =
