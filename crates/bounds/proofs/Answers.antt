@@ -3,7 +3,6 @@
 use mathlib.Core.Path.{_≡_, refl, sym, ap, subst₂, _∙_}
 use mathlib.Core.List.{List, map}
 use Prim.Native.Nat.{ℕ, zero, suc, _+_, _-_, _<_, _≤_}
-use native.Mathlib.Numerals.{add-one}
 use native.Mathlib.Omega.{arith}
 use borrow.Author.Tests.{leb-false}
 use lib.Dec.{leb}
@@ -21,11 +20,11 @@ use Rattle.walk.proofs.Valid.{plan-probable}
 use Rattle.sums.proofs.BoundsLaws.{upper-lower}
 use Rattle.sums.proofs.Theorems.{demand3-valid}
 use Rattle.pairs.specs.BoundsFit.{BoundsFit}
-use Rattle.pairs.specs.Pairs.{table, start, place, pairCount, pairTest}
-use Rattle.pairs.proofs.PairLaws.{table-is, table-at, table-long, map-table, table-same, place-is, place-lt, pairs-most}
+use Rattle.pairs.specs.Pairs.{table, place, pairCount, pairTest}
+use Rattle.pairs.proofs.PairLaws.{table-is, table-at, table-long, map-table, table-same, place-lt, pairs-most}
 use Rattle.bounds.specs.Bounds.{cuts, lowerOf, upperOf, lowerList, upperList, Encloses, EnclosesAll}
 use Rattle.bounds.specs.Calls.{ranAnswer, pairRefusal, pairAnswer, boundsOf}
-use Rattle.bounds.specs.Tallied.{Summed}
+use Rattle.bounds.specs.Summed.{Summed}
 use Rattle.bounds.specs.declared.Totals.{Totals}
 use Rattle.bounds.specs.declared.Ran.the-variants as ran
 use Rattle.bounds.specs.declared.PairBounds.{PairBounds}

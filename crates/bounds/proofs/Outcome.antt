@@ -23,7 +23,7 @@ use Rattle.pairs.proofs.PairLaws.{pairs-most}
 use Rattle.bounds.specs.Bounds.{lowerList, upperList, Encloses, EnclosesAll}
 use Rattle.bounds.specs.Calls.{runRefusal, runNumber, ranAnswer, totalsOf, totalsIn, pairRefusal, pairNumber, pairAnswer, boundsOf}
 use Rattle.bounds.specs.Calls.{boundsIn}
-use Rattle.bounds.specs.Tallied.{Summed}
+use Rattle.bounds.specs.Summed.{Summed}
 use Rattle.bounds.specs.declared.Totals.{Totals}
 use Rattle.bounds.specs.declared.Ran.{Ran}
 use Rattle.bounds.specs.declared.Ran.the-variants as ran

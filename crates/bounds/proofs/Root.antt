@@ -21,7 +21,8 @@ use Rattle.walk.proofs.Valid.{held-probable}
 use Rattle.walk.proofs.Resume.{Alone, begun-stack, begun-whole, root-entry, complete-at}
 use Rattle.pairs.specs.Pairs.{place}
 use Rattle.bounds.specs.Bounds.{cuts}
-use Rattle.bounds.specs.Tallied.{coming, reached, Ready, Tallied, Summed, Cleared}
+use Rattle.bounds.specs.Tallied.{coming, reached, Ready, Tallied}
+use Rattle.bounds.specs.Summed.{Summed, Cleared}
 use Rattle.bounds.specs.Calls.{totalsOf}
 use Rattle.bounds.specs.declared.Tally.{Tally}
 

@@ -5,7 +5,7 @@ use Prim.Native.Nat.{ℕ, _<_}
 use native.Mathlib.Decide.{decLt}
 use native.Mathlib.Omega.{arith}
 use lib.ListN.{getD, replicate, getD-replicate, List·getD-eq-default, length-replicate}
-use Rattle.bounds.specs.Tallied.{Cleared}
+use Rattle.bounds.specs.Summed.{Cleared}
 
 -- an array of zeros
 zeros-at : (n i : ℕ) → getD (replicate {A = ℕ} n 0) i 0 ≡ 0

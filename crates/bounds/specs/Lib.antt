@@ -1,4 +1,5 @@
 -- What the contracts of the crate `bounds` cite.
 pub mod Bounds
+pub mod Summed
 pub mod Tallied
 pub mod Calls

@@ -14,10 +14,8 @@ use Rattle.walk.specs.Ends.{End, sumEnds, weighed}
 use Rattle.walk.specs.Stack.{Stack, toCome, pendingMass}
 use Rattle.walk.specs.declared.Step.{Step}
 use Rattle.pairs.specs.Pairs.{place}
-use Rattle.bounds.specs.Bounds.{cuts, lowerOf}
+use Rattle.bounds.specs.Bounds.{cuts}
 use Rattle.bounds.specs.declared.Tally.{Tally}
-use Rattle.plan.specs.Plan.{Plan}
-use Rattle.walk.specs.Walk.{massExamined}
 
 -- the ends still to come of a walk over lent lists
 abbrev pub coming : Header → List ℕ → ℕ → List ℕ → List End
@@ -65,14 +63,3 @@ pub record Tallied (h : Header) (links words stack lower : List ℕ) (start : Ta
   pub stacked : Stack (h .events) (r .at) stack′
   pub sized : length lower′ ≡ 2016
   pub lighter : r .mass + pendingMass (drop (r .at) stack′) ≤ start .mass + pendingMass (drop (start .at) stack)
-
--- the entries of all pairs hold the lower bounds of a plan, and no entry is above the mass examined
-pub record Summed (p : Plan) (n : ℕ) (lower : List ℕ) : Type 0 where
-  pub sized : length lower ≡ 2016
-  pub below : (i : ℕ) → getD lower i 0 ≤ massExamined p
-  pub each : (v w : ℕ) → v < w → w < n → getD lower (place n v w) 0 ≡ lowerOf p v w
-
--- 2016 zeros
-pub record Cleared (lower : List ℕ) : Type 0 where
-  pub sized : length lower ≡ 2016
-  pub zeros : (i : ℕ) → getD lower i 0 ≡ 0

@@ -4,13 +4,13 @@ use crate::Totals;
 use crate::ends::go_on;
 use plan::Header;
 ghost use mathlib.Core.Path.{_≡_};
-ghost use Prim.Native.Nat.{_≤_, _<_};
+ghost use Prim.Native.Nat.{_<_};
 ghost use lib.Dec.{leb};
 ghost use Rattle.sets.specs.Sets.{digit};
 ghost use Rattle.plan.specs.LentLists.{planOfLists};
 ghost use Rattle.plan.specs.Held.{Held};
 ghost use Rattle.bounds.specs.Calls.{totalsOf};
-ghost use Rattle.bounds.specs.Tallied.{Summed, Cleared};
+ghost use Rattle.bounds.specs.Summed.{Summed, Cleared};
 
 // 1 where no branch is left on the stack, else 0.
 pub fn none_left(at: usize) -> u64

@@ -9,17 +9,13 @@ use lib.ListN.{length, getD, drop}
 use lib.Seq.{sets}
 use Rattle.mass.specs.Refusal.{first}
 use Rattle.plan.specs.Layout.{Bytes}
-use Rattle.plan.specs.Lists.{eventsOf, linkBytes, eventWords}
-use Rattle.refusals.specs.Tests.{roomTest, countsTest}
+use Rattle.plan.specs.Lists.{linkBytes, eventWords}
+use Rattle.refusals.specs.Tests.{roomTest}
 use Rattle.plan.specs.File.{refusal, planOf, linksIn, eventsIn}
-use Rattle.plan.specs.LentLists.{eventListRefusal, planOfLists, listsRefusal}
+use Rattle.plan.specs.LentLists.{planOfLists}
 use Rattle.plan.specs.Calls.{filled, headerOf, readRefusal}
 use Rattle.plan.proofs.FileLawsAccepted.{accepted-counts}
-use Rattle.plan.specs.declared.Header.{Header}
-use Rattle.refusals.proofs.TestLaws.{counts-none}
-use Rattle.mass.specs.Split.{certain}
 use Rattle.layout.proofs.LayoutFile.{ValidPlan, file-none, read-valid, valid-pass}
-use Rattle.layout.proofs.ListLaws.{length-links-of, length-events-of}
 use Rattle.layout.proofs.Theorems.{read-denotes, lists-accepted}
 use Rattle.files.proofs.ReaderLawsAnswer.{length-links, length-events}
 use Rattle.input.specs.Loaded.{Loaded}

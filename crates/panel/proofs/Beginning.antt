@@ -1,16 +1,15 @@
 -- A walk that begins: it has reached no end of its plan.
 -- Assumes nothing.
-use mathlib.Core.Path.{_≡_, refl, sym, ap, _∙_}
+use mathlib.Core.Path.{_≡_, refl, ap, _∙_}
 use mathlib.Core.List.{List, [], _∷_}
-use Prim.Native.Nat.{ℕ, zero, suc, _≤_, min}
+use Prim.Native.Nat.{ℕ, zero, suc, min}
 use native.Mathlib.Omega.{arith}
 use lib.ListN.{length, take, replicate}
 use lib.Seq.{sets}
 use Rattle.mass.specs.Split.{whole}
-use Rattle.plan.specs.Plan.{Plan}
 use Rattle.plan.specs.LentLists.{planOfLists}
 use Rattle.plan.specs.declared.Header.{Header}
-use Rattle.lent.specs.Taken.{Taken, listsNumber}
+use Rattle.lent.specs.Taken.{Taken}
 use Rattle.walk.specs.Walk.{planEnds}
 use Rattle.walk.specs.Stack.{Begun}
 use Rattle.walk.proofs.Resume.{Alone, begun-alone, begun-stack, begun-whole, begun-mass, root-entry}
@@ -20,7 +19,6 @@ use Rattle.walk_state.specs.States.{noWalk}
 use Rattle.panel.specs.Walks.{WalkAt, rootWalk}
 use Rattle.walk_state.specs.States.{walkAnswer}
 use Rattle.walk_state.specs.declared.Walk.{Walk}
-use Rattle.walk_state.specs.declared.WalkAnswer.{WalkAnswer}
 
 -- an array of zeros
 abbrev zeros : ℕ → List ℕ

@@ -1,28 +1,27 @@
 -- A walk gone on with: from the test of its state to what the loop asks, and from what the loop promises to what a go-on does.
 -- Assumes nothing.
 use mathlib.Core.Path.{_≡_, refl, sym, ap, subst, _∙_}
-use mathlib.Core.List.{List, [], _∷_, _++_}
+use mathlib.Core.List.{List, [], _∷_}
 use Prim.Native.Nat.{ℕ, zero, suc, _+_, _-_, _≤_, _<_, min}
 use native.Mathlib.Omega.{arith}
-use lib.ListN.{length, getD, take, drop, length-drop, length-take}
+use lib.ListN.{length, take, drop, length-drop, length-take}
 use lib.Seq.{take-add, drop-drop}
 use Rattle.mass.specs.Split.{whole}
 use Rattle.sets.specs.Sets.{digit}
 use Rattle.plan.specs.Plan.{Plan}
 use Rattle.plan.specs.Held.{Held}
-use Rattle.plan.specs.LentLists.{planRefusal, planOfLists}
+use Rattle.plan.specs.LentLists.{planOfLists}
 use Rattle.lent.proofs.Accepted.{lists-held, limit-most}
-use Rattle.layout.proofs.Theorems.{lists-accepted}
 use Rattle.walk.specs.Scenario.{Scenario}
-use Rattle.walk.specs.Ends.{End, sumEnds, weighed}
-use Rattle.walk.specs.Stack.{Stack, pendingMass}
+use Rattle.walk.specs.Ends.{End, sumEnds}
+use Rattle.walk.specs.Stack.{Stack}
 use Rattle.walk.specs.Walk.{planEnds, count, massExamined}
 use Rattle.walk.proofs.EndsLaws.{sumEnds-append, count-sum}
 use Rattle.walk.proofs.PendingMass.{pending-covers}
 use Rattle.walk.proofs.Valid.{held-probable}
-use Rattle.pairs.specs.Pairs.{place}
-use Rattle.bounds.specs.Bounds.{cuts, lowerOf}
-use Rattle.bounds.specs.Tallied.{Ready, Tallied, Summed, reached}
+use Rattle.bounds.specs.Bounds.{cuts}
+use Rattle.bounds.specs.Tallied.{Ready, Tallied, reached}
+use Rattle.bounds.specs.Summed.{Summed}
 use Rattle.bounds.specs.declared.Tally.{Tally}
 use Rattle.panel.specs.Walks.{capped, walkPlan, endsToCome, WalkAt}
 use Rattle.walk_state.specs.declared.Walk.{Walk}

@@ -1,6 +1,6 @@
 -- What a look shows of a walk: what a run whose cap is the number of ends reached gives.
 -- Assumes nothing.
-use mathlib.Core.Path.{_≡_, refl, sym, ap, ap₂, subst, _∙_}
+use mathlib.Core.Path.{_≡_, refl, sym, ap, subst, _∙_}
 use mathlib.Core.Bool.{true, false, _&&_}
 use Prim.Native.Nat.{ℕ, zero, suc, _+_, _-_, _≤_, _<_}
 use native.Mathlib.Decide.{decLe}
@@ -10,9 +10,9 @@ use lib.Dec.{leb}
 use lib.ListN.{getD}
 use Rattle.mass.specs.Split.{whole}
 use Rattle.sets.specs.Sets.{digit}
-use Rattle.sets.proofs.Bools.{and-left, and-right, and-both}
+use Rattle.sets.proofs.Bools.{and-left, and-right}
 use Rattle.plan.specs.Plan.{Plan}
-use Rattle.plan.specs.LentLists.{planOfLists, planRefusal}
+use Rattle.plan.specs.LentLists.{planOfLists}
 use Rattle.lent.proofs.Accepted.{lists-held}
 use Rattle.layout.proofs.Theorems.{lists-accepted}
 use Rattle.walk.specs.Walk.{complete}
@@ -22,8 +22,6 @@ use Rattle.sums.proofs.BoundsLaws.{upper-lower}
 use Rattle.pairs.specs.Pairs.{place, pairTest}
 use Rattle.bounds.specs.Bounds.{cuts, lowerOf, upperOf}
 use Rattle.bounds.specs.Calls.{totalsOf, boundsOf, pairAnswer}
-use Rattle.bounds.specs.declared.PairBounds.{PairBounds}
-use Rattle.bounds.specs.declared.Totals.{Totals}
 use Rattle.bounds.proofs.Answers.{pair-inside}
 use Rattle.panel.specs.Walks.{capped, walkPlan, WalkAt}
 use Rattle.panel.specs.Calls.{lookOf, mayShow, boundsShown, lookPairOf}

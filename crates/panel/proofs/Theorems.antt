@@ -1,6 +1,6 @@
 -- What a walk in steps gives: document 02, request U4. The statements are over the definitions that the contracts cite.
 -- Assumes nothing.
-use mathlib.Core.Path.{_≡_, refl, sym, ap, ap₂, subst, _∙_}
+use mathlib.Core.Path.{_≡_, refl, sym, ap, subst, _∙_}
 use mathlib.Core.Bool.{true, not}
 use mathlib.Core.Logic.{_⊎_, inl, inr}
 use mathlib.Core.List.{List, [], _∷_}
@@ -8,29 +8,26 @@ use Prim.Native.Nat.{ℕ, _+_, _-_, _≤_, _<_, min}
 use native.Mathlib.Decide.{decLe}
 use native.Mathlib.Omega.{arith}
 use borrow.Author.Tests.{le-leb, lt-leb, le-ltb, ltb-false}
-use lib.Dec.{leb, ltb}
+use lib.Dec.{ltb}
 use lib.ListN.{length, drop, take, length-take, length-drop}
 use Rattle.mass.specs.Split.{whole}
 use Rattle.mass.proofs.RefusalLaws.{refuse-none}
 use Rattle.sets.specs.Sets.{digit}
-use Rattle.refusals.specs.Tests.{limitTest}
 use Rattle.refusals.proofs.TestLaws.{or-none}
 use Rattle.plan.specs.Plan.{Plan}
 use Rattle.plan.specs.LentLists.{planRefusal, planOfLists}
 use Rattle.layout.proofs.LayoutFile.{valid-none, valid-pass}
 use Rattle.layout.proofs.Theorems.{lists-accepted}
 use Rattle.walk.specs.Ends.{End, dropped, relevant, sumEnds, scenarios, weighed}
-use Rattle.walk.specs.Walk.{planEnds, firstEnds, count, complete, massExamined}
+use Rattle.walk.specs.Walk.{planEnds, firstEnds, count, complete}
 use Rattle.walk.proofs.EndsLaws.{count-sum}
 use Rattle.walk.proofs.Resume.{ends-some}
-use Rattle.bounds.specs.Bounds.{cuts, lowerOf, upperOf, Encloses}
+use Rattle.bounds.specs.Bounds.{cuts, Encloses}
 use Rattle.bounds.specs.Calls.{totalsOf, boundsOf}
-use Rattle.bounds.specs.declared.Totals.{Totals}
-use Rattle.bounds.specs.declared.PairBounds.{PairBounds}
 use Rattle.bounds.proofs.Answers.{enclosed}
 use Rattle.walk_state.specs.Sound.{sound}
-use Rattle.panel.specs.Walks.{capped, walkPlan, endsToCome, endsLeft, WalkAt}
-use Rattle.panel.specs.Calls.{fullQuota, quotaTest, endsWanted, goOnNumber, WentOn, lookOf, lookPairOf}
+use Rattle.panel.specs.Walks.{capped, walkPlan, endsLeft, WalkAt}
+use Rattle.panel.specs.Calls.{fullQuota, quotaTest, endsWanted, WentOn, lookOf, lookPairOf}
 use Rattle.panel.specs.Sessions.{On, own, other, Call, madeOn, walkAfter, ownEnds, Answered, lastWalk, lastQuota, endsOfWalk, endsOfAll}
 use Rattle.walk_state.specs.declared.Walk.{Walk}
 use Rattle.panel.specs.declared.Quota.{Quota}

@@ -1,14 +1,14 @@
 -- How many ends a go-on is to reach, and its answer in each case.
 -- Assumes nothing.
 use mathlib.Core.Path.{_≡_, refl, sym, ap, subst, _∙_}
-use mathlib.Core.Bool.{Bool, true, false}
+use mathlib.Core.Bool.{true, false}
 use mathlib.Core.Logic.{_⊎_, inl, inr}
 use mathlib.Core.List.{List, []}
 use Prim.Native.Nat.{ℕ, _+_, _-_, _≤_, _<_, min}
 use native.Mathlib.Decide.{decLt}
 use native.Mathlib.Omega.{arith}
 use borrow.Author.Tests.{lt-ltb, le-ltb, eqb-true, eqb-false, eq-eqb, ne-eqb}
-use lib.Dec.{ltb, eqb}
+use lib.Dec.{eqb}
 use lib.ListN.{length}
 use Rattle.mass.proofs.RefusalLaws.{refuse-none}
 use Rattle.sets.proofs.Bools.{which, so-unless}
@@ -22,8 +22,7 @@ use Rattle.panel.specs.Walks.{endsToCome, endsLeft, WalkAt}
 use Rattle.panel.specs.Calls.{quotaTest, openEnds, endsWanted, goOnNumber, WentOn}
 use Rattle.walk_state.specs.declared.Walk.{Walk}
 use Rattle.panel.specs.declared.Quota.{Quota}
-use Rattle.panel.specs.declared.GoneOn.{GoneOn}
-use Rattle.walk_state.proofs.SoundLaws.{SoundWalk, sound-is}
+use Rattle.walk_state.proofs.SoundLaws.{sound-is}
 use Rattle.panel.proofs.GoingOn.{sound-stack, tallyOf, walkOn, got-is, kept}
 
 -- ---- the smallest of k, what the cap allows (c), what is to come (n) and the quota (q)

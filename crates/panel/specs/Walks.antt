@@ -2,7 +2,7 @@
 -- Assumes nothing.
 use mathlib.Core.Path.{_≡_}
 use mathlib.Core.List.{List, [], _∷_}
-use Prim.Native.Nat.{ℕ, zero, suc, _+_, _-_, _≤_, min}
+use Prim.Native.Nat.{ℕ, _+_, _-_, _≤_, min}
 use lib.ListN.{length, take, drop, replicate}
 use lib.Seq.{sets}
 use Rattle.mass.specs.Split.{whole}
@@ -11,8 +11,8 @@ use Rattle.plan.specs.LentLists.{planRefusal, planOfLists}
 use Rattle.plan.specs.declared.Header.{Header}
 use Rattle.walk.specs.Ends.{End}
 use Rattle.walk.specs.Walk.{planEnds, count, massExamined}
-use Rattle.walk.specs.Stack.{Stack, pendingMass}
-use Rattle.bounds.specs.Tallied.{coming, Summed}
+use Rattle.walk.specs.Stack.{Stack, toCome, pendingMass}
+use Rattle.bounds.specs.Summed.{Summed}
 use Rattle.walk_state.specs.declared.Walk.{Walk}
 
 -- "a run whose cap is the number of ends reached so far": the plan with its cap replaced by r
@@ -25,7 +25,7 @@ walkPlan w = planOfLists (w .header) (w .links) (w .events)
 
 -- the ends still to come of a walk
 abbrev pub endsToCome : Walk → List End
-endsToCome w = coming (w .header) (w .events) (w .at) (w .stack)
+endsToCome w = toCome (w .header .events) (w .header .threshold) (w .events) (w .at) (w .stack)
 
 -- "the ends the walk still has under the plan's cap"
 abbrev pub endsLeft : Walk → ℕ

@@ -22,7 +22,7 @@ use Rattle.pairs.specs.Pairs.{place}
 use Rattle.bounds.specs.Bounds.{lowerOf}
 use Rattle.pairs.specs.BoundsFit.{BoundsFit}
 use Rattle.bounds.specs.Calls.{totalsOf}
-use Rattle.bounds.specs.Tallied.{Summed}
+use Rattle.bounds.specs.Summed.{Summed}
 use Rattle.bounds.specs.declared.Totals.{Totals}
 use Rattle.bounds.proofs.Answers.{raised}
 use Rattle.input.specs.Loaded.{Loaded}

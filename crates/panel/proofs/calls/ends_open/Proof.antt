@@ -2,7 +2,6 @@
 use borrow.Author.Needs.{needs}
 use borrow.Author.Tests.{not-true, not-false}
 use mathlib.Core.Path.{sym, _∙_}
-use native.Mathlib.Omega.{arith}
 use Rattle.walk_state.proofs.SoundLaws.{sound-is}
 use Rattle.panel.proofs.Wanted.{open-unsound, open-ended, open-sound}
 use Rattle.panel.proofs.calls.ends_open.Statement.{statement}

@@ -1,7 +1,6 @@
 -- `panel::looks::look` meets its contract. Assumes nothing.
 use borrow.Author.Needs.{needs}
 use mathlib.Core.Path.{_≡_, _∙_}
-use Rattle.bounds.specs.declared.Totals.{Totals}
 use Rattle.panel.specs.Calls.{lookOf}
 use Rattle.panel.proofs.Shown.{looked}
 use Rattle.panel.proofs.looks.look.Statement.{statement}

@@ -9,10 +9,6 @@ use Rattle.walk_state.specs.Sound.{soundEntries}
 use Rattle.walk_state.proofs.EntryLaws.{entries-stop, entries-go, entries-end, entry-fits}
 use Rattle.walk_state.proofs.sound.entries_sound.Statement.{statement}
 use Rattle.walk_state.proofs.sound.entries_sound.Tie as tie
-use Rattle.walk_state.proofs.sound.entries_sound.Reads as reads
-use Rattle.walk_state.proofs.sound.entries_sound.Lts as lts
-use Rattle.walk_state.proofs.sound.entry_mass.Reads as entry-mass-reads
-use Rattle.walk_state.proofs.sound.entry_sound.Reads as entry-sound-reads
 
 abbrev Inv-loop : tie.InvT-loop
 Inv-loop count room stack at i₀ left₀ i left =

@@ -6,12 +6,6 @@ use native.Mathlib.Omega.{arith}
 use Rattle.walk_state.proofs.SoundLaws.{lists-fail, numbers-fail, mass-fails, entries-fail, sums-decide, numbers-are}
 use Rattle.walk_state.proofs.sound.is_sound.Statement.{statement}
 use Rattle.walk_state.proofs.sound.is_sound.Tie as tie
-use Rattle.walk_state.proofs.sound.is_sound.Reads as reads
-use Rattle.walk_state.proofs.sound.is_sound.Lts as lts
-use Rattle.lent.proofs.lists_refusal.Reads as lists-refusal-reads
-use Rattle.walk_state.proofs.sound.entries_sound.Reads as entries-sound-reads
-use Rattle.walk_state.proofs.sound.none_above.Reads as none-above-reads
-use Rattle.walk_state.proofs.sound.numbers_sound.Reads as numbers-sound-reads
 
 lists-refusal-requires : tie.Need-lists-refusal-requires
 lists-refusal-requires c κs = search needs

@@ -7,8 +7,6 @@ use Rattle.walk_state.specs.Sound.{noneAbove}
 use Rattle.walk_state.proofs.EntryLaws.{above-stop, above-go, above-end}
 use Rattle.walk_state.proofs.sound.none_above.Statement.{statement}
 use Rattle.walk_state.proofs.sound.none_above.Tie as tie
-use Rattle.walk_state.proofs.sound.none_above.Reads as reads
-use Rattle.walk_state.proofs.sound.none_above.Lts as lts
 
 abbrev Inv-loop : tie.InvT-loop
 Inv-loop most sums i₀ i = (i ≤ 2016) × (noneAbove most sums ≡ noneAbove most (drop i sums))
