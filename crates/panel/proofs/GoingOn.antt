@@ -24,6 +24,7 @@ use Rattle.bounds.specs.Tallied.{Ready, Tallied, reached}
 use Rattle.bounds.specs.Summed.{Summed}
 use Rattle.bounds.specs.declared.Tally.{Tally}
 use Rattle.panel.specs.Walks.{capped, walkPlan, endsToCome, WalkAt}
+use Rattle.panel.specs.Steps.{WalkedOn}
 use Rattle.walk_state.specs.declared.Walk.{Walk}
 use Rattle.walk_state.proofs.SoundLaws.{SoundWalk}
 use Rattle.walk_state.proofs.StateLaws.{entries-are, below-is}
@@ -35,7 +36,7 @@ abbrev pub tallyOf : Walk → ℕ → Tally
 tallyOf w allowed = record { at = w .at; left = allowed; number = w .count; mass = w .mass }
 
 module _ (w : Walk) (s : SoundWalk w) where
-  held : Held (w .header) (w .links) (w .events)
+  pub held : Held (w .header) (w .links) (w .events)
   held = lists-held (w .header) 256 128 (w .links) (w .events) (s .accepted)
 
   pub limited : w .header .limit < 4294967296
@@ -104,7 +105,7 @@ module _ (n k : ℕ) (list : List End) where
 module _ (w : Walk) (allowed : ℕ) (stack′ sums′ : List ℕ) (r : Tally)
     (t : Tallied (w .header) (w .links) (w .events) (w .stack) (w .sums) (tallyOf w allowed) stack′ sums′ r) where
   -- the walk after so many ends more
-  abbrev pub walkOn : ℕ → Walk
+  abbrev walkOn : ℕ → Walk
   walkOn got =
       record {
         header = w .header;
@@ -119,7 +120,7 @@ module _ (w : Walk) (allowed : ℕ) (stack′ sums′ : List ℕ) (r : Tally)
       }
 
   -- how many ends it has reached
-  pub got-is : allowed - r .left ≡ min allowed (length (endsToCome w))
+  got-is : allowed - r .left ≡ min allowed (length (endsToCome w))
   got-is = omega (arith, t .left, length-take allowed (endsToCome w))
 
   -- what it has so far is that of the plan with a cap of so many ends
@@ -173,10 +174,17 @@ module _ (w : Walk) (allowed : ℕ) (stack′ sums′ : List ℕ) (r : Tally)
     kept-here : WalkAt p (n + (allowed - r .left)) (walkOn (allowed - r .left))
     kept-here = subst (λ (x : ℕ). WalkAt p (n + x) (walkOn x)) (sym same-got) own-kept
 
-  -- law: a walk of a plan stays one
-  pub kept : (q : Plan) (n : ℕ) → WalkAt q n w → allowed + w .reached ≤ w .header .limit
+  kept : (q : Plan) (n : ℕ) → WalkAt q n w → allowed + w .reached ≤ w .header .limit
       → WalkAt q (n + (allowed - r .left)) (walkOn (allowed - r .left))
   kept q n at fits =
       subst (λ (x : Plan). WalkAt x n w → WalkAt x (n + (allowed - r .left)) (walkOn (allowed - r .left))) (at .plan)
       (λ (here : WalkAt (walkPlan w) n w). kept-here n here (omega (arith, here .reached)))
       at
+
+  -- law: it has reached so many ends more as there are of those allowed, and a walk of a plan stays one
+  pub walked : allowed + w .reached ≤ w .header .limit → WalkedOn w allowed (walkOn (allowed - r .left))
+  walked fits =
+      record {
+        reached = ap (λ (x : ℕ). w .reached + x) got-is;
+        moved = λ q n at. subst (λ (x : ℕ). WalkAt q (n + x) (walkOn (allowed - r .left))) got-is (kept q n at fits);
+      }

@@ -3,7 +3,7 @@
 use mathlib.Core.Path.{_≡_, refl, sym, ap, subst, _∙_}
 use mathlib.Core.Bool.{true, false}
 use mathlib.Core.Logic.{_⊎_, inl, inr}
-use mathlib.Core.List.{List, []}
+use mathlib.Core.List.{[]}
 use Prim.Native.Nat.{ℕ, _+_, _-_, _≤_, _<_, min}
 use native.Mathlib.Decide.{decLt}
 use native.Mathlib.Omega.{arith}
@@ -15,27 +15,25 @@ use Rattle.sets.proofs.Bools.{which, so-unless}
 use Rattle.plan.specs.Plan.{Plan}
 use Rattle.walk.specs.Stack.{toCome}
 use Rattle.walk.proofs.Resume.{none-to-come, some-to-come}
-use Rattle.bounds.specs.Tallied.{Tallied}
-use Rattle.bounds.specs.declared.Tally.{Tally}
 use Rattle.walk_state.specs.Sound.{sound}
 use Rattle.panel.specs.Walks.{endsToCome, endsLeft, WalkAt}
-use Rattle.panel.specs.Calls.{quotaTest, openEnds, endsWanted, goOnNumber, WentOn}
+use Rattle.panel.specs.Calls.{quotaTest, endsWanted, goOnNumber, WentOn}
+use Rattle.panel.specs.Steps.{openEnds, endsThere, WalkedOn}
 use Rattle.walk_state.specs.declared.Walk.{Walk}
 use Rattle.panel.specs.declared.Quota.{Quota}
 use Rattle.walk_state.proofs.SoundLaws.{sound-is}
-use Rattle.panel.proofs.GoingOn.{sound-stack, tallyOf, walkOn, got-is, kept}
+use Rattle.panel.proofs.GoingOn.{sound-stack}
 
 -- ---- the smallest of k, what the cap allows (c), what is to come (n) and the quota (q)
 
 some-wanted : (k c n : ℕ) → 0 < min k c → 0 < n → 0 < min k (min c n)
 some-wanted k c n a b = omega arith
 
-module _ (k c n q allowed : ℕ) (fits : allowed ≡ min (min k c) q) where
-  smallest : min allowed n ≡ min (min k (min c n)) q
-  smallest = omega arith
+smallest : (k c n q allowed : ℕ) → allowed ≡ min (min k c) q → min allowed n ≡ min (min k (min c n)) q
+smallest k c n q allowed fits = omega arith
 
-  within : allowed ≤ q
-  within = omega arith
+within : (k c q allowed : ℕ) → allowed ≡ min (min k c) q → allowed ≤ q
+within k c q allowed fits = omega arith
 
 put-back : (q x : ℕ) → x ≤ q → q - x + x ≡ q
 put-back q x h = omega arith
@@ -173,41 +171,38 @@ module _ (w : Walk) (quota : Quota) (k : ℕ) (size : length (w .stack) ≡ 512)
   abbrev cap-left : ℕ
   cap-left = w .header .limit - w .reached
 
-  abbrev to-come : ℕ
-  to-come = length (endsToCome w)
-
   fits-cap : allowed ≡ min (min k cap-left) (quota .left)
   fits-cap = fits ∙ ap (λ (x : ℕ). min (min k x) (quota .left)) (o .allows)
 
   pub under-cap : allowed + w .reached ≤ w .header .limit
   under-cap = omega (arith, fits-cap, sound-is w (o .is-sound) .under-cap)
 
-  -- the walk goes on: `r` is the tally after the loop
-  module _ (some : 0 < allowed) (full : quotaTest (quota .left) ≡ 0) (stack′ sums′ : List ℕ) (r : Tally)
-      (t : Tallied (w .header) (w .links) (w .events) (w .stack) (w .sums) (tallyOf w allowed) stack′ sums′ r) where
+  -- the walk goes on to `r`
+  module _ (some : 0 < allowed) (full : quotaTest (quota .left) ≡ 0) (r : Walk) (on : WalkedOn w allowed r) where
     -- how many ends it reached
-    got : allowed - r .left ≡ min allowed to-come
-    got = got-is w allowed stack′ sums′ r t
+    got : r .reached - w .reached ≡ endsThere w allowed
+    got = omega (arith, on .reached)
 
-    some-reached : 0 < allowed - r .left
-    some-reached = omega (arith, got, o .some)
-
-    reached-is : allowed - r .left ≡ min (endsWanted w k) (quota .left)
+    reached-is : endsThere w allowed ≡ min (endsWanted w k) (quota .left)
     reached-is =
-        got ∙ smallest k cap-left to-come (quota .left) allowed fits-cap ∙ ap (λ (x : ℕ). min x (quota .left)) (sym (wanted-sound w k (o .is-sound)))
+        smallest k cap-left (length (endsToCome w)) (quota .left) allowed fits-cap
+        ∙ ap (λ (x : ℕ). min x (quota .left)) (sym (wanted-sound w k (o .is-sound)))
+
+    pub in-quota : r .reached - w .reached ≤ quota .left
+    in-quota = omega (arith, got, within k cap-left (quota .left) allowed fits-cap)
 
     pub went : WentOn w quota k
         (record {
           number = 0;
-          reached = allowed - r .left;
-          walk = walkOn w allowed stack′ sums′ r t (allowed - r .left);
-          quota = record { left = quota .left - (allowed - r .left) };
+          reached = r .reached - w .reached;
+          walk = r;
+          quota = record { left = quota .left - (r .reached - w .reached) };
         })
     went =
         record {
           number = sym (number-some w quota k (o .wanted) ∙ full);
-          reached = reached-is;
-          drawn = put-back (quota .left) (allowed - r .left) (omega (arith, within k cap-left to-come (quota .left) allowed fits-cap));
-          unmoved = λ (z : allowed - r .left ≡ 0). absurd (omega (arith, some-reached));
-          moved = λ p n at. kept w allowed stack′ sums′ r t p n at under-cap;
+          reached = got ∙ reached-is;
+          drawn = put-back (quota .left) (r .reached - w .reached) in-quota;
+          unmoved = λ (z : r .reached - w .reached ≡ 0). absurd (omega (arith, got, some, o .some));
+          moved = λ p n at. subst (λ (x : ℕ). WalkAt p (n + x) r) (sym got) (on .moved p n at);
         }

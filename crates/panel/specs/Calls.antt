@@ -26,10 +26,6 @@ fullQuota = record { left = 10000000 }
 abbrev pub quotaTest : ℕ → ℕ
 quotaTest left = refuse (eqb left 0) 19
 
--- how many ends the cap still allows: none from a state that is no walk or has no end to come
-unfoldable pub openEnds : Walk → ℕ
-openEnds w = elim (sound w && ltb (w .at) 512) [ true ↦ w .header .limit - w .reached | false ↦ 0 ]
-
 -- how many ends a go-on is to reach, the quota aside: the smaller of k and the ends the walk still has under the plan's cap; none from a
 -- state that is no walk
 unfoldable pub endsWanted : Walk → ℕ → ℕ

@@ -8,14 +8,15 @@ use walk_state::WalkAnswer;
 use walk_state::is_sound;
 use walk_state::no_walk;
 ghost use mathlib.Core.Path.{_≡_};
-ghost use Prim.Native.Nat.{min};
-ghost use lib.ListN.{length};
+ghost use mathlib.Core.Bool.{true};
+ghost use Prim.Native.Nat.{_+_, _≤_, min};
 ghost use Rattle.plan.specs.LentLists.{planOfLists};
 ghost use Rattle.lent.specs.Taken.{listsNumber};
-ghost use Rattle.bounds.specs.Tallied.{Ready, Tallied};
+ghost use Rattle.walk_state.specs.Sound.{sound};
 ghost use Rattle.walk_state.specs.States.{walkAnswer};
 ghost use Rattle.panel.specs.Walks.{WalkAt, rootWalk};
-ghost use Rattle.panel.specs.Calls.{quotaTest, openEnds, WentOn};
+ghost use Rattle.panel.specs.Calls.{quotaTest, WentOn};
+ghost use Rattle.panel.specs.Steps.{openEnds, WalkedOn};
 
 // Begins the walk of a plan in lent lists.
 pub fn begin(h: Header, links: &[u8], events: &[u64]) -> WalkAnswer
@@ -70,54 +71,62 @@ fn smaller(a: u64, b: u64) -> u64
 }
 
 // How many ends the cap still allows: none from a state that is no walk or has no end to come.
-fn ends_open(
-    h: Header,
-    links: &[u8; 256],
-    events: &[u64; 512],
-    stack: &[u64; 512],
-    sums: &[u64; 2016],
-    at: usize,
-    reached: u64,
-    count: u64,
-    mass: u64,
-) -> u64
-    requires { ⌜ (length (now stack) ≡ 512) × (length (now sums) ≡ 2016) ⌝ }
-    ensures { λ r. ⌜ r ≡ openEnds (record {
-      header = h;
-      links = now (links .entry);
-      events = now (events .entry);
-      stack = now (stack .entry);
-      sums = now (sums .entry);
-      at = «at»;
-      reached = «reached»;
-      count = «count»;
-      mass = «mass»;
-    }) ⌝ }
+fn ends_open(w: Walk) -> u64
+    ensures { λ r. ⌜ r ≡ openEnds w ⌝ }
 {
-    if !is_sound(h, links, events, stack, sums, at, reached, count, mass) {
+    let h = w.header;
+    let links = w.links;
+    let events = w.events;
+    let stack = w.stack;
+    let sums = w.sums;
+    if !is_sound(
+        h,
+        &links,
+        &events,
+        &stack,
+        &sums,
+        w.at,
+        w.reached,
+        w.count,
+        w.mass,
+    ) {
         return 0;
     }
-    if 512 <= at {
+    if 512 <= w.at {
         return 0;
     }
-    h.limit - reached
+    h.limit - w.reached
 }
 
-// Goes on with a walk by the loop of the run.
-fn reach(
-    h: Header,
-    links: &[u8; 256],
-    events: &[u64; 512],
-    stack: &mut [u64; 512],
-    sums: &mut [u64; 2016],
-    so_far: Tally,
-) -> Tally
-    requires { ⌜ Ready h (now links) (now events) (now stack) (now sums) «so_far» ⌝ }
-    ensures { λ r. ⌜ Tallied h (now (links .entry)) (now (events .entry)) (now (stack .entry)) (now (sums .entry)) «so_far»
-        (now (stack .exit)) (now (sums .exit)) r ⌝ }
+// Goes on with a walk, by the loop of the run, for at most so many ends as are allowed.
+fn reach(w: Walk, allowed: u64) -> Walk
+    requires { ⌜ (sound w ≡ true) × (allowed + w .reached ≤ w .header .limit) ⌝ }
+    ensures { λ r. ⌜ WalkedOn w allowed r ⌝ }
 {
-    let table = network::links_at(h.nodes as usize, links, h.links as usize);
-    bounds::go_on(h, links, events, &table, stack, sums, so_far)
+    let h = w.header;
+    let links = w.links;
+    let events = w.events;
+    let mut stack = w.stack;
+    let mut sums = w.sums;
+    let table = network::links_at(h.nodes as usize, &links, h.links as usize);
+    let so_far = Tally {
+        at: w.at,
+        left: allowed,
+        number: w.count,
+        mass: w.mass,
+    };
+    let r = bounds::go_on(h, &links, &events, &table, &mut stack, &mut sums, so_far);
+    Walk {
+        header: h,
+        links,
+        events,
+        stack,
+        sums,
+        at: r.at,
+        reached: w.reached + (allowed - r.left),
+        count: r.number,
+        mass: r.mass,
+    }
 }
 
 // The answer of a go-on that reaches no end.
@@ -136,23 +145,7 @@ fn unmoved(number: u32, walk: Walk, quota: Quota) -> GoneOn
 pub fn go_on(w: Walk, quota: Quota, k: u64) -> GoneOn
     ensures { λ r. ⌜ WentOn w quota k r ⌝ }
 {
-    let h = w.header;
-    let links = w.links;
-    let events = w.events;
-    let mut stack = w.stack;
-    let mut sums = w.sums;
-    let open = ends_open(
-        h,
-        &links,
-        &events,
-        &stack,
-        &sums,
-        w.at,
-        w.reached,
-        w.count,
-        w.mass,
-    );
-    let wanted = smaller(k, open);
+    let wanted = smaller(k, ends_open(w));
     if wanted == 0 {
         return unmoved(0, w, quota);
     }
@@ -160,26 +153,8 @@ pub fn go_on(w: Walk, quota: Quota, k: u64) -> GoneOn
     if empty != 0 {
         return unmoved(empty, w, quota);
     }
-    let allowed = smaller(wanted, quota.left);
-    let so_far = Tally {
-        at: w.at,
-        left: allowed,
-        number: w.count,
-        mass: w.mass,
-    };
-    let r = reach(h, &links, &events, &mut stack, &mut sums, so_far);
-    let reached = allowed - r.left;
-    let walk = Walk {
-        header: h,
-        links,
-        events,
-        stack,
-        sums,
-        at: r.at,
-        reached: w.reached + reached,
-        count: r.number,
-        mass: r.mass,
-    };
+    let walk = reach(w, smaller(wanted, quota.left));
+    let reached = walk.reached - w.reached;
     GoneOn {
         number: 0,
         reached,

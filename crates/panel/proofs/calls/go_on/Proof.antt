@@ -4,44 +4,42 @@ use mathlib.Core.Path.{_≡_, sym, ap, _∙_}
 use Prim.Native.Nat.{ℕ, _<_, min}
 use native.Mathlib.Omega.{arith}
 use lib.ListN.{length}
-use Rattle.panel.specs.Calls.{openEnds}
-use Rattle.walk_state.proofs.SoundLaws.{sound-is}
-use Rattle.panel.proofs.GoingOn.{ready, limited}
-use Rattle.panel.proofs.Wanted.{Open, none-open, some-open, none-wanted, none-drawn, quota-some, under-cap, went}
+use Rattle.panel.specs.Calls.{quotaTest}
+use Rattle.panel.specs.Steps.{openEnds}
+use Rattle.panel.proofs.Wanted.{Open, none-open, some-open, none-wanted, none-drawn, quota-some, under-cap, in-quota, went}
 use Rattle.panel.proofs.calls.go_on.Statement.{statement}
 use Rattle.panel.proofs.calls.go_on.Tie as tie
 
--- the entry, seen from where the state is tested, and from where the ends allowed are known
-abbrev entry : tie.After-ends-open → tie.Start
-entry c = c .before .before .before .before .before .before .before .before .before .before
-
+-- the entry and the first branch, seen from where the ends allowed are known
 abbrev tested : tie.After-smaller2 → tie.Else1
 tested c = c .before .before .before
 
--- the arrays have their lengths
-stack-size : (c : tie.Start) → length (c .args .w .stack) ≡ 512
-stack-size c = length-unmapped ℕ (c .args .w .stack) 512 (c .good .0 .1 .1 .1 .1 .1 .0 .1 .0 .1)
+abbrev entry : tie.Else1 → tie.Start
+entry c = c .before .before .before
 
-sums-size : (c : tie.Start) → length (c .args .w .sums) ≡ 2016
-sums-size c = length-unmapped ℕ (c .args .w .sums) 2016 (c .good .0 .1 .1 .1 .1 .1 .1 .0 .1 .0 .1)
+-- the stack has its length
+size : (c : tie.Start) → length (c .args .w .stack) ≡ 512
+size c = length-unmapped ℕ (c .args .w .stack) 512 (c .good .0 .1 .1 .1 .1 .1 .0 .1 .0 .1)
 
 -- how many ends are wanted at most
-wanted : (c : tie.After-smaller) → (let a = entry (c .before) .args in c .smaller .result ≡ min (a .k) (openEnds (a .w)))
-wanted c = c .smaller .ensures ∙ ap (min (entry (c .before) .args .k)) (c .before .ends-open .ensures)
+wanted : (c : tie.After-smaller) → (let a = c .before .before .args in c .smaller .result ≡ min (a .k) (openEnds (a .w)))
+wanted c = c .smaller .ensures ∙ ap (min (c .before .before .args .k)) (c .before .ends-open .ensures)
 
-opened : (c : tie.Else1) → (let e = entry (c .before .before) in Open (e .args .w) (stack-size e) (e .args .k))
+opened : (c : tie.Else1) → (let s = entry c in Open (s .args .w) (size s) (s .args .k))
 opened c = some-open _ _ _ (omega (arith, wanted (c .before), c .if1 .left))
 
 -- how many are allowed
 allowed : (c : tie.After-smaller2)
-    → (let a = entry (tested c .before .before) .args in c .smaller2 .result ≡ min (min (a .k) (openEnds (a .w))) (a .quota .left))
-allowed c =
-    c .smaller2 .ensures ∙ ap (λ (x : ℕ). min x (entry (tested c .before .before) .args .quota .left)) (wanted (tested c .before))
+    → (let a = entry (tested c) .args in c .smaller2 .result ≡ min (min (a .k) (openEnds (a .w))) (a .quota .left))
+allowed c = c .smaller2 .ensures ∙ ap (λ (x : ℕ). min x (entry (tested c) .args .quota .left)) (wanted (tested c .before))
+
+full : (c : tie.After-smaller2) → quotaTest (entry (tested c) .args .quota .left) ≡ 0
+full c = sym (c .before .before .quota-test .ensures) ∙ c .before .if2 .left
 
 some-allowed : (c : tie.After-smaller2) → 0 < c .smaller2 .result
 some-allowed c =
-    let left = entry (tested c .before .before) .args .quota .left in
-    omega (arith, c .smaller2 .ensures, tested c .if1 .left, quota-some left (sym (c .before .before .quota-test .ensures) ∙ c .before .if2 .left))
+    let left = entry (tested c) .args .quota .left in
+    omega (arith, c .smaller2 .ensures, tested c .if1 .left, quota-some left (full c))
 
 ends-open-requires : tie.Need-ends-open-requires
 ends-open-requires c κs = search needs
@@ -55,8 +53,7 @@ unmoved-requires c κs = search needs
 returns : tie.Need-returns
 returns c =
     let s = c .before .before in
-    let e = entry (s .before) in
-    rw (c .unmoved .ensures) (none-wanted _ _ _ (none-open _ (stack-size e) _ (sym (wanted s) ∙ c .before .if1 .taken)))
+    rw (c .unmoved .ensures) (none-wanted _ _ _ (none-open _ (size (s .before .before)) _ (sym (wanted s) ∙ c .before .if1 .taken)))
 
 quota-test-requires : tie.Need-quota-test-requires
 quota-test-requires c κs = search needs
@@ -74,32 +71,26 @@ smaller-requires-2 c κs = search needs
 
 reach-requires : tie.Need-reach-requires
 reach-requires c κs =
-    let s = c .before .before .before .before in
-    let e = entry (tested s .before .before) in
-    let o = opened (tested s) in
-    ready (e .args .w) (sound-is _ (o .is-sound)) (stack-size e) _ (under-cap (e .args .w) (e .args .quota) (e .args .k) (stack-size e) o _ (allowed s)) (sums-size e)
+    let s = entry (tested c) in
+    let o = opened (tested c) in
+    (o .is-sound, under-cap (s .args .w) (s .args .quota) (s .args .k) (size s) o _ (allowed c))
 
 sub-reached : tie.Need-sub-reached
-sub-reached c = search needs
+sub-reached c = omega (arith, c .before .before .reach .ensures .reached)
 
-add-t30 : tie.Need-add-t30
-add-t30 c =
-    let s = c .before .before .before .before .before .before .before in
-    let e = entry (tested s .before .before) in
-    let o = opened (tested s) in
-    let fits = under-cap (e .args .w) (e .args .quota) (e .args .k) (stack-size e) o _ (allowed s) in
-    record { fits = omega (arith, limited _ (sound-is _ (o .is-sound))) }
-
-sub-t30 : tie.Need-sub-t30
-sub-t30 c = search needs
+sub-t8 : tie.Need-sub-t8
+sub-t8 c =
+    let on = c .before .before .before in
+    let a = entry (tested (on .before)) .args in
+    in-quota (a .w) (a .quota) (a .k) (size (entry (tested (on .before)))) (opened (tested (on .before))) _ (allowed (on .before)) (some-allowed (on .before))
+    (full (on .before)) _ (on .reach .ensures)
 
 returns-3 : tie.Need-returns-3
 returns-3 c =
-    let s = c .before .before .before .before .before .before .before .before in
-    let e = entry (tested s .before .before) in
-    went (e .args .w) (e .args .quota) (e .args .k) (stack-size e) (opened (tested s)) _ (allowed s) (some-allowed s)
-    (sym (s .before .before .quota-test .ensures) ∙ s .before .if2 .left) _ _ _
-    (c .before .before .before .reach .ensures)
+    let on = c .before .before .before in
+    let a = entry (tested (on .before)) .args in
+    went (a .w) (a .quota) (a .k) (size (entry (tested (on .before)))) (opened (tested (on .before))) _ (allowed (on .before)) (some-allowed (on .before))
+    (full (on .before)) _ (on .reach .ensures)
 
 pub go-on-spec : {M : Type 1} → statement M
 go-on-spec =
@@ -115,6 +106,5 @@ go-on-spec =
     smaller-requires-2
     reach-requires
     sub-reached
-    add-t30
-    sub-t30
+    sub-t8
     returns-3)
