@@ -2,7 +2,7 @@
 -- Assumes nothing.
 use mathlib.Core.Path.{_≡_, refl, sym, ap, subst, _∙_}
 use mathlib.Core.List.{List, [], _∷_, map}
-use Prim.Native.Nat.{ℕ, zero, suc, _+_, _-_, _≤_}
+use Prim.Native.Nat.{ℕ, _+_, _-_, _≤_}
 use lib.ListN.{length, getD, take}
 use lib.Seq.{sets}
 use Rattle.mass.specs.Refusal.{first}
@@ -15,6 +15,7 @@ use Rattle.plan.specs.Plan.{Plan}
 use Rattle.plan.specs.LentLists.{planOfLists}
 use Rattle.plan.specs.Calls.{filled}
 use Rattle.plan.specs.declared.Header.{Header}
+use Rattle.plan.proofs.FilledLaws.{filled-none}
 use Rattle.lent.specs.Taken.{Taken, listsNumber}
 use Rattle.walk.specs.Walk.{massExamined, count}
 use Rattle.pairs.specs.BoundsFit.{BoundsFit}
@@ -32,10 +33,6 @@ use Rattle.bounds.specs.declared.Paired.{Paired}
 use Rattle.bounds.specs.declared.Paired.the-variants as paired
 use Rattle.bounds.proofs.Answers.{ran-refuses, pair-refuses, pair-inside, giving, pair-bounds, lower-laid, upper-laid, all-enclosed}
 use Rattle.bounds.proofs.Answers.{enclosed}
-
-filled-kept : (number : ℕ) (news list : List ℕ) → (number ≡ 0 → ⊥) → list ≡ filled number news list
-filled-kept zero news list n = absurd (n refl)
-filled-kept (suc number) news list n = refl
 
 -- the walk of the arrays that accepted lists were taken into gave the totals and the sums of the lists' plan
 module _ (h : Header) (links events bytes words : List ℕ) (t : Taken h links events bytes words) (totals : Totals) (sums : List ℕ)
@@ -84,7 +81,7 @@ module _ (h : Header) (links events lower upper : List ℕ) where
   refused n e some =
       let no-zero : number ≡ 0 → ⊥ = λ z. some (e ∙ z) in (
         ran-refuses n number (totalsOf p) e some,
-        (filled-kept number (lowerList p) lower no-zero, (filled-kept number (upperList p) upper no-zero, λ z. absurd (no-zero z))),
+        (filled-none number (lowerList p) lower no-zero, (filled-none number (upperList p) upper no-zero, λ z. absurd (no-zero z))),
       )
 
   pub lists-refuse : (n : ℕ) → n ≡ listsNumber h links events → (n ≡ 0 → ⊥) → RunPromised (ran.Refused n) lower upper

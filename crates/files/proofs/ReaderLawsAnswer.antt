@@ -8,7 +8,7 @@ use native.Mathlib.Decide.{decLe}
 use native.Mathlib.Omega.{arith}
 use borrow.Author.Tests.{ltb-false}
 use lib.ListN.{length, take, drop, length-drop, drop-of-length-le}
-use lib.Seq.{sets, sets-eq, take-at, take-all, drop-length, length-sets}
+use lib.Seq.{sets, sets-eq, take-at, take-all, drop-length}
 use Rattle.mass.proofs.RefusalLaws.{first-none, refuse-none}
 use Rattle.plan.specs.File.{eventSize, refusal, eventsAt, linksIn, eventsIn, planOf}
 use Rattle.plan.specs.Calls.{filled, headerOf, readRefusal, readAnswer, headerIn}
@@ -52,17 +52,6 @@ reading-stop {r} {number} h e n = go number e
 
 pub reading-go : (number : ℕ) {x h : Header} → number ≡ 0 → x ≡ h → reading.Accepted x ≡ readAnswer number h
 reading-go number e p = rw e (ap reading.Accepted p)
-
-pub filled-none : (number : ℕ) (news list : List ℕ) → (number ≡ 0 → ⊥) → list ≡ filled number news list
-filled-none zero news list n = absurd (n refl)
-filled-none (suc number) news list n = refl
-
-pub filled-all : (number : ℕ) (news list : List ℕ) → number ≡ 0 → sets list 0 news ≡ filled number news list
-filled-all number news list e = rw e
-
-pub length-filled : (number : ℕ) (news list : List ℕ) → length (filled number news list) ≡ length list
-length-filled zero news list = length-sets list 0 news
-length-filled (suc number) news list = refl
 
 -- ---- the lists have as many elements as the counts say
 

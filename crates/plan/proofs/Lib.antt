@@ -3,3 +3,4 @@ pub mod FileLaws
 pub mod FileLawsSteps
 pub mod FileLawsAccepted
 pub mod HeldLaws
+pub mod FilledLaws

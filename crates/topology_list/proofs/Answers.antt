@@ -9,8 +9,8 @@ use lib.Seq.{sets, sets-eq, length-take-le}
 use Rattle.mass.specs.Refusal.{first}
 use Rattle.plan.specs.Plan.{Plan}
 use Rattle.plan.specs.LentLists.{planOfLists}
-use Rattle.plan.specs.Calls.{filled}
 use Rattle.plan.specs.declared.Header.{Header}
+use Rattle.plan.proofs.FilledLaws.{filled-none}
 use Rattle.refusals.proofs.OrderLaws.{stop, skip}
 use Rattle.lent.specs.Taken.{Taken, listsNumber}
 use Rattle.entries.specs.Entries.{TopologyList, entryWords}
@@ -42,10 +42,6 @@ refused-is : (number count : ℕ) → (number ≡ 0 → ⊥) → listed.Refused 
 refused-is zero count n = absurd (n refl)
 refused-is (suc number) count n = refl
 
-filled-kept : (number : ℕ) (news list : List ℕ) → (number ≡ 0 → ⊥) → list ≡ filled number news list
-filled-kept zero news list n = absurd (n refl)
-filled-kept (suc number) news list n = refl
-
 module _ (h : Header) (links events list : List ℕ) where
   -- an answer, with what it leaves in the lent list
   abbrev pub ListPromised : Listed → List ℕ → Type 0
@@ -61,7 +57,7 @@ module _ (h : Header) (links events list : List ℕ) where
   -- the lists are refused: nothing changes
   pub lists-refused : (number : ℕ) → number ≡ listsNumber h links events → (number ≡ 0 → ⊥) → ListPromised (listed.Refused number) list
   unfolding topologiesRefusal
-  lists-refused number e n = refused number list (stop _ e n) n (filled-kept _ _ list (λ z. n (e ∙ z)))
+  lists-refused number e n = refused number list (stop _ e n) n (filled-none _ _ list (λ z. n (e ∙ z)))
 
   -- the walk of the arrays that accepted lists were taken into gave the list
   module _ (number : ℕ) (e : number ≡ listsNumber h links events) (z : number ≡ 0) (bytes words : List ℕ) (t : Taken h links events bytes words)

@@ -27,7 +27,7 @@ use Rattle.bounds.specs.Calls.{pairRefusal, pairAnswer, boundsOf, boundsIn}
 use Rattle.bounds.specs.declared.PairBounds.{PairBounds}
 use Rattle.bounds.specs.declared.Paired.{Paired}
 use Rattle.bounds.specs.declared.Paired.the-variants as paired
-use Rattle.files.proofs.ReaderLawsAnswer.{filled-none, filled-all}
+use Rattle.plan.proofs.FilledLaws.{filled-none, filled-all}
 use Rattle.bounds.proofs.Answers.{pair-refuses, enclosed}
 use Rattle.input.specs.Loaded.{Loaded}
 use Rattle.wellember.specs.Host.{hostRefusal, sixteen, lowerIn, upperIn}

@@ -10,7 +10,8 @@ use lib.Seq.{sets}
 use Rattle.plan.specs.Lists.{linkBytes, eventWords}
 use Rattle.plan.specs.File.{planOf}
 use Rattle.plan.specs.Calls.{headerOf, headerIn, readRefusal, readAnswer}
-use Rattle.files.proofs.ReaderLawsAnswer.{length-filled, header-bounds, read-links, read-events}
+use Rattle.plan.proofs.FilledLaws.{length-filled}
+use Rattle.files.proofs.ReaderLawsAnswer.{header-bounds, read-links, read-events}
 use Rattle.files.proofs.reader.read.Statement.{statement}
 use Rattle.files.proofs.reader.read.Tie as tie
 

@@ -9,7 +9,8 @@ use Rattle.plan.specs.File.{refusal, eventsAt, planOf}
 use Rattle.plan.specs.Calls.{headerOf, readRefusal}
 use Rattle.plan.specs.declared.Header.{Header}
 use Rattle.plan.proofs.FileLawsAccepted.{plan-fits, accepted-events, accepted-there, accepted-counts}
-use Rattle.files.proofs.ReaderLawsAnswer.{read-accepted, reading-stop, reading-go, filled-none, filled-all}
+use Rattle.plan.proofs.FilledLaws.{filled-none, filled-all}
+use Rattle.files.proofs.ReaderLawsAnswer.{read-accepted, reading-stop, reading-go}
 use Rattle.files.proofs.reader.read_core.Statement.{statement}
 use Rattle.files.proofs.reader.read_core.Tie as tie
 

@@ -10,7 +10,8 @@ use lib.Seq.{sets}
 use Rattle.plan.specs.Lists.{linkBytes}
 use Rattle.plan.specs.File.{planOf}
 use Rattle.plan.specs.Calls.{headerOf, headerIn, readRefusal, readAnswer}
-use Rattle.files.proofs.ReaderLawsAnswer.{length-filled, header-bounds, read-links}
+use Rattle.plan.proofs.FilledLaws.{length-filled}
+use Rattle.files.proofs.ReaderLawsAnswer.{header-bounds, read-links}
 use Rattle.reader.proofs.words.read_words_at.Statement.{statement}
 use Rattle.reader.proofs.words.read_words_at.Tie as tie
 

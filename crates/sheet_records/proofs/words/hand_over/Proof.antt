@@ -5,7 +5,7 @@ use native.Mathlib.Omega.{arith}
 use borrow.Author.Needs.{needs}
 use lib.ListN.{length, take}
 use lib.Seq.{sets}
-use Rattle.files.proofs.ReaderLawsAnswer.{filled-none, filled-all}
+use Rattle.plan.proofs.FilledLaws.{filled-none, filled-all}
 use Rattle.sheets.proofs.ReadLaws.{reading-stop, reading-go}
 use Rattle.sheet_records.specs.SheetRecords.{handedNumber}
 use Rattle.sheet_records.proofs.SheetRecordsLaws.{handed-room}

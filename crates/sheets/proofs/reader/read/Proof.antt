@@ -7,7 +7,7 @@ use native.Mathlib.Omega.{arith}
 use borrow.Author.Needs.{needs}
 use lib.ListN.{length, take, replicate}
 use lib.Seq.{sets}
-use Rattle.files.proofs.ReaderLawsAnswer.{length-filled}
+use Rattle.plan.proofs.FilledLaws.{length-filled}
 use Rattle.sheets.specs.SheetCalls.{countsOf, countsIn, readSheetRefusal, readSheetAnswer, sheetWords}
 use Rattle.sheets.proofs.ReadLaws.{counts-bounds, read-words}
 use Rattle.sheets.proofs.reader.read.Statement.{statement}

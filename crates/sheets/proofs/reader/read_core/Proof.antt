@@ -5,7 +5,7 @@ use lib.ListN.{drop}
 use lib.Seq.{sets}
 use Rattle.plan.specs.Lists.{eventWords}
 use Rattle.order.specs.Order.{ordered}
-use Rattle.files.proofs.ReaderLawsAnswer.{filled-none, filled-all}
+use Rattle.plan.proofs.FilledLaws.{filled-none, filled-all}
 use Rattle.sheets.specs.Sheet.{eventOfLine, sheetEvents}
 use Rattle.sheets.specs.SheetFile.{sheetRefusal, linesAt, sheetOf}
 use Rattle.sheets.specs.SheetCalls.{countsOf, readSheetRefusal}
