@@ -2,7 +2,7 @@
 -- Assumes nothing.
 use mathlib.Core.Path.{_≡_, refl, ap, _∙_}
 use mathlib.Core.List.{List, [], _∷_}
-use Prim.Native.Nat.{ℕ, zero, suc, min}
+use Prim.Native.Nat.{ℕ, min}
 use native.Mathlib.Omega.{arith}
 use lib.ListN.{length, take, replicate}
 use lib.Seq.{sets}
@@ -15,19 +15,12 @@ use Rattle.walk.specs.Stack.{Begun}
 use Rattle.walk.proofs.Resume.{Alone, begun-alone, begun-stack, begun-whole, begun-mass, root-entry}
 use Rattle.pairs.specs.Pairs.{place}
 use Rattle.bounds.proofs.Zeros.{cleared}
-use Rattle.walk_state.specs.States.{noWalk}
 use Rattle.panel.specs.Walks.{WalkAt, rootWalk}
-use Rattle.walk_state.specs.States.{walkAnswer}
 use Rattle.walk_state.specs.declared.Walk.{Walk}
 
 -- an array of zeros
 abbrev zeros : ℕ → List ℕ
 zeros n = replicate n 0
-
--- a refusal has a walk of zeros
-pub refused : (number : ℕ) (walk : Walk) → (number ≡ 0 → ⊥) → (record { number = number; walk = noWalk }) ≡ walkAnswer number walk
-refused zero walk n = absurd (n refl)
-refused (suc number) walk n = refl
 
 module _ (h : Header) (links events bytes words : List ℕ) (at : ℕ) (stack : List ℕ) (b : Begun 0 whole 0 0 at (zeros 512) stack) where
   -- the walk as it was made

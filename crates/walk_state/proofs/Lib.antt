@@ -2,3 +2,4 @@
 pub mod EntryLaws
 pub mod SoundLaws
 pub mod StateLaws
+pub mod AnswerLaws

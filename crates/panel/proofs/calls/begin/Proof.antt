@@ -6,7 +6,8 @@ use Rattle.lent.specs.Taken.{listsNumber}
 use Rattle.panel.specs.Walks.{rootWalk}
 use Rattle.walk_state.specs.States.{walkAnswer}
 use Rattle.walk_state.specs.declared.Walk.{Walk}
-use Rattle.panel.proofs.Beginning.{refused, is-root, begun}
+use Rattle.walk_state.proofs.AnswerLaws.{refused}
+use Rattle.panel.proofs.Beginning.{is-root, begun}
 use Rattle.panel.proofs.calls.begin.Statement.{statement}
 use Rattle.panel.proofs.calls.begin.Tie as tie
 
