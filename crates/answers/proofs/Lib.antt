@@ -1,2 +1,3 @@
 -- Laws that the proofs of the crate `answers` share.
 pub mod LaidLaws
+pub mod NumberLaws

@@ -1,13 +1,9 @@
--- An answer that is made of the number of a refusal, or 0, and of values has that number, for each kind of answer.
+-- An answer that is made of the number of a refusal, or 0, and of values has that number, for each kind of answer that the crate `answers` does
+-- not hand out.
 -- Assumes nothing.
 use mathlib.Core.Path.{_≡_, refl}
 use Prim.Native.Nat.{ℕ, zero, suc}
-use Rattle.plan.specs.Calls.{readAnswer, writeAnswer}
-use Rattle.plan.specs.declared.Header.{Header}
 use Rattle.walk.specs.declared.Failing.{Failing}
-use Rattle.bounds.specs.Calls.{ranAnswer, pairAnswer}
-use Rattle.bounds.specs.declared.Totals.{Totals}
-use Rattle.bounds.specs.declared.PairBounds.{PairBounds}
 use Rattle.readings.specs.Figure.{figureAnswer}
 use Rattle.readings.specs.Witness.{witnessAnswer}
 use Rattle.readings.specs.Downtime.{downtimeAnswer}
@@ -16,24 +12,7 @@ use Rattle.readings.specs.declared.Seconds.{Seconds}
 use Rattle.topology_list.specs.Calls.{listedAnswer}
 use Rattle.sheets.specs.SheetCalls.{readSheetAnswer, sheetNumber}
 use Rattle.sheets.specs.declared.Counts.{Counts}
-use Rattle.answers.specs.Answers.{readingNumber, writtenNumber, ranNumber, pairedNumber}
 use Rattle.further_answers.specs.FurtherAnswers.{listedNumber, figuredNumber, timedNumber, witnessedNumber}
-
-pub read-back : (n : ℕ) (h : Header) → readingNumber (readAnswer n h) ≡ n
-read-back zero h = refl
-read-back (suc n) h = refl
-
-pub write-back : (n count : ℕ) → writtenNumber (writeAnswer n count) ≡ n
-write-back zero count = refl
-write-back (suc n) count = refl
-
-pub run-back : (n : ℕ) (t : Totals) → ranNumber (ranAnswer n t) ≡ n
-run-back zero t = refl
-run-back (suc n) t = refl
-
-pub pair-back : (n : ℕ) (b : PairBounds) → pairedNumber (pairAnswer n b) ≡ n
-pair-back zero b = refl
-pair-back (suc n) b = refl
 
 pub list-back : (n count : ℕ) → listedNumber (listedAnswer n count) ≡ n
 list-back zero count = refl

@@ -1,6 +1,6 @@
 -- `probe::probe_pair` meets its contract: the answer of the call is handed out. Assumes nothing.
 use mathlib.Core.Path.{refl}
-use Rattle.probe.proofs.Handing.{pair-back}
+use Rattle.answers.proofs.NumberLaws.{pair-back}
 use borrow.Author.Needs.{needs}
 use Rattle.probe.proofs.probe_pair.Statement.{statement}
 use Rattle.probe.proofs.probe_pair.Tie as tie

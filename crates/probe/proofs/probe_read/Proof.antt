@@ -1,6 +1,6 @@
 -- `probe::probe_read` meets its contract: the answer of the call is handed out. Assumes nothing.
 use mathlib.Core.Path.{refl}
-use Rattle.probe.proofs.Handing.{read-back}
+use Rattle.answers.proofs.NumberLaws.{read-back}
 use borrow.Author.Needs.{needs}
 use Rattle.probe.proofs.probe_read.Statement.{statement}
 use Rattle.probe.proofs.probe_read.Tie as tie

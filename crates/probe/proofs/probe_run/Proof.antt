@@ -1,6 +1,6 @@
 -- `probe::probe_run` meets its contract: the answer of the call is handed out. Assumes nothing.
 use mathlib.Core.Path.{refl}
-use Rattle.probe.proofs.Handing.{run-back}
+use Rattle.answers.proofs.NumberLaws.{run-back}
 use borrow.Author.Needs.{needs}
 use Rattle.probe.proofs.probe_run.Statement.{statement}
 use Rattle.probe.proofs.probe_run.Tie as tie

@@ -1,6 +1,6 @@
 -- `probe::probe_write` meets its contract: the answer of the call is handed out. Assumes nothing.
 use mathlib.Core.Path.{refl}
-use Rattle.probe.proofs.Handing.{write-back}
+use Rattle.answers.proofs.NumberLaws.{write-back}
 use borrow.Author.Needs.{needs}
 use Rattle.probe.proofs.probe_write.Statement.{statement}
 use Rattle.probe.proofs.probe_write.Tie as tie

@@ -1,6 +1,6 @@
 -- `probe::by_records::probe_copy_plan` meets its contract: the answer of the call is handed out. Assumes nothing.
 use mathlib.Core.Path.{refl}
-use Rattle.probe.proofs.Handing.{write-back}
+use Rattle.answers.proofs.NumberLaws.{write-back}
 use borrow.Author.Needs.{needs}
 use Rattle.probe.proofs.by_records.probe_copy_plan.Statement.{statement}
 use Rattle.probe.proofs.by_records.probe_copy_plan.Tie as tie

@@ -1,6 +1,6 @@
 -- `probe::by_records::probe_run_plan` meets its contract: the answer of the call is handed out. Assumes nothing.
 use mathlib.Core.Path.{refl}
-use Rattle.probe.proofs.Handing.{run-back}
+use Rattle.answers.proofs.NumberLaws.{run-back}
 use borrow.Author.Needs.{needs}
 use Rattle.probe.proofs.by_records.probe_run_plan.Statement.{statement}
 use Rattle.probe.proofs.by_records.probe_run_plan.Tie as tie
