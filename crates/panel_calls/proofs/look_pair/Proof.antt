@@ -1,0 +1,72 @@
+-- `panel_calls::look_pair` meets its contract: at each `return` the tests that led there decide the number. Assumes nothing.
+use borrow.Author.Needs.{needs}
+use mathlib.Core.Path.{_≡_, sym, ap, _∙_}
+use mathlib.Core.List.{List}
+use Prim.Native.Nat.{ℕ}
+use Rattle.refusals.proofs.TestLaws.{room-none}
+use Rattle.pairs.specs.Pairs.{pairTest}
+use Rattle.walk_words.specs.WalkWords.{walkOf}
+use Rattle.answers.specs.Laid.{laid}
+use Rattle.answers.proofs.NumberLaws.{pair-back}
+use Rattle.panel_calls.proofs.WordLaws.{no-bounds, room-refuses, pair-decides}
+use Rattle.panel_calls.proofs.look_pair.Statement.{statement}
+use Rattle.panel_calls.proofs.look_pair.Tie as tie
+
+-- the entry, seen from where the state is tested
+abbrev entry : tie.After-room-test → tie.Start
+entry c = c .before .before .before
+
+room-test-requires : tie.Need-room-test-requires
+room-test-requires c κs = search needs
+
+give-two-requires : tie.Need-give-two-requires
+give-two-requires c κs = search needs
+
+same-length : tie.Need-same-length
+same-length c = search needs
+
+returns : tie.Need-returns
+returns c =
+    let one = c .before .before .before .before in
+    let a = entry (one .before) .args in (
+      room-refuses (a .state .now) (a .v) (a .w) _ (one .before .room-test .ensures) (one .if1 .taken),
+      c .before .before .give-two .ensures ∙ ap (λ (xs : List ℕ). laid xs (a .result .now)) (no-bounds _ _ (one .if1 .taken)),
+    )
+
+walk-of-requires : tie.Need-walk-of-requires
+walk-of-requires c κs = room-none _ _ (sym (c .before .room-test .ensures) ∙ c .if1 .left)
+
+look-pair-requires : tie.Need-look-pair-requires
+look-pair-requires c κs = search needs
+
+give-bounds-requires : tie.Need-give-bounds-requires
+give-bounds-requires c κs = search needs
+
+same-length-2 : tie.Need-same-length-2
+same-length-2 c = search needs
+
+returns-2 : tie.Need-returns-2
+returns-2 c =
+    let given = c .before .before .give-bounds .ensures in
+    let seen = c .before .before .before .before in
+    let one = seen .before .before in
+    let a = entry (one .before) .args in
+    let answer = rw (seen .before .walk-of .ensures) at (seen .look-pair .ensures .0) in
+    let number : _ ≡ pairTest (walkOf (a .state .now) .header .nodes) (a .v) (a .w) = rw (answer, pair-back) at (given .0) in (
+      pair-decides (a .state .now) (a .v) (a .w) _ (one .before .room-test .ensures) (one .if1 .left) number,
+      rw number (rw answer at (given .1)),
+    )
+
+pub look-pair-spec : {M : Type 1} → statement M
+look-pair-spec =
+    tie.close
+    (tie.spec
+    room-test-requires
+    give-two-requires
+    same-length
+    returns
+    walk-of-requires
+    look-pair-requires
+    give-bounds-requires
+    same-length-2
+    returns-2)

@@ -1,0 +1,2 @@
+-- What the contracts of the crate `panel_calls` cite.
+pub mod WordCalls
