@@ -7,6 +7,7 @@ mod equipment;
 mod further;
 mod list;
 mod reach;
+mod walks;
 
 use plan::Header;
 ghost use mathlib.Core.Path.{_≡_};

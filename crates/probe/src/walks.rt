@@ -1,0 +1,78 @@
+// A walk in lent words: begun, gone on with and looked at, for the tests in Rust and the benchmark.
+use crate::header;
+ghost use mathlib.Core.Path.{_≡_};
+ghost use Prim.Native.Nat.{_≤_, _<_};
+ghost use lib.ListN.{length};
+ghost use Rattle.plan.specs.LentLists.{planOfLists};
+ghost use Rattle.plan.specs.Calls.{filled};
+ghost use Rattle.bounds.specs.Calls.{ranAnswer, pairAnswer};
+ghost use Rattle.panel.specs.Walks.{WalkAt, rootWalk};
+ghost use Rattle.panel.specs.Calls.{lookOf, lookPairOf};
+ghost use Rattle.walk_words.specs.WalkWords.{walkLength, walkWords, walkOf};
+ghost use Rattle.answers.specs.Laid.{laid};
+ghost use Rattle.answers.specs.Answers.{headerWith, totalsValues, boundsValues};
+ghost use Rattle.panel_calls.specs.WordCalls.{beginNumber, ShortState, WordsWent, lookNumber, lookPairNumber};
+
+#[no_mangle]
+pub extern "C" fn probe_walk_words() -> u64
+    ensures { λ r. ⌜ r ≡ walkLength ⌝ }
+{
+    walk_words::walk_words()
+}
+
+#[no_mangle]
+pub extern "C" fn probe_begin(
+    nodes: u64,
+    links_count: u64,
+    events_count: u64,
+    threshold: u64,
+    limit: u64,
+    links: &[u8],
+    events: &[u64],
+    state: &mut [u64],
+) -> u32
+    ensures number { λ r. ⌜ r ≡ beginNumber (headerWith nodes «links_count» «events_count» threshold limit)
+        (now (links .entry)) (now (events .entry)) (now (state .entry)) ⌝ }
+    ensures state { λ r. ⌜ now (state .exit) ≡ filled r (walkWords (rootWalk
+        (headerWith nodes «links_count» «events_count» threshold limit) (now (links .entry)) (now (events .entry))))
+        (now (state .entry)) ⌝ }
+    ensures begun { λ r. ⌜ (r ≡ 0 → WalkAt (planOfLists
+        (headerWith nodes «links_count» «events_count» threshold limit) (now (links .entry)) (now (events .entry))) 0
+        (walkOf (now (state .exit)))) ⌝ }
+{
+    let h = header(nodes, links_count, events_count, threshold, limit);
+    panel_calls::begin(h, links, events, state)
+}
+
+#[no_mangle]
+pub extern "C" fn probe_go_on(
+    state: &mut [u64],
+    quota: &mut [u64],
+    k: u64,
+    reached: &mut [u64],
+) -> u32
+    ensures short { λ r. ⌜ (length (now (state .entry)) < walkLength → ShortState (now (state .entry)) (now (quota .entry))
+        (now (reached .entry)) r (now (state .exit)) (now (quota .exit)) (now (reached .exit))) ⌝ }
+    ensures went { λ r. ⌜ (walkLength ≤ length (now (state .entry)) → WordsWent (now (state .entry)) (now (quota .entry)) k
+        (now (reached .entry)) r (now (state .exit)) (now (quota .exit)) (now (reached .exit))) ⌝ }
+{
+    panel_calls::go_on(state, quota, k, reached)
+}
+
+#[no_mangle]
+pub extern "C" fn probe_look(state: &[u64], result: &mut [u64]) -> u32
+    ensures number { λ r. ⌜ r ≡ lookNumber (now (state .entry)) ⌝ }
+    ensures result { λ r. ⌜ now (result .exit) ≡ laid
+        (totalsValues (ranAnswer r (lookOf (walkOf (now (state .entry)))))) (now (result .entry)) ⌝ }
+{
+    panel_calls::look(state, result)
+}
+
+#[no_mangle]
+pub extern "C" fn probe_look_pair(state: &[u64], v: u64, w: u64, result: &mut [u64]) -> u32
+    ensures number { λ r. ⌜ r ≡ lookPairNumber (now (state .entry)) v w ⌝ }
+    ensures result { λ r. ⌜ now (result .exit) ≡ laid
+        (boundsValues (pairAnswer r (lookPairOf (walkOf (now (state .entry))) v w))) (now (result .entry)) ⌝ }
+{
+    panel_calls::look_pair(state, v, w, result)
+}
