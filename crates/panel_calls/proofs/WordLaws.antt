@@ -16,8 +16,9 @@ use Rattle.pairs.specs.Pairs.{pairTest}
 use Rattle.bounds.specs.Calls.{ranAnswer, pairAnswer}
 use Rattle.bounds.specs.declared.Totals.{Totals}
 use Rattle.bounds.specs.declared.PairBounds.{PairBounds}
-use Rattle.panel.specs.Calls.{walkAnswer, WentOn}
-use Rattle.panel.specs.declared.Walk.{Walk}
+use Rattle.walk_state.specs.States.{walkAnswer}
+use Rattle.panel.specs.Calls.{WentOn}
+use Rattle.walk_state.specs.declared.Walk.{Walk}
 use Rattle.panel.specs.declared.GoneOn.{GoneOn}
 use Rattle.walk_words.specs.WalkWords.{walkLength, walkWords, walkOf}
 use Rattle.answers.specs.Answers.{totalsValues, boundsValues}

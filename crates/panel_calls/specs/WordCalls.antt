@@ -11,7 +11,7 @@ use Rattle.plan.specs.declared.Header.{Header}
 use Rattle.lent.specs.Taken.{listsNumber}
 use Rattle.pairs.specs.Pairs.{pairTest}
 use Rattle.panel.specs.Calls.{WentOn}
-use Rattle.panel.specs.declared.Walk.{Walk}
+use Rattle.walk_state.specs.declared.Walk.{Walk}
 use Rattle.panel.specs.declared.Quota.{Quota}
 use Rattle.panel.specs.declared.GoneOn.{GoneOn}
 use Rattle.walk_words.specs.WalkWords.{walkLength, walkWords, walkOf}

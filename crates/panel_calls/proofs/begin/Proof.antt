@@ -5,7 +5,7 @@ use Rattle.plan.specs.LentLists.{planOfLists}
 use Rattle.plan.proofs.FilledLaws.{filled-none}
 use Rattle.lent.specs.Taken.{listsNumber}
 use Rattle.panel.specs.Walks.{WalkAt, rootWalk}
-use Rattle.panel.specs.declared.WalkAnswer.{WalkAnswer}
+use Rattle.walk_state.specs.declared.WalkAnswer.{WalkAnswer}
 use Rattle.panel_calls.proofs.WordLaws.{answer-number, answer-walk, lists-refuse, room-decides}
 use Rattle.panel_calls.proofs.begin.Statement.{statement}
 use Rattle.panel_calls.proofs.begin.Tie as tie
