@@ -9,6 +9,7 @@ pub mod calls;
 pub mod exact;
 pub mod file;
 pub mod listing;
+pub mod panel;
 pub mod plan;
 pub mod readings;
 pub mod refusal;

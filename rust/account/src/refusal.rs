@@ -40,6 +40,8 @@ pub enum Refusal {
     Product = 17,
     /// A sheet has more than 128 lines.
     Lines = 18,
+    /// The quota of ends is empty.
+    Quota = 19,
 }
 
 impl Refusal {
