@@ -11,6 +11,7 @@ pub mod sheet_bytes;
 pub mod sheet_damage;
 pub mod sheets;
 pub mod valid;
+pub mod walks;
 
 pub use lists::Lists;
 pub use rng::Rng;
