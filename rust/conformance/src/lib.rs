@@ -3,6 +3,7 @@
 pub mod compare;
 pub mod distances;
 pub mod listing;
+pub mod panel;
 pub mod probe;
 pub mod proved;
 pub mod readings;

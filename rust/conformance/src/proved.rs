@@ -1,12 +1,13 @@
-//! A whole plan by the proved code: its lists from a file, its file, its bounds and the lines of its listing; and the
-//! events of an equipment sheet.
+//! A whole plan by the proved code: its lists from a file, its file, its bounds, at once or in steps, and the lines of its
+//! listing; and the events of an equipment sheet.
 
 use account::bounds::{Bounds, Outcome};
 use account::listing::text;
+use account::plan::pairs;
 use account::{Event, Header, EVENT_WORDS, MOST_EVENTS, MOST_LINKS};
 use plans::Lists;
 
-use crate::{probe, sheets};
+use crate::{panel, probe, sheets};
 
 /// The most pairs of a plan.
 pub const MOST_PAIRS: usize = 2016;
@@ -64,6 +65,65 @@ pub fn run(lists: &Lists) -> (Outcome, Vec<Bounds>) {
     };
     let bounds = bounds.map(|(lower, upper)| Bounds { lower, upper });
     (outcome, bounds.collect())
+}
+
+/// A walk that is begun and gone on with, in words of its own.
+#[derive(Clone)]
+pub struct Walk {
+    words: Vec<u64>,
+    nodes: usize,
+}
+
+impl Walk {
+    /// Begins the walk of a plan, or the refusal's number.
+    pub fn begin(lists: &Lists) -> Result<Walk, u32> {
+        let mut words = vec![0; panel::walk_words()];
+        match panel::begin(&lists.lent(), &mut words) {
+            0 => Ok(Walk {
+                words,
+                nodes: lists.header.nodes as usize,
+            }),
+            refusal => Err(refusal),
+        }
+    }
+
+    /// Goes on for at most k ends and draws them on the quota: how many were reached, or the refusal's number.
+    pub fn go_on(&mut self, quota: &mut u64, k: u64) -> Result<u64, u32> {
+        let (mut left, mut reached) = ([*quota], [0]);
+        let refusal = panel::go_on(&mut self.words, &mut left, k, &mut reached);
+        *quota = left[0];
+        match refusal {
+            0 => Ok(reached[0]),
+            _ => Err(refusal),
+        }
+    }
+
+    /// Count, complete and E so far.
+    pub fn look(&self) -> Outcome {
+        let mut result = [0; 3];
+        let refusal = panel::look(&self.words, &mut result);
+        assert_eq!(refusal, 0, "a look at a walk");
+        let [count, complete, mass] = result;
+        Outcome {
+            count,
+            complete,
+            mass,
+        }
+    }
+
+    /// The bounds of every pair so far.
+    pub fn bounds(&self) -> Vec<Bounds> {
+        let pairs = pairs(self.nodes).into_iter();
+        pairs.map(|(v, w)| self.look_pair(v, w)).collect()
+    }
+
+    fn look_pair(&self, v: usize, w: usize) -> Bounds {
+        let mut result = [0; 2];
+        let refusal = panel::look_pair(&self.words, v as u64, w as u64, &mut result);
+        assert_eq!(refusal, 0, "a look at the pair {v}, {w} of a walk");
+        let [lower, upper] = result;
+        Bounds { lower, upper }
+    }
 }
 
 /// The lines of document 01's listing for lists that meet no refusal.

@@ -1,8 +1,8 @@
 //! How often each answer was met.
 
-/// A counter for 0, accepted, and for each refusal from 1 to 18.
+/// A counter for 0, accepted, and for each refusal from 1 to 19.
 #[derive(Default)]
-pub struct Tally([u64; 19]);
+pub struct Tally([u64; 20]);
 
 impl Tally {
     /// Counts one answer.
@@ -14,7 +14,7 @@ impl Tally {
     #[track_caller]
     pub fn expect(&self, numbers: impl IntoIterator<Item = u32>) {
         let expected: Vec<u32> = numbers.into_iter().collect();
-        let met: Vec<u32> = (0..19).filter(|&n| self.0[n as usize] > 0).collect();
+        let met: Vec<u32> = (0..20).filter(|&n| self.0[n as usize] > 0).collect();
         assert_eq!(met, expected, "answers met: {:?}", self.0);
     }
 
