@@ -1,12 +1,16 @@
 //! The listing for people: pairs by falling upper bound, in shares and in seconds a year.
 
 use account::bounds::{Bounds, Outcome};
+use account::panel::Quota;
 use account::WHOLE;
-use conformance::proved;
 use plans::Lists;
 
 use crate::named::Named;
+use crate::progress::{walk_in_steps, Progress};
 use crate::readings;
+
+/// The ends of one step of the walk.
+const STEP: u64 = 10_000;
 
 /// One line of the table.
 struct Row {
@@ -16,11 +20,21 @@ struct Row {
     witness: String,
 }
 
-/// The listing of a plan, with the bounds of the proved run.
-pub fn listing(named: &Named) -> String {
+/// The listing of a plan, with the bounds of the proved walk, which is gone on with in steps; or the refusal's number.
+pub fn listing(named: &Named, progress: &mut Progress) -> Result<String, u32> {
+    let made = in_steps(named, progress);
+    progress.clear();
+    made
+}
+
+fn in_steps(named: &Named, progress: &mut Progress) -> Result<String, u32> {
     let lists = Lists::of(&named.plan);
-    let (outcome, bounds) = proved::run(&lists);
-    head(named, &outcome) + &table(&rows(named, &lists, &bounds))
+    let mut quota = Quota::FULL.left;
+    let walk = walk_in_steps(&lists, &mut quota, STEP, progress)?;
+    let bounds = walk.bounds();
+    let witnesses = readings::witnesses(&lists, &bounds, progress);
+    let rows = rows(named, &bounds, witnesses);
+    Ok(head(named, &walk.look()) + &table(&rows))
 }
 
 /// A mass as a share of one, exactly.
@@ -51,8 +65,7 @@ fn head(named: &Named, outcome: &Outcome) -> String {
 }
 
 /// The rows, the largest upper bound first, equal ones in the order of pairs.
-fn rows(named: &Named, lists: &Lists, bounds: &[Bounds]) -> Vec<Row> {
-    let witnesses = readings::witnesses(lists);
+fn rows(named: &Named, bounds: &[Bounds], witnesses: Vec<Option<u128>>) -> Vec<Row> {
     let pairs = named.plan.pairs().into_iter().zip(bounds.iter().copied());
     let row = |(((v, w), bounds), witness): (((usize, usize), Bounds), Option<u128>)| Row {
         pair: format!("{} {}", named.nodes[v], named.nodes[w]),

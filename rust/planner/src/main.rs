@@ -1,20 +1,22 @@
 //! The command `planner`.
 
-use std::io::Write;
+use std::io::{IsTerminal, Write};
 use std::path::Path;
 use std::process::ExitCode;
 
 use account::sheet::layout;
 use conformance::proved;
 use planner::{listing, parse, parse_sheet, plan_reason, print, print_events, sheet_reason};
-use planner::{Fault, Named};
+use planner::{Fault, Named, Progress};
 use plans::Lists;
 
 const HELP: &str = "\
 planner file PLAN.txt OUT.plan     writes the plan file of a plan in text form
 planner text IN.plan               prints a plan file in text form, with n0, l0, e0 for names
 planner listing PLAN.txt|IN.plan   prints for people the bounds of each pair, the worst pair first,
-                                   with one examined scenario that cuts it where there is one
+                                   with one examined scenario that cuts it where there is one;
+                                   a long listing shows its progress where standard error is a
+                                   terminal: the ends of the walk that are reached, of the cap
 planner bounds PLAN.txt|IN.plan    prints the bounds as the program listing does, line by line
 planner sheet PLAN.txt OUT.sheet   writes the equipment sheet of a plan in text form
 planner events IN.sheet            prints the events of an equipment sheet by falling q, in text form
@@ -44,7 +46,7 @@ fn main() -> ExitCode {
         ["--help" | "-h" | "help"] => Ok(HELP.to_string()),
         ["file", from, to] => write_file(from, to),
         ["text", from] => read_file(from).map(|named| text_of(from, &named)),
-        ["listing", from] => read_any(from).map(|named| listing(&named)),
+        ["listing", from] => listing_of(from),
         ["bounds", from] => {
             read_any(from).map(|named| proved::plan_listing(&Lists::of(&named.plan)))
         }
@@ -110,6 +112,18 @@ fn read_any(path: &str) -> Result<Named, String> {
         Some(extension) if extension == "plan" => read_file(path),
         _ => read_text(path, parse),
     }
+}
+
+/// The listing of a plan; its progress goes to standard error where that is a terminal.
+fn listing_of(from: &str) -> Result<String, String> {
+    let named = read_any(from)?;
+    let mut err = std::io::stderr();
+    let mut progress = match err.is_terminal() {
+        true => Progress::on(&mut err),
+        false => Progress::unseen(),
+    };
+    listing(&named, &mut progress)
+        .map_err(|number| format!("{from}: refused {number}, {}", plan_reason(number)))
 }
 
 /// Writes the plan file of a text, by the proved writer.

@@ -1,8 +1,12 @@
 //! Witness and downtime, by the proved code.
 
+use account::bounds::Bounds;
+use account::plan::pairs;
 use account::WHOLE;
 use conformance::readings;
 use plans::Lists;
+
+use crate::progress::Progress;
 
 /// The seconds in a year that two masses stand for: the lower one's, rounded down, then the upper one's, rounded up.
 pub fn downtime(lower: u64, upper: u64) -> [u64; 2] {
@@ -10,25 +14,32 @@ pub fn downtime(lower: u64, upper: u64) -> [u64; 2] {
     readings::downtime(lower, upper).1
 }
 
-/// For each pair, in the order of pairs, the failing events of one examined scenario that disconnects it.
-pub fn witnesses(lists: &Lists) -> Vec<Option<u128>> {
-    let lent = lists.lent();
-    let nodes = lent.header.nodes;
-    let pairs = (0..nodes).flat_map(|v| (v + 1..nodes).map(move |w| (v, w)));
-    let witness = |(v, w)| match readings::witness(&lent, v, w) {
-        (0, [low, high]) => Some(u128::from(high) << 64 | u128::from(low)),
-        _ => None,
+/// For each pair, in the order of pairs, the failing events of one examined scenario that disconnects it. An examined
+/// scenario has a mass of at least 1, so nothing is looked for where the lower bound is 0.
+pub fn witnesses(lists: &Lists, bounds: &[Bounds], progress: &mut Progress) -> Vec<Option<u128>> {
+    let pairs = pairs(lists.header.nodes as usize);
+    let mut witness = |(i, bounds): (usize, &Bounds)| {
+        if bounds.lower == 0 {
+            return None;
+        }
+        progress.pair(i + 1, pairs.len());
+        let (v, w) = pairs[i];
+        match readings::witness(&lists.lent(), v as u64, w as u64) {
+            (0, [low, high]) => Some(u128::from(high) << 64 | u128::from(low)),
+            _ => None,
+        }
     };
-    pairs.map(witness).collect()
+    bounds.iter().enumerate().map(&mut witness).collect()
 }
 
 #[cfg(test)]
 mod tests {
     use account::readings::witness_sets;
+    use conformance::proved;
     use plans::valid::{plan_of_size, SMALL};
     use plans::{Lists, Rng};
 
-    use super::{downtime, witnesses};
+    use super::{downtime, witnesses, Progress};
 
     #[test]
     fn a_witness_is_examined_and_disconnects() {
@@ -37,7 +48,9 @@ mod tests {
         for _ in 0..300 {
             let plan = plan_of_size(&mut rng, SMALL);
             let lists = Lists::of(&plan);
-            for ((v, w), witness) in plan.pairs().into_iter().zip(witnesses(&lists)) {
+            let bounds = proved::run(&lists).1;
+            let witnesses = witnesses(&lists, &bounds, &mut Progress::unseen());
+            for ((v, w), witness) in plan.pairs().into_iter().zip(witnesses) {
                 let sets = witness_sets(&lists.lent(), v as u64, w as u64).unwrap_or_default();
                 match witness {
                     Some(set) => assert!(sets.contains(&set), "{v} {w} of {plan:?}"),

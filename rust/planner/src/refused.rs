@@ -14,6 +14,7 @@ pub fn plan_reason(number: u32) -> &'static str {
         9 => "a probability is above that of the event before",
         10 => "a member has a wrong kind or number, or does not rise",
         11 => "bytes are left after the last event",
+        19 => "the quota of 10000000 ends is used up",
         _ => "see the table of refusals",
     }
 }

@@ -116,6 +116,21 @@ fn the_listing_names_pairs_and_events() {
         .contains("\nn0 n3  0.000010652122676083  0.000010653340683186"));
 }
 
+/// 2^14 = 16,384 ends, more than one step; standard error is no terminal here.
+#[test]
+fn a_long_listing_shows_no_progress_where_no_terminal_is() {
+    let mut text = "threshold 1\ncap 1000000\nnode A\nnode B\nlink AB A B\n".to_string();
+    for i in 0..14 {
+        text += &format!("event e{i} 500000000 AB\n");
+    }
+    let path = scratch_with("long.txt", text.as_bytes());
+    let call = planner(&["listing", &path]);
+    assert_eq!((call.status, call.err.as_str()), (0, ""));
+    assert!(call.out.contains("\n16384 scenarios examined, complete 1"));
+    let help = planner(&["--help"]).out;
+    assert!(help.contains("a long listing shows its progress"));
+}
+
 #[test]
 fn a_pair_that_nothing_cuts_and_one_that_was_never_joined() {
     let call = planner(&["listing", "triangle.txt"]);

@@ -1,0 +1,76 @@
+//! The progress of a listing: what is written while it is made, and that the listing is the same without it.
+
+use account::{Event, Plan, CERTAIN};
+use planner::{listing, plan_reason, Named, Progress};
+
+/// Two nodes, a link, and events of one half, of which the last alone names the link: with n events there are 2^n
+/// scenarios of equal mass.
+fn plan(events: usize, cap: u64) -> Named {
+    let half = |links| Event {
+        probability: CERTAIN / 2,
+        nodes: 0,
+        links,
+    };
+    let mut all = vec![half(0); events];
+    all[events - 1].links = 1;
+    Named::by_number(Plan {
+        nodes: 2,
+        links: vec![(0, 1)],
+        events: all,
+        threshold: 1,
+        cap,
+    })
+}
+
+/// The listing of a plan, and what its progress writes.
+fn made(named: &Named) -> (String, String) {
+    let mut line = Vec::new();
+    let text = listing(named, &mut Progress::on(&mut line)).expect("a listing");
+    let unseen = listing(named, &mut Progress::unseen());
+    assert_eq!(unseen.as_ref(), Ok(&text));
+    (text, String::from_utf8(line).expect("a text"))
+}
+
+/// 2^15 = 32,768 scenarios in four steps of at most 10,000 ends.
+#[test]
+fn a_long_listing_shows_its_progress() {
+    let (text, line) = made(&plan(15, 1_000_000));
+    assert!(text.contains("\n32768 scenarios examined, complete 1"));
+    let half = "0.500000000000000000";
+    assert!(text.contains(&format!("n0 n1  {half}  {half}  15768000")));
+    let shown: Vec<&str> = line.split('\r').collect();
+    let ends = |ends| format!("{ends} ends reached of at most 1000000");
+    let pair = format!("{:37}", "a scenario for pair 1 of 1");
+    let blank = " ".repeat(26);
+    let expected = [
+        "",
+        &ends(20_000),
+        &ends(30_000),
+        &ends(32_768),
+        &pair,
+        &blank,
+        "",
+    ];
+    assert_eq!(shown, expected);
+}
+
+/// The cap ends the walk in its second step.
+#[test]
+fn a_walk_that_stops_at_its_cap() {
+    let (text, line) = made(&plan(15, 10_001));
+    assert!(text.contains("\n10001 scenarios examined, complete 0"));
+    assert!(line.starts_with("\r10001 ends reached of at most 10001\r"));
+    assert!(line.ends_with(" \r"), "{line:?}");
+}
+
+#[test]
+fn a_short_listing_shows_none() {
+    for (events, cap) in [(1, 1), (13, 1_000_000), (15, 10_000)] {
+        assert_eq!(made(&plan(events, cap)).1, "", "{events} events, cap {cap}");
+    }
+}
+
+#[test]
+fn an_empty_quota_has_words() {
+    assert_eq!(plan_reason(19), "the quota of 10000000 ends is used up");
+}
