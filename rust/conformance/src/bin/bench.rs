@@ -1,12 +1,13 @@
 //! The benchmark: the proved run beside the tuned Rust program, on three plans of `examples/` and on the GEANT core with a
-//! lower threshold; then the proved witness beside the proved run.
+//! lower threshold; then the proved witness beside the proved run, and the proved walk that is gone on with in parts.
 //!
 //! Each plan is run once by both to compare their answers, then five times by each in turn, or as often as an
 //! argument says. The best time of each counts: processor time of this thread, so that other work on the machine
 //! counts little.
 
+use account::panel::Quota;
 use account::Lent;
-use conformance::proved::MOST_PAIRS;
+use conformance::proved::{Walk, MOST_PAIRS};
 use conformance::{probe, proved, readings};
 use plans::examples::{folder, BENCHMARK};
 use plans::Lists;
@@ -113,6 +114,58 @@ fn compare_witness(name: &str, lists: &Lists, v: u64, w: u64, rounds: usize) {
     println!("{name}, no witness for {v}, {w}: {witness_best:.2}, the run {run_best:.2}, ratio {ratio:.2}");
 }
 
+/// The walk of a plan, begun.
+fn begun(lists: &Lists) -> Walk {
+    Walk::begin(lists).expect("a plan that meets no refusal")
+}
+
+/// The time of a go-on of one end, in the middle of a walk of so many ends: of 1,000 in turn, the best of all rounds.
+fn time_one_end(name: &str, lists: &Lists, ends: u64, rounds: usize) {
+    const CALLS: u64 = 1_000;
+    let mut half_way = begun(lists);
+    let mut quota = Quota::FULL.left;
+    assert_eq!(half_way.go_on(&mut quota, ends / 2), Ok(ends / 2));
+    let mut best = f64::MAX;
+    for _ in 0..rounds {
+        let mut walk = half_way.clone();
+        let mut quota = Quota::FULL.left;
+        let start = processor_time();
+        for _ in 0..CALLS {
+            assert_eq!(walk.go_on(&mut quota, 1), Ok(1));
+        }
+        best = best.min((processor_time() - start) / CALLS as f64);
+    }
+    let microseconds = best * 1e3;
+    println!("{name}, a go-on of 1 end: {microseconds:.2} microseconds");
+}
+
+/// Goes on with a walk by 1,000 ends at a time until it has ended; returns the number of go-ons that reached some.
+fn by_thousands(walk: &mut Walk) -> u64 {
+    let (mut quota, mut calls) = (Quota::FULL.left, 0);
+    while walk.go_on(&mut quota, 1_000).expect("a full quota") > 0 {
+        calls += 1;
+    }
+    calls
+}
+
+/// A walk that is begun and gone on with by 1,000 ends at a time beside the run: the best time of each.
+fn compare_go_ons(name: &str, lists: &Lists, rounds: usize) {
+    let lent = lists.lent();
+    let mut walk = begun(lists);
+    let calls = by_thousands(&mut walk);
+    let same = (walk.look(), walk.bounds()) == proved::run(lists);
+    assert!(same, "{name}: the walk and the run differ");
+    let (mut run_best, mut walk_best) = (f64::MAX, f64::MAX);
+    for _ in 0..rounds {
+        run_best = run_best.min(timed(run_proved, &lent).3);
+        let start = processor_time();
+        by_thousands(&mut begun(lists));
+        walk_best = walk_best.min(processor_time() - start);
+    }
+    let ratio = walk_best / run_best;
+    println!("{name}, {calls} go-ons of 1,000 ends: {walk_best:.2}, the run {run_best:.2}, ratio {ratio:.2}");
+}
+
 fn main() {
     let rounds = rounds();
     println!("best of {rounds} alternating runs, milliseconds of processor time");
@@ -123,5 +176,8 @@ fn main() {
     geant.header.threshold = 1_000_000;
     geant.header.cap = 1_000_000;
     compare("geant-core.plan at t = 10^6", &geant, rounds);
-    compare_witness(BENCHMARK[1], &lists_of(BENCHMARK[1]), 2, 3, rounds);
+    let mesh = lists_of(BENCHMARK[1]);
+    compare_witness(BENCHMARK[1], &mesh, 2, 3, rounds);
+    time_one_end(BENCHMARK[1], &mesh, 524_288, rounds);
+    compare_go_ons(BENCHMARK[1], &mesh, rounds);
 }
