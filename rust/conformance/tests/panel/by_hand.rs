@@ -5,7 +5,7 @@ use conformance::panel;
 use plans::examples::{longest, triangle};
 use plans::walks::{by_hand, lists_of_calls, row, still};
 
-use crate::{all_bounds, begun, go_on, look, look_pair, walked, UNSET};
+use crate::{all_bounds, begun, go_on, look, look_pair, same, walked, UNSET};
 
 #[test]
 fn looks() {
@@ -77,7 +77,8 @@ fn the_quota_is_the_first_word_of_its_list() {
         let reached = u64::from(number == 0);
         assert_eq!(go_on(&mut state, &mut quota, 1), (number, reached));
         assert_eq!(quota, after);
-        assert!(state == walked(&triangle(), 3 + reached), "{before:?}");
+        let expected = walked(&triangle(), 3 + reached);
+        assert!(same(&state, &expected), "{before:?}");
     }
 }
 
@@ -146,7 +147,7 @@ fn lists_of_any_room() {
         let number = panel::go_on(&mut after, &mut [9], 1, &mut reached[..room]);
         assert_eq!(number, 0);
         assert_eq!(reached[..room], [1, UNSET, UNSET, UNSET, UNSET][..room]);
-        assert!(after == walked(&row(1, 9), 3), "{room}");
+        assert!(same(&after, &walked(&row(1, 9), 3)), "{room}");
         for (k, quota, number) in [(0, 9, 0), (1, 0, 19)] {
             let mut reached = [UNSET; 5];
             let answer = panel::go_on(&mut after, &mut [quota], k, &mut reached[..room]);

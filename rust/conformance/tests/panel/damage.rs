@@ -147,25 +147,17 @@ fn damaged_walk(rng: &mut Rng) -> Vec<u64> {
     let mut state = begun(&random_plan(rng));
     let k = rng.between(0, 40);
     go_on(&mut state, &mut [40], k);
+    let places = places(&state);
     for _ in 0..rng.between(1, 4) {
         let at = match rng.below(3) {
             0 => rng.below(LINKS),
-            1 => rng.pick(&places(&state)),
+            1 => rng.pick(&places),
             _ => rng.below(state.len()),
         };
         let edges = edges(rng, state[at]);
         state[at] = rng.pick(&edges);
-        if places_are_lost(&state) {
-            break;
-        }
     }
     state
-}
-
-/// Whether a count or the place of the stack is past what `places` can take.
-fn places_are_lost(state: &[u64]) -> bool {
-    let count = |at: usize| (1..=128).contains(&state[at]);
-    !count(NODES) || !count(LINKS_COUNT) || !count(EVENTS_COUNT) || state[AT] > 512
 }
 
 #[test]

@@ -34,6 +34,13 @@ fn walked(plan: &Plan, ends: u64) -> Vec<u64> {
     state
 }
 
+/// Whether two walks hold the same but for the words of the stack, which may lie in other ways for the same ends to come.
+fn same(one: &[u64], other: &[u64]) -> bool {
+    let stack = place::STACK..place::SUMS;
+    let differ = |&at: &usize| at != place::AT && !stack.contains(&at) && one[at] != other[at];
+    one.len() == other.len() && !(0..one.len()).any(|at| differ(&at))
+}
+
 /// Goes on: the number, and the ends reached.
 fn go_on(state: &mut [u64], quota: &mut [u64], k: u64) -> (u32, u64) {
     let mut reached = [UNSET];

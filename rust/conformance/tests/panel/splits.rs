@@ -6,7 +6,7 @@ use plans::valid::{plan_of_size, SMALL};
 use plans::Rng;
 
 use crate::both::{Both, Quotas};
-use crate::place;
+use crate::same;
 
 /// Four nodes in a ring with a chord. The four events fail with 0.3, 0.2, 0.1 and 0.05. Of 16 scenarios 9 have 0.01 or more:
 /// 0.4788, 0.0252, 0.0532, 0.1197, 0.0133, 0.2052, 0.0108, 0.0228, 0.0513. Where the first three fail, 0.006 is left before
@@ -42,18 +42,6 @@ fn in_parts(plan: &Plan, parts: &[u64]) -> Both {
     both
 }
 
-/// All that a walk holds but its stack is the same.
-#[track_caller]
-fn expect_same(one: &[u64], other: &[u64], parts: &[u64]) {
-    let held = |state: &[u64]| {
-        let stack = place::STACK..place::SUMS;
-        let words = state.iter().enumerate();
-        let words = words.filter(|(at, _)| *at != place::AT && !stack.contains(at));
-        words.map(|(_, &word)| word).collect::<Vec<u64>>()
-    };
-    assert!(held(one) == held(other), "in parts of {parts:?}");
-}
-
 /// Goes on with all that is left: the figures are those of the run.
 fn expect_the_run(plan: &Plan, mut both: Both) {
     let mut quotas = Quotas::of(10_000_000);
@@ -68,7 +56,7 @@ fn split(plan: &Plan) {
         let whole = in_parts(plan, &[sum]);
         for first in 0..=sum {
             let two = in_parts(plan, &[first, sum - first]);
-            expect_same(&two.state, &whole.state, &[first, sum - first]);
+            assert!(same(&two.state, &whole.state), "{first} of {sum}: {plan:?}");
             expect_the_run(plan, two);
         }
     }
@@ -77,7 +65,7 @@ fn split(plan: &Plan) {
         for second in 0..=ends - first {
             let parts = [first, second, ends - first - second];
             let three = in_parts(plan, &parts);
-            expect_same(&three.state, &whole.state, &parts);
+            assert!(same(&three.state, &whole.state), "{parts:?} of {plan:?}");
             expect_the_run(plan, three);
         }
     }
