@@ -119,7 +119,7 @@ impl Dry {
     }
 }
 
-/// Walks of small plans in turns, on a quota that is at most as large as all their ends, and sometimes larger.
+/// Walks of small plans in turns, on a quota from 0 to a quarter more than all their ends.
 fn take_turns(rng: &mut Rng, tally: &mut Tally, dry: &mut Dry) {
     let mut walks: Vec<Both> = (0..rng.between(2, 4))
         .map(|_| Both::begin(&short_plan(rng, TINY, 40)))
