@@ -3,7 +3,8 @@
 use account::{Event, Plan, CERTAIN, LARGEST_CAP, WHOLE};
 
 use crate::place::{
-    AT, CAP, EVENTS, EVENTS_COUNT, LINKS, LINKS_COUNT, MASS, NODES, REACHED, STACK, SUMS, THRESHOLD,
+    AT, CAP, COUNT, EVENTS, EVENTS_COUNT, LINKS, LINKS_COUNT, MASS, NODES, REACHED, STACK, SUMS,
+    THRESHOLD,
 };
 use crate::{all_bounds, go_on, look, look_pair, walked};
 
@@ -94,8 +95,11 @@ fn of_the_walk() -> Damages {
         ("at = 2^64 - 4", with(&[(AT, u64::MAX - 3)])),
         ("one end more than the cap", with(&[(REACHED, 31)])),
         ("2^64 - 1 ends", with(&[(REACHED, u64::MAX)])),
+        ("more scenarios than ends", with(&[(COUNT, 12)])),
+        ("2^64 - 1 scenarios", with(&[(COUNT, u64::MAX)])),
         ("a mass above one whole", with(&[(MASS, WHOLE + 1)])),
         ("a mass of 2^64 - 1", with(&[(MASS, u64::MAX)])),
+        ("one whole, and branches pending", with(&[(MASS, WHOLE)])),
         ("a sum above the mass", with(&[(SUMS, state[MASS] + 1)])),
         (
             "the last sum above the mass",

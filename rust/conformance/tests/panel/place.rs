@@ -8,7 +8,8 @@ pub const CAP: usize = 4;
 /// Where the stack begins in its words.
 pub const AT: usize = 5;
 pub const REACHED: usize = 6;
-/// The mass follows the count of scenarios.
+/// Scenarios examined.
+pub const COUNT: usize = 7;
 pub const MASS: usize = 8;
 pub const LINKS: usize = 9;
 pub const EVENTS: usize = 265;
