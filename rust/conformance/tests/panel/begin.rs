@@ -61,7 +61,7 @@ fn with_probability(rng: &mut Rng, plan: &Plan) -> Lists {
 fn begin_agrees_on_many_lists() {
     let mut rng = Rng::for_stream(111);
     let mut tally = Tally::default();
-    for _ in 0..10_000 {
+    for _ in 0..20_000 {
         let plan = random_plan(&mut rng);
         let lists = match rng.below(8) {
             0 | 1 => Lists::of(&plan),
@@ -71,5 +71,5 @@ fn begin_agrees_on_many_lists() {
         };
         tally.add(compare(&mut rng, &lists));
     }
-    tally.expect_each(&[0, 4, 5, 6, 7, 8, 9, 10, 12], 100);
+    tally.expect_each(&[0, 4, 5, 6, 7, 8, 9, 10, 12], 200);
 }

@@ -2,12 +2,11 @@
 
 use account::bounds::{Bounds, Outcome};
 use account::panel::{begin, Begun, Quota};
-use account::plan::pairs;
 use account::{number, Plan};
 use conformance::panel;
 use plans::Lists;
 
-use crate::{begun, look, look_pair, UNSET};
+use crate::{all_bounds, begun, look, UNSET};
 
 /// What is left for the proved code, as a lent list, and for the account.
 pub struct Quotas {
@@ -62,8 +61,7 @@ impl Both {
         refusal
     }
 
-    /// What looks show is what the account shows: count, complete, E, and the bounds of every pair. Of more than 200 pairs
-    /// every tenth is looked at, others after another number of ends; all of them where the walk has ended.
+    /// What looks show is what the account shows: count, complete, E and the bounds of every pair.
     pub fn expect_looks(&self) {
         let (outcome, bounds) = self.own.look_all();
         let Outcome {
@@ -73,13 +71,9 @@ impl Both {
         } = outcome;
         let shown = look(&self.state);
         assert_eq!(shown, (0, [count, complete, mass]), "{:?}", self.own);
-        let many = bounds.len() > 200 && self.own.left() > 0;
-        let step = if many { 10 } else { 1 };
-        let first = self.own.reached() as usize % step;
-        let pairs = pairs(self.nodes).into_iter().zip(bounds);
-        for ((v, w), Bounds { lower, upper }) in pairs.skip(first).step_by(step) {
-            let shown = look_pair(&self.state, v as u64, w as u64);
-            assert_eq!(shown, (0, [lower, upper]), "{v} {w} of {:?}", self.own);
-        }
+        let words = |bound: &Bounds| [bound.lower, bound.upper];
+        let expected: Vec<[u64; 2]> = bounds.iter().map(words).collect();
+        let found = all_bounds(&self.state, self.nodes);
+        assert_eq!(found, expected, "{:?}", self.own);
     }
 }

@@ -76,7 +76,7 @@ fn every_kind_of_list_on_small_plans() {
 #[test]
 fn longer_walks_and_larger_plans() {
     let mut rng = Rng::for_stream(113);
-    for _ in 0..150 {
+    for _ in 0..400 {
         let plan = random_plan(&mut rng);
         for kind in [KINDS[1], KINDS[3], KINDS[5]] {
             follow(&plan, kind);
@@ -144,10 +144,10 @@ fn take_turns(rng: &mut Rng, tally: &mut Tally, dry: &mut Dry) {
 fn several_walks_in_turns_on_one_quota() {
     let mut rng = Rng::for_stream(114);
     let (mut tally, mut dry) = (Tally::default(), Dry::default());
-    for _ in 0..600 {
+    for _ in 0..1_000 {
         take_turns(&mut rng, &mut tally, &mut dry);
     }
-    tally.expect_each(&[0, 19], 500);
+    tally.expect_each(&[0, 19], 1_000);
     let Dry {
         no_k,
         ended,

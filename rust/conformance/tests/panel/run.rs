@@ -14,7 +14,7 @@ use crate::{all_bounds, begun, go_on, look, UNSET};
 #[test]
 fn a_begin_and_one_go_on_are_the_run() {
     let mut rng = Rng::for_stream(116);
-    for _ in 0..4_000 {
+    for _ in 0..6_000 {
         let plan = random_plan(&mut rng);
         let mut lists = Lists::of(&plan);
         if rng.one_in(2) {
