@@ -13,14 +13,14 @@ use Rattle.mass.specs.Split.{certain}
 use Rattle.plan.specs.Plan.{Link}
 use Rattle.refusals.specs.Tests.{endsTest, limitTest}
 use Rattle.plan.specs.Lists.{linksOf, eventsOf}
-use Rattle.plan.specs.LentLists.{linkListRefusal, planOfLists, listsRefusal}
+use Rattle.plan.specs.LentLists.{linkListRefusal, planOfLists, listsRefusal, listsNumber}
 use Rattle.plan.specs.Held.{EndsBelow, Falling, Held}
 use Rattle.plan.proofs.HeldLaws.{plan-falling}
 use Rattle.plan.specs.declared.Header.{Header}
 use Rattle.refusals.proofs.TestLaws.{Ranges, counts-none, or-none}
 use Rattle.layout.proofs.LayoutFile.{link-list-none, valid-none, ValidPlan}
 use Rattle.layout.proofs.Theorems.{lists-denote}
-use Rattle.lent.specs.Taken.{Taken, listsNumber}
+use Rattle.lent.specs.Taken.{Taken}
 use Rattle.lent.proofs.CopyLaws.{byteCopy, wordCopy, copies-refused, copies-denote}
 
 ends-none : (nodes low high : ℕ) → endsTest nodes low high ≡ 0 → (low < nodes) × (high < nodes)

@@ -1,16 +1,11 @@
--- The number with which lent lists are refused, and what stands in the arrays that accepted lists were taken into.
+-- What stands in the arrays that accepted lists were taken into.
 -- Assumes nothing.
 use mathlib.Core.Path.{_≡_}
 use mathlib.Core.List.{List}
-use Prim.Native.Nat.{ℕ, _/_, _<_, _≤_}
-use lib.ListN.{length}
-use Rattle.plan.specs.LentLists.{planRefusal, planOfLists, listsRefusal}
+use Prim.Native.Nat.{ℕ, _<_, _≤_}
+use Rattle.plan.specs.LentLists.{planRefusal, planOfLists}
 use Rattle.plan.specs.Held.{Held}
 use Rattle.plan.specs.declared.Header.{Header}
-
--- the number with which a header and lent lists are refused; 0 where they are accepted
-abbrev pub listsNumber : Header → List ℕ → List ℕ → ℕ
-listsNumber h links events = listsRefusal h (length links) (length events / 4) links events
 
 -- accepted lists were taken into arrays: the arrays denote the plan of the lists, which is valid, and hold what every later function asks
 pub record Taken (h : Header) (links events bytes words : List ℕ) : Type 0 where

@@ -9,8 +9,8 @@ ghost use lib.ListN.{length, take};
 ghost use lib.Seq.{sets};
 ghost use Rattle.mass.specs.Split.{certain};
 ghost use Rattle.plan.specs.Lists.{linksOf, eventsOf};
-ghost use Rattle.plan.specs.LentLists.{linkListRefusal, eventListRefusal, listsRefusal};
-ghost use Rattle.lent.specs.Taken.{listsNumber, Taken};
+ghost use Rattle.plan.specs.LentLists.{linkListRefusal, eventListRefusal, listsRefusal, listsNumber};
+ghost use Rattle.lent.specs.Taken.{Taken};
 
 // Lays the first `count` bytes of a list down from a position on.
 pub fn put_bytes(from: &[u8], to: &mut [u8], at: usize, count: usize)

@@ -12,10 +12,10 @@ use Rattle.mass.proofs.RefusalLaws.{refuse-none}
 use Rattle.refusals.specs.Tests.{countsTest, roomTest}
 use Rattle.refusals.proofs.OrderLaws.{stop, skip, last}
 use Rattle.plan.specs.Lists.{linksOf, eventsOf}
-use Rattle.plan.specs.LentLists.{linkListRefusal, eventListRefusal, planOfLists, listsRefusal}
+use Rattle.plan.specs.LentLists.{linkListRefusal, eventListRefusal, planOfLists, listsRefusal, listsNumber}
 use Rattle.plan.specs.Plan.{Plan}
 use Rattle.plan.specs.declared.Header.{Header}
-use Rattle.lent.specs.Taken.{Taken, listsNumber}
+use Rattle.lent.specs.Taken.{Taken}
 use Rattle.network.specs.Code.{outage}
 use Rattle.network.specs.Topology.{networkOf}
 use Rattle.network.specs.declared.Failed.{Failed}

@@ -11,7 +11,7 @@ use Rattle.refusals.specs.Tests.{roomTest}
 use Rattle.refusals.proofs.OrderLaws.{stop, skip, last}
 use Rattle.refusals.proofs.TestLaws.{room-pass}
 use Rattle.plan.specs.declared.Header.{Header}
-use Rattle.lent.specs.Taken.{listsNumber}
+use Rattle.plan.specs.LentLists.{listsNumber}
 use Rattle.pairs.specs.Pairs.{pairTest}
 use Rattle.bounds.specs.Calls.{ranAnswer, pairAnswer}
 use Rattle.bounds.specs.declared.Totals.{Totals}

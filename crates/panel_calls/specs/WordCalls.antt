@@ -8,7 +8,7 @@ use lib.Seq.{sets}
 use Rattle.mass.specs.Refusal.{first}
 use Rattle.refusals.specs.Tests.{roomTest}
 use Rattle.plan.specs.declared.Header.{Header}
-use Rattle.lent.specs.Taken.{listsNumber}
+use Rattle.plan.specs.LentLists.{listsNumber}
 use Rattle.pairs.specs.Pairs.{pairTest}
 use Rattle.panel.specs.Calls.{WentOn}
 use Rattle.walk_state.specs.declared.Walk.{Walk}

@@ -1,7 +1,7 @@
 -- What is refused of a plan's numbers and of lent lists, in the writer's order (document 01, "Refused", "Order").
 -- Assumes nothing.
 use mathlib.Core.List.{List, [], _∷_}
-use Prim.Native.Nat.{ℕ, _*_}
+use Prim.Native.Nat.{ℕ, _*_, _/_}
 use lib.ListN.{length}
 use Rattle.mass.specs.Refusal.{first}
 use Rattle.mass.specs.Split.{certain, probabilityTest}
@@ -61,3 +61,7 @@ listsRefusal h linkRoom eventRoom links words =
     ∷ linkListRefusal (h .nodes) (linksOf (h .links) links)
     ∷ eventListRefusal (h .nodes) (h .links) certain (eventsOf (h .events) words)
     ∷ [])
+
+-- the number with which a header and lent lists are refused; 0 where they are accepted
+abbrev pub listsNumber : Header → List ℕ → List ℕ → ℕ
+listsNumber h links events = listsRefusal h (length links) (length events / 4) links events

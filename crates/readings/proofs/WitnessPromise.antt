@@ -8,9 +8,9 @@ use lib.ListN.{take}
 use Rattle.mass.proofs.RefusalLaws.{first-skip}
 use Rattle.mass.specs.Split.{whole}
 use Rattle.plan.specs.Plan.{Plan}
-use Rattle.plan.specs.LentLists.{planOfLists}
+use Rattle.plan.specs.LentLists.{planOfLists, listsNumber}
 use Rattle.plan.specs.declared.Header.{Header}
-use Rattle.lent.specs.Taken.{Taken, listsNumber}
+use Rattle.lent.specs.Taken.{Taken}
 use Rattle.lent.proofs.ListLaws.{first-last}
 use Rattle.refusals.proofs.OrderLaws.{stop, skip}
 use Rattle.walk.specs.Scenario.{Scenario}

@@ -8,10 +8,9 @@ use lib.ListN.{length, take}
 use Rattle.mass.specs.Refusal.{first}
 use Rattle.mass.proofs.RefusalLaws.{first-none}
 use Rattle.refusals.specs.Tests.{roomTest}
-use Rattle.plan.specs.LentLists.{planOfLists}
+use Rattle.plan.specs.LentLists.{planOfLists, listsNumber}
 use Rattle.plan.specs.Calls.{filled}
 use Rattle.plan.specs.declared.Header.{Header}
-use Rattle.lent.specs.Taken.{listsNumber}
 use Rattle.pairs.specs.Pairs.{pairCount}
 use Rattle.bounds.specs.Bounds.{lowerList, upperList, EnclosesAll}
 use Rattle.bounds.specs.Calls.{runRefusal, runNumber, ranAnswer, totalsOf, totalsIn}

@@ -18,12 +18,11 @@ use Rattle.plan.specs.Plan.{Plan}
 use Rattle.plan.specs.Lists.{linksOf, eventsOf}
 use Rattle.plan.specs.Layout.{layout}
 use Rattle.refusals.specs.Tests.{roomTest}
-use Rattle.plan.specs.LentLists.{planOfLists, listsRefusal, linkListRefusal, eventListRefusal}
+use Rattle.plan.specs.LentLists.{planOfLists, listsRefusal, linkListRefusal, eventListRefusal, listsNumber}
 use Rattle.plan.specs.Calls.{filled, writeRefusal, writeAnswer}
 use Rattle.plan.specs.declared.Header.{Header}
 use Rattle.plan.specs.declared.Writing.{Writing}
 use Rattle.refusals.proofs.TestLaws.{Ranges, counts-none, room-none}
-use Rattle.lent.specs.Taken.{listsNumber}
 use Rattle.lent.proofs.CopyLaws.{same-plan}
 use Rattle.writer.proofs.WriterAnswer.{Outcome}
 use Rattle.records.specs.Events.{wordsOf}

@@ -8,11 +8,11 @@ use lib.ListN.{length, take, drop, take-append-drop}
 use lib.Seq.{sets, sets-eq, length-take-le}
 use Rattle.mass.specs.Refusal.{first}
 use Rattle.plan.specs.Plan.{Plan}
-use Rattle.plan.specs.LentLists.{planOfLists}
+use Rattle.plan.specs.LentLists.{planOfLists, listsNumber}
 use Rattle.plan.specs.declared.Header.{Header}
 use Rattle.plan.proofs.FilledLaws.{filled-none}
 use Rattle.refusals.proofs.OrderLaws.{stop, skip}
-use Rattle.lent.specs.Taken.{Taken, listsNumber}
+use Rattle.lent.specs.Taken.{Taken}
 use Rattle.entries.specs.Entries.{TopologyList, entryWords}
 use Rattle.topology_list.specs.TopologyList.{topologyListOf}
 use Rattle.entries.specs.Words.{HoldsList}

@@ -1,9 +1,8 @@
 -- `panel_calls::begin` meets its contract: at each `return` the tests that led there decide the number. Assumes nothing.
 use borrow.Author.Needs.{needs}
 use mathlib.Core.Path.{_≡_, sym, ap, subst, _∙_}
-use Rattle.plan.specs.LentLists.{planOfLists}
+use Rattle.plan.specs.LentLists.{planOfLists, listsNumber}
 use Rattle.plan.proofs.FilledLaws.{filled-none}
-use Rattle.lent.specs.Taken.{listsNumber}
 use Rattle.panel.specs.Walks.{WalkAt, rootWalk}
 use Rattle.walk_state.specs.declared.WalkAnswer.{WalkAnswer}
 use Rattle.panel_calls.proofs.WordLaws.{answer-number, answer-walk, lists-refuse, room-decides}

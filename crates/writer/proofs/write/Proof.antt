@@ -9,8 +9,8 @@ use lib.Seq.{sets, length-sets}
 use Rattle.plan.specs.Plan.{Plan}
 use Rattle.plan.specs.Lists.{eventsOf}
 use Rattle.plan.specs.Layout.{layout}
-use Rattle.plan.specs.LentLists.{planOfLists}
-use Rattle.lent.specs.Taken.{Taken, listsNumber}
+use Rattle.plan.specs.LentLists.{planOfLists, listsNumber}
+use Rattle.lent.specs.Taken.{Taken}
 use Rattle.refusals.proofs.TestLaws.{room-none}
 use Rattle.layout.proofs.ListLaws.{length-events-of}
 use Rattle.sizes.proofs.SizeLaws.{plan-size, events-most}

@@ -2,7 +2,8 @@
 use mathlib.Core.Path.{_≡_, sym, _∙_}
 use mathlib.Core.List.{List}
 use Prim.Native.Nat.{ℕ}
-use Rattle.lent.specs.Taken.{Taken, listsNumber}
+use Rattle.lent.specs.Taken.{Taken}
+use Rattle.plan.specs.LentLists.{listsNumber}
 use Rattle.bounds.proofs.Zeros.{cleared}
 use Rattle.bounds.proofs.Answers.{pair-inside}
 use Rattle.bounds.proofs.Outcome.{lists-refuse-pair, pair-wrong, may-give-own, pair-done}

@@ -2,7 +2,7 @@
 use borrow.Author.Needs.{needs}
 use mathlib.Core.Path.{_≡_, sym, ap, _∙_}
 use Prim.Native.Nat.{ℕ}
-use Rattle.lent.specs.Taken.{listsNumber}
+use Rattle.plan.specs.LentLists.{listsNumber}
 use Rattle.panel.specs.Walks.{rootWalk}
 use Rattle.walk_state.specs.States.{walkAnswer}
 use Rattle.walk_state.specs.declared.Walk.{Walk}
