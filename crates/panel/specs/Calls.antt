@@ -35,9 +35,9 @@ endsWanted w k = elim (sound w) [ true ↦ min k (endsLeft w) | false ↦ 0 ]
 unfoldable pub goOnNumber : Walk → Quota → ℕ → ℕ
 goOnNumber w quota k = elim (ltb 0 (endsWanted w k)) [ true ↦ quotaTest (quota .left) | false ↦ 0 ]
 
--- what a go-on for at most k ends answers: its number, how many ends it reached ("exactly the smallest of k, the ends the walk still has under
--- the plan's cap, and what the quota still holds"), and what is left of the quota. Where it reached none, the walk is as it was; a walk of a
--- plan that has reached n ends has then reached so many more.
+-- what a go-on for at most k ends answers: its number, how many ends it reached ("exactly the smallest of k, the ends the walk still has
+-- under the plan's cap, and what the quota still holds"), and what is left of the quota. Where it reached none, the walk is as it was; a
+-- walk of a plan that has reached n ends has then reached so many more.
 pub record WentOn (w : Walk) (quota : Quota) (k : ℕ) (r : GoneOn) : Type 0 where
   pub number : r .number ≡ goOnNumber w quota k
   pub reached : r .reached ≡ min (endsWanted w k) (quota .left)
@@ -53,7 +53,8 @@ lookOf w = record { count = w .count; complete = digit (leb 512 (w .at)); mass =
 unfoldable pub mayShow : ℕ → ℕ → ℕ → Bool
 mayShow nodes mass sum = leb nodes 64 && (leb mass whole && leb sum mass)
 
--- the bounds of a pair that a look shows, from these three; where they are not those of a walk nothing is known of the pair: 0 and one whole
+-- the bounds of a pair that a look shows, from these three; where they are not those of a walk nothing is known of the pair: 0 and one
+-- whole
 unfoldable pub boundsShown : ℕ → ℕ → ℕ → PairBounds
 boundsShown nodes mass sum =
     elim (mayShow nodes mass sum) [
@@ -62,7 +63,8 @@ boundsShown nodes mass sum =
     ]
 
 -- examples: a mass of 600 units of which 200 cut the pair off; more nodes than a plan has
-example-shown : (boundsShown 3 600 200 ≡ record { lower = 200; upper = 999999999999999600 }) × (boundsShown 65 600 200 ≡ record { lower = 0; upper = whole })
+example-shown : (boundsShown 3 600 200 ≡ record { lower = 200; upper = 999999999999999600 })
+    × (boundsShown 65 600 200 ≡ record { lower = 0; upper = whole })
 unfolding boundsShown mayShow
 example-shown = (refl, refl)
 

@@ -33,7 +33,8 @@ abbrev pub ownEnds : On → GoneOn → ℕ
 ownEnds own answer = answer .reached
 ownEnds (other v) answer = 0
 
--- a list of calls, the first one first, from a walk and a quota "handed on as the last call left them": each answer is one that `go_on` gives
+-- a list of calls, the first one first, from a walk and a quota "handed on as the last call left them": each answer is one that `go_on`
+-- gives
 abbrev pub Answered : Walk → Quota → List Call → Type 0
 Answered w quota [] = Unit {0}
 Answered w quota (c ∷ calls) =

@@ -31,7 +31,8 @@ endsToCome w = toCome (w .header .events) (w .header .threshold) (w .events) (w 
 abbrev pub endsLeft : Walk → ℕ
 endsLeft w = min (w .header .limit - w .reached) (length (endsToCome w))
 
--- w is a walk of the plan p that has reached its first r ends: the others are to come, and what it has so far is that of the plan with cap r
+-- w is a walk of the plan p that has reached its first r ends: the others are to come, and what it has so far is that of the plan with
+-- cap r
 pub record WalkAt (p : Plan) (r : ℕ) (w : Walk) : Type 0 where
   pub plan : walkPlan w ≡ p
   pub valid : planRefusal p ≡ 0
@@ -45,8 +46,8 @@ pub record WalkAt (p : Plan) (r : ℕ) (w : Walk) : Type 0 where
   pub sums : Summed (capped p r) (p .nodes) (w .sums)
   pub pending : w .mass + pendingMass (drop (w .at) (w .stack)) ≤ whole
 
--- the walk that begins: the lists of its plan are copied, the root (no event decided, one whole) is the only entry of the stack, and nothing
--- is reached
+-- the walk that begins: the lists of its plan are copied, the root (no event decided, one whole) is the only entry of the stack, and
+-- nothing is reached
 unfoldable pub rootWalk : Header → List ℕ → List ℕ → Walk
 rootWalk h links events =
     record {

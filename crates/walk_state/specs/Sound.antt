@@ -13,8 +13,9 @@ use Rattle.plan.specs.LentLists.{listsRefusal}
 use Rattle.walk.specs.Stack.{entryMass}
 use Rattle.walk_state.specs.declared.Walk.{Walk}
 
--- four words of a stack, with `below` words under them: one dropped end or more; or a pending branch of at most `room` mass, of whose events
--- (`count` in all) the first `depth` are decided, its failing ones among these, with no more entries under it than events are decided
+-- four words of a stack, with `below` words under them: one dropped end or more; or a pending branch of at most `room` mass, of whose
+-- events (`count` in all) the first `depth` are decided, its failing ones among these, with no more entries under it than events are
+-- decided
 unfoldable pub soundEntry : ℕ → ℕ → ℕ → ℕ → ℕ → ℕ → ℕ → Bool
 soundEntry count room depth mass low high below =
     elim (ltb 128 depth) [
@@ -55,7 +56,8 @@ soundNumbers limit at reached count = leb count reached && (leb reached limit &&
 
 -- examples: 5 ends of a cap of 9, 4 of them examined; more examined than reached; more reached than the cap; a stack that begins inside an
 -- entry
-example-numbers : (soundNumbers 9 508 5 4 ≡ true) × (soundNumbers 9 508 5 6 ≡ false) × (soundNumbers 4 508 5 4 ≡ false) × (soundNumbers 9 507 5 4 ≡ false)
+example-numbers : (soundNumbers 9 508 5 4 ≡ true) × (soundNumbers 9 508 5 6 ≡ false)
+    × (soundNumbers 4 508 5 4 ≡ false) × (soundNumbers 9 507 5 4 ≡ false)
 unfolding soundNumbers
 example-numbers = (refl, refl, refl, refl)
 
