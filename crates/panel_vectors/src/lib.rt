@@ -1,0 +1,15 @@
+// What the test programs of walks in steps share: document 02, request U4. Holding what a look shows, what a go-on answers, and a whole
+// walk, to what it should be.
+// Assumes nothing.
+mod compare;
+mod walks;
+
+pub use compare::FULL;
+pub use compare::WHOLE;
+pub use compare::after;
+pub use compare::answered;
+pub use compare::bounds;
+pub use compare::left_after;
+pub use compare::less;
+pub use compare::totals;
+pub use walks::same_walk;
