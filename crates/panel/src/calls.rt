@@ -1,4 +1,4 @@
-// A walk begun, and gone on with.
+// A walk begun, and gone on with, under a quota.
 use crate::GoneOn;
 use crate::Quota;
 use bounds::Tally;
@@ -14,7 +14,7 @@ ghost use Rattle.plan.specs.LentLists.{planOfLists, listsNumber};
 ghost use Rattle.walk_state.specs.Sound.{sound};
 ghost use Rattle.walk_state.specs.States.{walkAnswer};
 ghost use Rattle.panel.specs.Walks.{WalkAt, rootWalk};
-ghost use Rattle.panel.specs.Calls.{quotaTest, WentOn};
+ghost use Rattle.panel.specs.Calls.{fullQuota, quotaTest, WentOn};
 ghost use Rattle.panel.specs.Steps.{openEnds, WalkedOn};
 
 // Begins the walk of a plan in lent lists.
@@ -47,6 +47,13 @@ pub fn begin(h: Header, links: &[u8], events: &[u64]) -> WalkAnswer
         mass: 0,
     };
     WalkAnswer { number: 0, walk }
+}
+
+// The quota at power-up: 10,000,000 ends.
+pub fn power_up() -> Quota
+    ensures { λ r. ⌜ r ≡ fullQuota ⌝ }
+{
+    Quota { left: 10_000_000 }
 }
 
 // 19: the quota is empty.

@@ -5,6 +5,7 @@ mod looks;
 
 pub use calls::begin;
 pub use calls::go_on;
+pub use calls::power_up;
 pub use looks::look;
 pub use looks::look_pair;
 use walk_state::Walk;

@@ -1,4 +1,4 @@
-// A walk in lent words: begun, gone on with and looked at, for the tests in Rust and the benchmark.
+// A walk in lent words: begun, gone on with and looked at, for the tests in Rust, the benchmark and `planner`.
 use crate::header;
 ghost use mathlib.Core.Path.{_≡_};
 ghost use Prim.Native.Nat.{_≤_, _<_};

@@ -4,7 +4,6 @@
 use panel::Quota;
 use panel_table::begun;
 use panel_table::went_on;
-use panel_vectors::FULL;
 use panel_vectors::same_walk;
 use walk_state::Walk;
 
@@ -29,7 +28,7 @@ fn power_up() {
     went_on(
         b"full quota",
         begun(1_000_000),
-        holds(FULL),
+        panel::power_up(),
         ALL,
         0,
         14,
