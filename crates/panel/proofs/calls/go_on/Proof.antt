@@ -82,8 +82,11 @@ sub-t8 : tie.Need-sub-t8
 sub-t8 c =
     let on = c .before .before .before in
     let a = entry (tested (on .before)) .args in
-    in-quota (a .w) (a .quota) (a .k) (size (entry (tested (on .before)))) (opened (tested (on .before))) _ (allowed (on .before)) (some-allowed (on .before))
-    (full (on .before)) _ (on .reach .ensures)
+    omega (
+      arith,
+      in-quota (a .w) (a .quota) (a .k) (size (entry (tested (on .before)))) (opened (tested (on .before))) _ (allowed (on .before)) (some-allowed (on .before))
+          (full (on .before)) _ (on .reach .ensures),
+    )
 
 returns-3 : tie.Need-returns-3
 returns-3 c =
