@@ -1,7 +1,7 @@
 -- Sanity laws of the exact sums: the list of all sets is what its name says.
 -- Assumes nothing.
 use mathlib.Core.Path.{_≡_, refl, ap}
-use mathlib.Core.Logic.{_≢_, ⊎-elim}
+use mathlib.Core.Logic.{⊎-elim}
 use mathlib.Core.Bool.{Bool, true, false}
 use mathlib.Core.List.{[], _∷_, map, List·Memᴰ, List·Memᴰ·head, List·Memᴰ·not-nil, List·Memᴰ·cases-cons, List·Memᴰ·append-cases}
 use mathlib.Core.List.{Memᴰ·of-map, Memᴰ·map, Memᴰ·append-left, Memᴰ·append-right, List·Nodup, pairwise-singleton}
@@ -10,7 +10,8 @@ use native.Mathlib.Nat.{pow-succ'}
 use native.Mathlib.Omega.{arith}
 use lib.ListN.{length, length-append, length-map}
 use Rattle.walk.specs.Scenario.{Scenario}
-use Rattle.walk.proofs.MemberLaws.{distinct-both}
+use Rattle.walk.specs.WalkOrder.{earlier, Ordered}
+use Rattle.walk.proofs.OrderLaws.{ordered-both, ordered-distinct}
 use Rattle.sums.specs.Exact.{allSets}
 
 -- law: there are 2^n sets of n events
@@ -41,7 +42,11 @@ sets-entries (suc n) s h = ⊎-elim (side (sets-entries n) false) (side (sets-en
         let found = Memᴰ·of-map (λ (r : Scenario). b ∷ r) (allSets n) there in
         rw (← found .2) (ap suc (known (found .0) (found .1)))
 
--- law: none is there twice
+-- law: they stand in the order of the walk
+pub sets-ordered : (n : ℕ) → Ordered (allSets n)
+sets-ordered zero = pairwise-singleton (λ (s r : Scenario). earlier s r ≡ true) []
+sets-ordered (suc n) = ordered-both (allSets n) (allSets n) (sets-ordered n) (sets-ordered n)
+
+-- law: so none is there twice
 pub sets-distinct : (n : ℕ) → List·Nodup (allSets n)
-sets-distinct zero = pairwise-singleton (λ (a b : Scenario). a ≢ b) []
-sets-distinct (suc n) = distinct-both (allSets n) (allSets n) (sets-distinct n) (sets-distinct n)
+sets-distinct n = ordered-distinct (allSets n) (sets-ordered n)

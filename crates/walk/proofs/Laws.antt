@@ -2,8 +2,8 @@
 -- Assumes nothing.
 use mathlib.Core.Path.{_≡_, ap, sym, subst₂}
 use mathlib.Core.Bool.{Bool, true, false}
-use mathlib.Core.Logic.{_≢_, ⊎-elim}
-use mathlib.Core.List.{List·Nodup, Pairwise·nil, pairwise-singleton, List, [], _∷_, map, List·Memᴰ, List·Memᴰ·head, List·Memᴰ·tail}
+use mathlib.Core.Logic.{⊎-elim}
+use mathlib.Core.List.{Pairwise·nil, pairwise-singleton, List, [], _∷_, map, List·Memᴰ, List·Memᴰ·head, List·Memᴰ·tail}
 use mathlib.Core.List.{List·Memᴰ·not-nil, List·Memᴰ·cases-cons, List·Memᴰ·append-cases, Memᴰ·of-map, Memᴰ·map, Memᴰ·append-left}
 use mathlib.Core.List.{Memᴰ·append-right}
 use Prim.Native.Nat.{ℕ, suc, _*_, _≤_}
@@ -17,7 +17,9 @@ use Rattle.walk.proofs.ScenarioLaws.{finalMass-le}
 use Rattle.plan.specs.Held.{Probabilities}
 use Rattle.walk.specs.Ends.{End, dropped, relevant, after, ends, endsAfter, sumEnds, scenarios, both}
 use Rattle.walk.proofs.EndsLaws.{ends-leaf, ends-node, sumEnds-both, scenarios-both, first-ends}
-use Rattle.walk.proofs.MemberLaws.{among-member, distinct-both}
+use Rattle.walk.proofs.MemberLaws.{among-member}
+use Rattle.walk.specs.WalkOrder.{earlier, Ordered}
+use Rattle.walk.proofs.OrderLaws.{ordered-both}
 use Rattle.walk.specs.Walk.{firstEnds, examined, isExamined}
 
 -- a scenario that the walk from the mass m finds relevant: one entry for each event, and a final mass of at least t
@@ -166,13 +168,13 @@ masses-enough t =
     (λ m e events xs ys h works fails.
     rw (sumEnds-both (λ s x. 1) xs ys, sumEnds-both (λ s x. x) xs ys) (omega (arith, works, fails)))
 
--- law: no scenario is examined twice
-pub ends-distinct : (t k m : ℕ) (events : List Event) → List·Nodup (scenarios (take k (ends t m events)))
-ends-distinct t =
+-- law: the scenarios of the first k ends stand in the order of the walk
+pub ends-ordered : (t k m : ℕ) (events : List Event) → Ordered (scenarios (take k (ends t m events)))
+ends-ordered t =
     first-ends
     t
-    (λ m events list. List·Nodup (scenarios list))
+    (λ m events list. Ordered (scenarios list))
     (λ m events. Pairwise·nil)
     (λ m events h. Pairwise·nil)
-    (λ m h. pairwise-singleton (λ (a b : Scenario). a ≢ b) [])
-    (λ m e events xs ys h works fails. rw (scenarios-both xs ys) (distinct-both (scenarios xs) (scenarios ys) works fails))
+    (λ m h. pairwise-singleton (λ (s r : Scenario). earlier s r ≡ true) [])
+    (λ m e events xs ys h works fails. rw (scenarios-both xs ys) (ordered-both (scenarios xs) (scenarios ys) works fails))

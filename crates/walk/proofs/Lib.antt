@@ -9,6 +9,7 @@ pub mod Handing
 pub mod ScenarioLaws
 pub mod EndsLaws
 pub mod MemberLaws
+pub mod OrderLaws
 pub mod StackLaws
 pub mod Laws
 pub mod PendingMass

@@ -1,11 +1,8 @@
 -- Laws of membership in a list of scenarios.
 -- Assumes nothing.
 use mathlib.Core.Path.{_≡_, refl, ap}
-use mathlib.Core.Logic.{_≢_, ∥∥₁-elim}
-use mathlib.Core.HLevel.{⊥-prop, ¬-prop}
 use mathlib.Core.Bool.{Bool, true, false, _||_, or-true}
-use mathlib.Core.List.{List·Nodup, nodup-append, Disjoint, Pairwise·map, exists-of-mem-map, List, [], _∷_, _++_, map, List·Memᴰ}
-use mathlib.Core.List.{List·Memᴰ·head, List·Memᴰ·tail}
+use mathlib.Core.List.{List, [], _∷_, _++_, map, List·Memᴰ, List·Memᴰ·head, List·Memᴰ·tail}
 use Prim.Native.Nat.{ℕ}
 use native.Mathlib.Omega.{arith}
 use Rattle.walk.specs.Scenario.{Scenario}
@@ -61,25 +58,3 @@ module _ (s : Scenario) where
       → among (true ∷ s) (map (λ r. (false ∷ []) ++ r) xs ++ map (λ r. (true ∷ []) ++ r) ys) ≡ among s ys
   among-fails [] ys = fails-there ys
   among-fails (r ∷ xs) ys = among-fails xs ys
-
--- law: if no scenario is twice in xs nor in ys, none is twice in those where the first event works, of xs, and those where it fails, of ys
-pub distinct-both : (xs ys : List Scenario) → List·Nodup xs → List·Nodup ys
-    → List·Nodup (map (λ s. (false ∷ []) ++ s) xs ++ map (λ s. (true ∷ []) ++ s) ys)
-unfolding nodup-append
-distinct-both xs ys h k = nodup-append {l₁ = map (λ s. (false ∷ []) ++ s) xs} .1 (side false xs h, side true ys k, apart)
-  where
-    side : (b : Bool) (list : List Scenario) → List·Nodup list → List·Nodup (map (λ s. (b ∷ []) ++ s) list)
-    side b list = Pairwise·map (λ r s. ¬-prop) (λ s. (b ∷ []) ++ s) (longer b)
-      where
-        longer : (b : Bool) (r s : Scenario) → r ≢ s → (b ∷ r) ≢ (b ∷ s)
-        longer b r s n e = let same : r ≡ s = cc in n same
-
-    apart : Disjoint (map (λ s. (false ∷ []) ++ s) xs) (map (λ s. (true ∷ []) ++ s) ys)
-    apart s m n =
-        ∥∥₁-elim
-        (exists-of-mem-map {f = λ r. (false ∷ []) ++ r} {l = xs} m)
-        ⊥-prop
-        (λ u. ∥∥₁-elim (exists-of-mem-map {f = λ r. (true ∷ []) ++ r} {l = ys} n) ⊥-prop (λ v. clash (u .0) (v .0) (u .2) (v .2)))
-      where
-        clash : (a b : Scenario) → false ∷ a ≡ s → true ∷ b ≡ s → ⊥
-        clash a b e f = let z : _≡_ {A = ℕ} 0 1 = cc in omega arith

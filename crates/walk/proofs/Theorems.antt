@@ -18,9 +18,11 @@ use Rattle.sets.specs.Sets.{digit}
 use Rattle.walk.specs.Ends.{relevant, scenarios}
 use Rattle.walk.proofs.EndsLaws.{count-sum}
 use Rattle.walk.proofs.MemberLaws.{among-member, member-among}
+use Rattle.walk.specs.WalkOrder.{Ordered}
 use Rattle.walk.specs.Walk.{planEnds, examined, isExamined, complete, massExamined, count}
 use Rattle.walk.proofs.Laws.{Relevant, relevant-sound, relevant-all, end-scenario, examined-sound, masses-le, masses-enough}
-use Rattle.walk.proofs.Laws.{ends-distinct}
+use Rattle.walk.proofs.Laws.{ends-ordered}
+use Rattle.walk.proofs.OrderLaws.{ordered-distinct}
 
 -- a scenario is a relevant end of the whole walk exactly where its final mass is at least t, and the mass handed out is that mass
 pub relevant-iff : (p : Plan) → Probabilities (p .events) → (s : Scenario) (x : ℕ)
@@ -66,9 +68,13 @@ count-le p q =
       massExamined-le p q,
     )
 
--- no scenario is examined twice
+-- what is examined stands in the order of the walk: at the first event on which two scenarios differ, it works in the one that comes first
+pub examined-ordered : (p : Plan) → Ordered (examined p)
+examined-ordered p = ends-ordered (p .threshold) (p .limit) whole (p .events)
+
+-- so no scenario is examined twice
 pub examined-distinct : (p : Plan) → List·Nodup (examined p)
-examined-distinct p = ends-distinct (p .threshold) (p .limit) whole (p .events)
+examined-distinct p = ordered-distinct (examined p) (examined-ordered p)
 
 -- the test for an examined scenario is membership
 pub examined-member : (p : Plan) (s : Scenario) → (isExamined p s ≡ true) ↔ List·Memᴰ s (examined p)

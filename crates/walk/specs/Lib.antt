@@ -5,5 +5,6 @@ pub mod Member
 pub mod Pending
 pub mod WorksPath
 pub mod Walk
+pub mod WalkOrder
 pub mod Stack
 pub mod Steps
