@@ -1,14 +1,10 @@
 -- The number and the values that an export of a further reading hands out for each case of an answer. The number is that of the refusal,
 -- or 0; the values are all 0 where the answer is a refusal.
 -- Assumes nothing.
-use mathlib.Core.Path.{_≡_}
 use mathlib.Core.List.{List, [], _∷_}
 use Prim.Native.Nat.{ℕ}
 use lib.Ieee.{binary64, toBits}
-use Rattle.plan.specs.Plan.{Plan}
-use Rattle.walk.specs.Walk.{examined}
-use Rattle.walk.specs.declared.Failing.{Failing}
-use Rattle.readings.specs.Witness.{witnessAnswer, failingIn, Shows}
+use Rattle.readings.specs.Witness.{failingIn}
 use Rattle.readings.specs.Downtime.{secondsIn}
 use Rattle.readings.specs.declared.Figured.{Figured}
 use Rattle.readings.specs.declared.Figured.the-variants as figured
@@ -20,7 +16,6 @@ use Rattle.topology_list.specs.declared.Listed.{Listed}
 use Rattle.topology_list.specs.declared.Listed.the-variants as listed
 use Rattle.sheets.specs.SheetCalls.{countsIn}
 use Rattle.sheets.specs.declared.SheetReading.{SheetReading}
-use Rattle.answers.specs.Laid.{laid}
 
 -- ---- a topology list: how many entries it has
 
@@ -58,7 +53,7 @@ secondsValues answer = secondsIn answer .lower ∷ secondsIn answer .upper ∷ [
 abbrev pub countsValues : SheetReading → List ℕ
 countsValues answer = countsIn answer .nodes ∷ countsIn answer .links ∷ countsIn answer .lines ∷ []
 
--- ---- a witness: the two words of a set of failing events
+-- ---- a witness: the two words of its set of failing events
 
 abbrev pub witnessedNumber : Witnessed → ℕ
 witnessedNumber (witnessed.Refused number) = number
@@ -66,9 +61,3 @@ witnessedNumber (witnessed.Found set) = 0
 
 abbrev pub failingValues : Witnessed → List ℕ
 failingValues answer = failingIn answer .low ∷ failingIn answer .high ∷ []
-
--- what a witness hands out with a number: where it is 0, the two words of a set that shows the pair disconnected; which set is left free
-pub record WitnessHanded (p : Plan) (v w number : ℕ) (entry exit : List ℕ) : Type 0 where
-  pub set : Failing
-  pub words : exit ≡ laid (failingValues (witnessAnswer number set)) entry
-  pub shown : number ≡ 0 → Shows p v w (examined p) set

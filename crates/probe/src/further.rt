@@ -4,11 +4,11 @@ ghost use mathlib.Core.Path.{_≡_};
 ghost use Rattle.plan.specs.LentLists.{planOfLists};
 ghost use Rattle.bounds.specs.Calls.{pairNumber};
 ghost use Rattle.readings.specs.Figure.{figureOf};
-ghost use Rattle.readings.specs.Witness.{witnessNumber};
+ghost use Rattle.readings.specs.Witness.{witnessNumber, witnessOf};
 ghost use Rattle.readings.specs.Downtime.{downtimeAnswer, downtimeRefusal, secondsOf};
 ghost use Rattle.answers.specs.Laid.{laid};
 ghost use Rattle.answers.specs.Answers.{headerWith};
-ghost use Rattle.further_answers.specs.FurtherAnswers.{figureValues, secondsValues, WitnessHanded};
+ghost use Rattle.further_answers.specs.FurtherAnswers.{figureValues, secondsValues, failingValues};
 
 #[no_mangle]
 pub extern "C" fn probe_figure(
@@ -48,9 +48,9 @@ pub extern "C" fn probe_witness(
 ) -> u32
     ensures number { λ r. ⌜ r ≡ witnessNumber (headerWith nodes «links_count» «events_count» threshold limit)
         (now (links .entry)) (now (events .entry)) v w ⌝ }
-    ensures result { λ r. ⌜ WitnessHanded
-        (planOfLists (headerWith nodes «links_count» «events_count» threshold limit) (now (links .entry)) (now (events .entry))) v w
-        r (now (result .entry)) (now (result .exit)) ⌝ }
+    ensures result { λ r. ⌜ now (result .exit) ≡ laid (failingValues (witnessOf
+        (headerWith nodes «links_count» «events_count» threshold limit) (now (links .entry)) (now (events .entry)) v w))
+        (now (result .entry)) ⌝ }
 {
     let h = header(nodes, links_count, events_count, threshold, limit);
     further_answers::give_failing(readings::witness(h, links, events, v, w), result)

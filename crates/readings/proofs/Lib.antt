@@ -5,4 +5,5 @@ pub mod WitnessPromise
 pub mod Figures
 pub mod FigureLaws
 pub mod DowntimeLaws
+pub mod FirstLaws
 pub mod Theorems

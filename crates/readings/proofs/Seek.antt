@@ -1,10 +1,10 @@
 -- The search for a witness over the relevant scenarios of the walk.
 -- Assumes nothing.
-use mathlib.Core.Path.{_≡_, refl, sym, ap, subst, _∙_}
-use mathlib.Core.Bool.{Bool, true, false, not, or-true}
+use mathlib.Core.Path.{_≡_, refl, sym, ap, ap₂, _∙_}
+use mathlib.Core.Bool.{Bool, true, false, not}
 use mathlib.Core.List.{List, [], _∷_}
-use Prim.Native.Nat.{ℕ, _^_, _<_}
-use native.Mathlib.Omega.{arith}
+use Prim.Native.Nat.{ℕ, _/_, _%_, _^_, _<_}
+use lib.Pow.{low, high}
 use Rattle.mass.specs.Refusal.{refuse}
 use Rattle.sets.specs.Sets.{joined}
 use Rattle.plan.specs.Plan.{Plan}
@@ -18,16 +18,14 @@ use Rattle.network.specs.Code.{outage, networkIn}
 use Rattle.network.specs.declared.Failed.{Failed}
 use Rattle.walk.specs.Scenario.{Scenario, scenarioOf, number}
 use Rattle.walk.proofs.ScenarioLaws.{number-scenario}
-use Rattle.walk.proofs.MemberLaws.{same-refl}
 use Rattle.walk.specs.Steps.{Handed}
-use Rattle.walk.specs.declared.Failing.{Failing}
 use Rattle.walk.specs.declared.Step.{Step}
 use Rattle.walk.proofs.Resume.{scenarios-found, scenarios-none}
 use Rattle.bounds.specs.Bounds.{intact, cuts}
-use Rattle.readings.specs.Witness.{some, noneTest, witnessAnswer, failingIn}
-use Rattle.readings.specs.Search.{reached, Searched, Seeking}
-use Rattle.readings.specs.declared.Witnessed.{Witnessed}
+use Rattle.readings.specs.Witness.{some, failingOf, witnessAnswer}
+use Rattle.readings.specs.Search.{reached, searched, Seeking}
 use Rattle.readings.specs.declared.Witnessed.the-variants as witnessed
+use Rattle.readings.proofs.FirstLaws.{some-here, some-passed, first-here, first-passed}
 
 -- what the code finds out of a scenario's topology
 pub cut-is : (h : Header) (links words : List ℕ) (low high : ℕ) → joined low high < 2 ^ h .events → (failed : Failed)
@@ -40,51 +38,47 @@ cut-is h links words low high decided failed gathered v w =
 
 -- ---- a search of a list of scenarios
 
-module _ (test : Scenario → Bool) (here : Scenario) (later : List Scenario) where
-  some-first : test here ≡ true → some test (here ∷ later) ≡ true
-  unfolding some
-  some-first e = rw e
+-- the two words that a step hands out are those of its scenario
+words-of : (lo hi : ℕ) → lo < 2 ^ 64 → (s : Scenario) → joined lo hi ≡ number s → (record { low = lo; high = hi }) ≡ failingOf s
+words-of lo hi fits s e = λ i. record { low = below i; high = above i }
+  where
+    below : lo ≡ number s % 2 ^ 64
+    below = sym (low hi 64 fits) ∙ ap (λ (k : ℕ). k % 2 ^ 64) e
 
-  some-later : test here ≡ false → some test (here ∷ later) ≡ some test later
-  unfolding some
-  some-later e = rw e
+    above : hi ≡ number s / 2 ^ 64
+    above = sym (high hi 64 fits) ∙ ap (λ (k : ℕ). k / 2 ^ 64) e
 
 module _ (p : Plan) (v w : ℕ) where
   -- of no scenario
-  nothing : Searched p v w [] (witnessed.Refused 14)
+  nothing : witnessed.Refused 14 ≡ searched p v w []
   unfolding some
-  nothing = record { answer = refl; found = λ z. absurd (omega arith) }
+  nothing = refl
 
   module _ (here : Scenario) (later : List Scenario) where
     -- the first one disconnects the pair
-    first-cuts : cuts p v w here ≡ true → (set : Failing) → joined (set .low) (set .high) ≡ number here
-        → Searched p v w (here ∷ later) (witnessed.Found set)
-    first-cuts c set e =
-        let is : noneTest p v w (here ∷ later) ≡ 0 = ap (λ (b : Bool). refuse (not b) 14) (some-first (cuts p v w) here later c) in
-        record {
-          answer = ap (λ (n : ℕ). witnessAnswer n set) (sym is);
-          found = λ z. record { scenario = here; failing = e; member = rw same-refl; disconnects = c };
-        }
+    first-cuts : cuts p v w here ≡ true → witnessed.Found (failingOf here) ≡ searched p v w (here ∷ later)
+    first-cuts c =
+        sym
+        (ap₂
+        (λ (b : Bool) (s : Scenario). witnessAnswer (refuse (not b) 14) (failingOf s))
+        (some-here (cuts p v w) here later c)
+        (first-here (cuts p v w) here later c))
 
     -- it does not: the answer is that of a search of the others
-    first-joins : cuts p v w here ≡ false → (r : Witnessed) → Searched p v w later r → Searched p v w (here ∷ later) r
-    first-joins c r a =
-        let is : noneTest p v w (here ∷ later) ≡ noneTest p v w later =
-        ap (λ (b : Bool). refuse (not b) 14) (some-later (cuts p v w) here later c) in
-        record {
-          answer = a .answer ∙ ap (λ (n : ℕ). witnessAnswer n (failingIn r)) (sym is);
-          found =
-              λ z.
-              let s = a .found (sym is ∙ z) in
-              record { scenario = s .scenario; failing = s .failing; member = rw (s .member, or-true); disconnects = s .disconnects };
-        }
+    first-joins : cuts p v w here ≡ false → searched p v w later ≡ searched p v w (here ∷ later)
+    first-joins c =
+        sym
+        (ap₂
+        (λ (b : Bool) (s : Scenario). witnessAnswer (refuse (not b) 14) (failingOf s))
+        (some-passed (cuts p v w) here later c)
+        (first-passed (cuts p v w) here later c))
 
 -- ---- the loop: what a search of what is left answers, a search of the whole answers
 
 pub record Seek (h : Header) (links words : List ℕ) (at₀ : ℕ) (stack₀ : List ℕ) (v w k : ℕ) (stack : List ℕ) (at left : ℕ) : Type 0 where
   pub seeking : Seeking h links words at stack v w
-  pub answers : (r : Witnessed) → Searched (planOfLists h links words) v w (reached h words at stack left) r
-      → Searched (planOfLists h links words) v w (reached h words at₀ stack₀ k) r
+  pub answers : searched (planOfLists h links words) v w (reached h words at stack left)
+      ≡ searched (planOfLists h links words) v w (reached h words at₀ stack₀ k)
 
 module _ (h : Header) (links words : List ℕ) (at₀ : ℕ) (stack₀ : List ℕ) (v w k : ℕ) (stack : List ℕ) (at left : ℕ)
     (g : Seek h links words at₀ stack₀ v w k stack at left)
@@ -102,26 +96,23 @@ module _ (h : Header) (links words : List ℕ) (at₀ : ℕ) (stack₀ : List �
   here = scenarioOf (h .events) (joined (r .low) (r .high))
 
   -- no scenario is left
-  pub ended : r .found ≡ false → Searched p v w all (witnessed.Refused 14)
-  ended e =
-      g .answers _
-      (subst (λ (l : List Scenario). Searched p v w l (witnessed.Refused 14))
-      (sym (scenarios-none (h .events) (h .threshold) words at stack left stack′ r s e)) (nothing p v w))
+  pub ended : r .found ≡ false → witnessed.Refused 14 ≡ searched p v w all
+  ended e = nothing p v w ∙ ap (searched p v w) (sym (scenarios-none (h .events) (h .threshold) words at stack left stack′ r s e)) ∙ g .answers
 
   -- one is
-  from-first : r .found ≡ true → (a : Witnessed) → Searched p v w (here ∷ later) a → Searched p v w all a
-  from-first e a given =
-      g .answers a
-      (subst (λ (l : List Scenario). Searched p v w l a)
-      (sym (scenarios-found (h .events) (h .threshold) words at stack left stack′ r s e)) given)
+  from-first : r .found ≡ true → searched p v w (here ∷ later) ≡ searched p v w all
+  from-first e = ap (searched p v w) (sym (scenarios-found (h .events) (h .threshold) words at stack left stack′ r s e)) ∙ g .answers
 
-  pub found-here : r .found ≡ true → cuts p v w here ≡ true → Searched p v w all (witnessed.Found (record { low = r .low; high = r .high }))
-  found-here e c =
-      from-first e _ (first-cuts p v w here later c _ (sym (number-scenario (h .events) (joined (r .low) (r .high)) (s .decided))))
+  pub found-here : r .found ≡ true → cuts p v w here ≡ true → r .low < 2 ^ 64
+      → witnessed.Found (record { low = r .low; high = r .high }) ≡ searched p v w all
+  found-here e c fits =
+      ap witnessed.Found (words-of (r .low) (r .high) fits here (sym (number-scenario (h .events) (joined (r .low) (r .high)) (s .decided))))
+      ∙ first-cuts p v w here later c
+      ∙ from-first e
 
   pub turned : r .found ≡ true → cuts p v w here ≡ false → Seek h links words at₀ stack₀ v w k stack′ (r .at) (r .left)
   turned e c =
       record {
         seeking = record { held = g .seeking .held; stacked = s .held; inside = g .seeking .inside };
-        answers = λ a given. from-first e a (first-joins p v w here later c a given);
+        answers = first-joins p v w here later c ∙ from-first e;
       }

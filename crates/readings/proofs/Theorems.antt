@@ -1,21 +1,35 @@
--- The downtime's rounding and what it encloses (document 02, request U1), and what 14 means: document 01, section "Further readings of a
--- plan".
+-- The downtime's rounding and what it encloses (document 02, request U1); what 14 means (document 01, section "Further readings of a plan"),
+-- and that the witness is the first scenario that disconnects the pair (document 02, request U5).
 -- Assumes nothing.
-use Prim.Native.Nat.{ℕ, _+_, _*_, _≤_, _<_}
+use mathlib.Core.Path.{_≡_, refl, sym, ap, subst}
+use mathlib.Core.Bool.{true, false}
+use mathlib.Core.List.{List, List·Memᴰ, List·Memᴰ·head, Memᴰ·append-right}
+use Prim.Native.Nat.{ℕ, _+_, _*_, _^_, _≤_, _<_}
+use native.Mathlib.Nat.{div-add-mod'}
 use native.Mathlib.Omega.{arith}
+use borrow.Author.Tests.{not-false}
 use lib.ListN.{length}
 use Rattle.mass.specs.Split.{whole}
+use Rattle.mass.proofs.RefusalLaws.{first-none, refuse-none}
+use Rattle.plan.specs.Plan.{Plan}
+use Rattle.plan.specs.LentLists.{planOfLists}
+use Rattle.plan.specs.declared.Header.{Header}
+use Rattle.walk.specs.Scenario.{Scenario, number}
+use Rattle.walk.specs.Walk.{examined, isExamined}
+use Rattle.walk.specs.WalkOrder.{earlier}
+use Rattle.walk.proofs.MemberLaws.{among-member, member-among}
+use Rattle.walk.proofs.Theorems.{examined-ordered}
 use Rattle.sums.specs.Exact.{scale, exactCut}
 use Rattle.sums.proofs.Theorems.{demand3-valid}
 use Rattle.readings.specs.Downtime.{year, lowerSeconds, upperSeconds, secondsOf, DowntimeWithin, EnclosesDowntime}
 use Rattle.readings.proofs.DowntimeLaws.{below-step, above-step}
-use mathlib.Core.Path.{_≡_, refl, sym, subst}
-use mathlib.Core.Bool.{Bool, true, false, or-true}
-use mathlib.Core.List.{List, [], _∷_, List·Memᴰ, List·Memᴰ·head, List·Memᴰ·tail}
-use Rattle.plan.specs.Plan.{Plan}
-use Rattle.walk.specs.Scenario.{Scenario}
+use Rattle.readings.proofs.FirstLaws.{some-member, first-found, none-earlier}
 use Rattle.bounds.specs.Bounds.{cuts}
-use Rattle.readings.specs.Witness.{some, noneTest}
+use Rattle.readings.specs.Witness.{some, noneTest, witnessRefusal, witnessNumber, firstCut, failingOf}
+use Rattle.readings.specs.Witness.{witnessAnswer, failingIn, witnessOf}
+use Rattle.readings.specs.First.{First, Shows}
+use Rattle.readings.specs.declared.Witnessed.{Witnessed}
+use Rattle.readings.specs.declared.Witnessed.the-variants as witnessed
 
 -- the lower seconds are rounded down: less than a second is lost
 pub lower-rounds : (m : ℕ) → (lowerSeconds m * whole ≤ m * year) × (m * year < (lowerSeconds m + 1) * whole)
@@ -58,23 +72,42 @@ bounds-enclose lower upper p valid v w l k is-lower is-upper =
     (subst (λ (m : ℕ). m * scale n ≤ d * whole) is-lower (held .below))
     (subst (λ (m : ℕ). d * whole ≤ m * scale n) is-upper (held .above))
 
--- `some` says that the list has a scenario of which the test holds
-module _ (test : Scenario → Bool) where
-  pub some-member : (s : Scenario) (list : List Scenario) → List·Memᴰ s list → test s ≡ true → some test list ≡ true
-  unfolding some
-  some-member s (r ∷ list) (List·Memᴰ·head e) h = rw (sym e, h)
-  some-member s (r ∷ list) (List·Memᴰ·tail m) h = rw (some-member s list m h, or-true)
+-- ---- the witness
 
-  pub member-some : (list : List Scenario) → some test list ≡ true → (s : Scenario) × List·Memᴰ s list × (test s ≡ true)
-  unfolding some
-  member-some [] e = absurd (let z : _≡_ {A = ℕ} 0 1 = cc in omega arith)
-  member-some (r ∷ list) e = step (test r) refl (member-some list)
-    where
-      step : (b : Bool) → test r ≡ b → (some test list ≡ true → (s : Scenario) × List·Memᴰ s list × (test s ≡ true))
-          → (s : Scenario) × List·Memᴰ s (r ∷ list) × (test s ≡ true)
-      step true h later = (r, List·Memᴰ·head refl, h)
-      step false h later = let f = later (rw h at e) in (f .0, List·Memᴰ·tail (f .1), f .2)
-
--- so a pair that 14 is given for is disconnected by no scenario of the list
+-- a pair that 14 is given for is disconnected by no scenario of the list
 pub none-cuts : (p : Plan) (v w : ℕ) (list : List Scenario) → noneTest p v w list ≡ 14 → (s : Scenario) → List·Memᴰ s list → cuts p v w s ≡ true → ⊥
 none-cuts p v w list e s m h = let z : _≡_ {A = ℕ} 0 14 = rw (some-member (cuts p v w) s list m h) at e in omega arith
+
+-- the witness of every call that is not refused: document 02, request U5
+module _ (h : Header) (links events : List ℕ) (v w : ℕ) (accepted : witnessNumber h links events v w ≡ 0) where
+  abbrev p : Plan
+  p = planOfLists h links events
+
+  found-some : some (cuts p v w) (examined p) ≡ true
+  unfolding witnessRefusal
+  found-some = not-false _ (refuse-none _ 13 (first-none _ _ (first-none _ _ (first-none _ _ accepted .1) .1) .0))
+
+  -- the answer is the set of failing events of the first examined scenario that disconnects the pair
+  pub witness-found : witnessOf h links events v w ≡ witnessed.Found (failingOf (firstCut p v w))
+  witness-found = ap (λ (n : ℕ). witnessAnswer n (failingOf (firstCut p v w))) accepted
+
+  pub witness-first : First (cuts p v w) (examined p) (firstCut p v w)
+  witness-first = first-found (cuts p v w) (examined p) found-some
+
+  -- no examined scenario that comes before it in the walk disconnects the pair
+  pub none-before : (s : Scenario) → isExamined p s ≡ true → earlier s (firstCut p v w) ≡ true → cuts p v w s ≡ false
+  none-before s x =
+      none-earlier (cuts p v w) (examined p) (firstCut p v w) (examined-ordered p) witness-first s (among-member s (examined p) x)
+
+  -- it is examined and disconnects the pair, as document 01 asks
+  pub witness-shows : Shows p v w (examined p) (failingIn (witnessOf h links events v w))
+  witness-shows =
+      subst (λ (r : Witnessed). Shows p v w (examined p) (failingIn r)) (sym witness-found)
+      (record {
+        scenario = firstCut p v w;
+        failing = div-add-mod' (number (firstCut p v w)) (2 ^ 64);
+        member =
+            member-among _ _
+            (subst (List·Memᴰ (firstCut p v w)) (sym (witness-first .parts)) (Memᴰ·append-right (witness-first .before) (List·Memᴰ·head refl)));
+        disconnects = witness-first .holds;
+      })

@@ -1,6 +1,6 @@
 -- The answer of a witness: from the root of the walk, through the tests.
 -- Assumes nothing.
-use mathlib.Core.Path.{_≡_, refl, sym, ap, subst, _∙_}
+use mathlib.Core.Path.{_≡_, refl, sym, ap, _∙_}
 use mathlib.Core.List.{List}
 use Prim.Native.Nat.{ℕ, _<_}
 use native.Mathlib.Omega.{arith}
@@ -13,14 +13,13 @@ use Rattle.plan.specs.declared.Header.{Header}
 use Rattle.lent.specs.Taken.{Taken}
 use Rattle.lent.proofs.ListLaws.{first-last}
 use Rattle.refusals.proofs.OrderLaws.{stop, skip}
-use Rattle.walk.specs.Scenario.{Scenario}
 use Rattle.walk.specs.Ends.{End, scenarios}
 use Rattle.walk.specs.Walk.{examined}
 use Rattle.walk.proofs.Resume.{Alone, begun-stack, begun-whole, root-entry}
 use Rattle.pairs.specs.Pairs.{pairTest}
 use Rattle.plan.specs.Held.{Held}
-use Rattle.readings.specs.Witness.{noneTest, witnessRefusal, witnessNumber, witnessAnswer, failingIn, Shows}
-use Rattle.readings.specs.Search.{reached, WitnessAnswered, Searched, Seeking}
+use Rattle.readings.specs.Witness.{noneTest, witnessRefusal, witnessNumber, firstCut, failingOf, witnessAnswer, witnessOf}
+use Rattle.readings.specs.Search.{reached, searched, Seeking}
 use Rattle.readings.specs.declared.Witnessed.{Witnessed}
 use Rattle.readings.specs.declared.Witnessed.the-variants as witnessed
 use Rattle.readings.proofs.Refusing.{refuses}
@@ -36,9 +35,9 @@ module _ (h : Header) (links words : List ℕ) (at : ℕ) (stack : List ℕ) (v 
   unfolding planOfLists
   firsts = ap (λ (l : List End). scenarios (take (h .limit) l)) (begun-whole at stack b (h .events) (h .threshold) words)
 
-  pub answers-whole : (r : Witnessed) → Searched (planOfLists h links words) v w (reached h words at stack (h .limit)) r
-      → Searched (planOfLists h links words) v w (examined (planOfLists h links words)) r
-  answers-whole r = subst (λ (l : List Scenario). Searched (planOfLists h links words) v w l r) firsts
+  pub answers-whole : searched (planOfLists h links words) v w (reached h words at stack (h .limit))
+      ≡ searched (planOfLists h links words) v w (examined (planOfLists h links words))
+  answers-whole = ap (searched (planOfLists h links words) v w) firsts
 
 -- ---- through the tests
 
@@ -49,30 +48,25 @@ module _ (h : Header) (links events : List ℕ) (v w : ℕ) where
   abbrev number : ℕ
   number = witnessNumber h links events v w
 
-  -- what the call promises of its answer
-  abbrev pub WitnessPromised : Witnessed → Type 0
-  WitnessPromised r = (r ≡ witnessAnswer number (failingIn r)) × (number ≡ 0 → Shows p v w (examined p) (failingIn r))
+  refused : (n : ℕ) → n ≡ number → (n ≡ 0 → ⊥) → witnessed.Refused n ≡ witnessOf h links events v w
+  refused n e some = refuses witnessAnswer witnessed.Refused (λ k x. refl) n number _ e some
 
-  refused : (n : ℕ) → n ≡ number → (n ≡ 0 → ⊥) → WitnessPromised (witnessed.Refused n)
-  refused n e some = (refuses witnessAnswer witnessed.Refused (λ k x. refl) n number _ e some, λ z. absurd (some (e ∙ z)))
-
-  pub lists-refused : (n : ℕ) → n ≡ listsNumber h links events → (n ≡ 0 → ⊥) → WitnessPromised (witnessed.Refused n)
+  pub lists-refused : (n : ℕ) → n ≡ listsNumber h links events → (n ≡ 0 → ⊥) → witnessed.Refused n ≡ witnessOf h links events v w
   unfolding witnessRefusal
   lists-refused n e some = refused n (stop _ e some) some
 
   pub pair-refused : (lists n : ℕ) → lists ≡ listsNumber h links events → lists ≡ 0 → n ≡ pairTest (h .nodes) v w → (n ≡ 0 → ⊥)
-      → WitnessPromised (witnessed.Refused n)
+      → witnessed.Refused n ≡ witnessOf h links events v w
   unfolding witnessRefusal
   pair-refused lists n e z f some = refused n (skip _ e z (stop _ f some)) some
 
   -- the search in the arrays that accepted lists were taken into
-  pub searched : (bytes words : List ℕ) → Taken h links events bytes words → listsNumber h links events ≡ 0 → pairTest (h .nodes) v w ≡ 0
-      → (r : Witnessed)
-      → WitnessAnswered (planOfLists h bytes words) v w (examined (planOfLists h bytes words))
-      (noneTest (planOfLists h bytes words) v w (examined (planOfLists h bytes words))) r
-      → WitnessPromised r
+  pub searched-all : (bytes words : List ℕ) → Taken h links events bytes words → listsNumber h links events ≡ 0 → pairTest (h .nodes) v w ≡ 0
+      → (r : Witnessed) → r ≡ searched (planOfLists h bytes words) v w (examined (planOfLists h bytes words))
+      → r ≡ witnessOf h links events v w
   unfolding witnessRefusal
-  searched bytes words t e f r a =
-      let own = subst (λ (q : Plan). WitnessAnswered q v w (examined q) (noneTest q v w (examined q)) r) (t .denoted) a in
+  searched-all bytes words t e f r a =
       let is : number ≡ noneTest p v w (examined p) = first-skip _ _ e ∙ first-skip _ _ f ∙ first-last _ in
-      (own .answer ∙ ap (λ (n : ℕ). witnessAnswer n (failingIn r)) (sym is), λ z. own .found (sym is ∙ z))
+      a
+      ∙ ap (λ (q : Plan). searched q v w (examined q)) (t .denoted)
+      ∙ ap (λ (n : ℕ). witnessAnswer n (failingOf (firstCut p v w))) (sym is)

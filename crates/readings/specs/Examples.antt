@@ -1,7 +1,7 @@
 -- Computed examples of the witness, the figure and the downtime, on marked plans of document 01 and one like them.
 -- Assumes nothing.
 use mathlib.Core.Path.{_≡_, refl}
-use mathlib.Core.Bool.{true}
+use mathlib.Core.Bool.{true, false}
 use mathlib.Core.List.{[], _∷_}
 use Prim.Native.Nat.{ℕ, _*_}
 use Rattle.sets.specs.Sets.{bit, anyBelow}
@@ -16,7 +16,7 @@ use Rattle.walk.specs.Walk.{examined}
 use Rattle.sums.specs.Exact.{scale, exactSum, exactCut}
 use Rattle.bounds.specs.Bounds.{cuts, lowerOf, upperOf}
 use Rattle.readings.specs.Downtime.{year, secondsOf}
-use Rattle.readings.specs.Witness.{some, noneTest, Shows}
+use Rattle.readings.specs.Witness.{some, firstWhere, noneTest, firstCut, failingOf}
 use Rattle.readings.specs.Figure.{figureOf, sharesOf, floatOf}
 use Rattle.readings.specs.declared.Figured.the-variants as figured
 use lib.Ieee.{binary64, add, mul, div, ofInt, toBits}
@@ -43,10 +43,26 @@ unfolding ends disconnected via nodeWorks linkWorks joins adjacent anyBelow unio
 example-none = (refl, refl, refl, refl)
 
 -- the witness of marked plan 2 is event 0 alone, the set of value 1
-example-shown : Shows (line 100000000 100000000000000000 100) 0 1
-    (examined (line 100000000 100000000000000000 100)) (record { low = 1; high = 0 })
-unfolding ends disconnected via nodeWorks linkWorks joins adjacent anyBelow unionOf bit
-example-shown = record { scenario = true ∷ []; failing = refl; member = refl; disconnects = refl }
+example-shown : failingOf (firstCut (line 100000000 100000000000000000 100) 0 1) ≡ record { low = 1; high = 0 }
+unfolding ends disconnected via nodeWorks linkWorks joins adjacent anyBelow unionOf bit firstWhere
+example-shown = refl
+
+-- two events on the link 0-1, of 1/2 and 1/10. The walk has four ends: nothing fails (nothing is cut), event 1 alone (1/20), event 0 alone
+-- (9/20), both (1/20).
+abbrev twice : ℕ → Plan
+twice t =
+    record {
+      nodes = 2;
+      links = record { low = 0; high = 1 } ∷ [];
+      events = record { probability = 500000000; nodes = 0; links = 1 } ∷ record { probability = 100000000; nodes = 0; links = 1 } ∷ [];
+      threshold = t;
+      limit = 100;
+    }
+
+-- its witness is the first, event 1 alone, and not the likeliest, event 0 alone; where a threshold of 1/10 drops the first, it is the next
+example-first : (firstCut (twice 1) 0 1 ≡ false ∷ true ∷ []) × (firstCut (twice 100000000000000000) 0 1 ≡ true ∷ false ∷ [])
+unfolding ends disconnected via nodeWorks linkWorks joins adjacent anyBelow unionOf bit firstWhere
+example-first = (refl, refl)
 
 -- marked plan 9 has no figure; marked plan 2 has that of 10^17 and 10^18, and none where the call is refused
 example-figure : (figureOf 0 (line 500000000 1000000000000000000 100) 0 1 ≡ figured.NoFigure)

@@ -1,26 +1,21 @@
 -- The search for a witness: what its loop asks and promises, from any state.
 -- Assumes nothing.
-use mathlib.Core.Path.{_≡_}
 use mathlib.Core.List.{List}
 use Prim.Native.Nat.{ℕ, _<_}
 use lib.ListN.{take}
 use Rattle.plan.specs.Plan.{Plan}
 use Rattle.plan.specs.declared.Header.{Header}
-use Rattle.walk.specs.Scenario.{Scenario, number}
+use Rattle.walk.specs.Scenario.{Scenario}
 use Rattle.walk.specs.Ends.{scenarios}
 use Rattle.walk.specs.Stack.{toCome, Stack}
 use Rattle.plan.specs.Held.{Held}
+use Rattle.bounds.specs.Bounds.{cuts}
 use Rattle.readings.specs.declared.Witnessed.{Witnessed}
-use Rattle.readings.specs.Witness.{noneTest, witnessAnswer, failingIn, Shows}
+use Rattle.readings.specs.Witness.{firstWhere, noneTest, failingOf, witnessAnswer}
 
--- what a search for a witness among the scenarios of a list answers, where it is refused with a number, 0 if it is not
-pub record WitnessAnswered (p : Plan) (v w : ℕ) (list : List Scenario) (number : ℕ) (r : Witnessed) : Type 0 where
-  pub answer : r ≡ witnessAnswer number (failingIn r)
-  pub found : number ≡ 0 → Shows p v w list (failingIn r)
-
--- what a search among the scenarios of a list answers, where nothing else is tested
-abbrev pub Searched : Plan → ℕ → ℕ → List Scenario → Witnessed → Type 0
-Searched p v w list r = WitnessAnswered p v w list (noneTest p v w list) r
+-- what a search among the scenarios of a list answers, where nothing else is tested: 14, or the first that disconnects the pair
+abbrev pub searched : Plan → ℕ → ℕ → List Scenario → Witnessed
+searched p v w list = witnessAnswer (noneTest p v w list) (failingOf (firstWhere (cuts p v w) list))
 
 -- the relevant scenarios among the next k ends of a walk
 abbrev pub reached : Header → List ℕ → ℕ → List ℕ → ℕ → List Scenario

@@ -1,17 +1,14 @@
--- Witness: document 01, section "Further readings of a plan".
+-- Witness: document 01, section "Further readings of a plan", as document 02, request U5, has it: the first one.
 -- Assumes nothing.
-use mathlib.Core.Path.{_≡_}
 use mathlib.Core.Bool.{Bool, true, false, not, _||_}
 use mathlib.Core.List.{List, [], _∷_}
-use Prim.Native.Nat.{ℕ, zero, suc, _/_}
+use Prim.Native.Nat.{ℕ, zero, suc, _/_, _%_, _^_}
 use lib.ListN.{length}
 use Rattle.mass.specs.Refusal.{refuse, first}
-use Rattle.sets.specs.Sets.{joined}
 use Rattle.plan.specs.Plan.{Plan}
 use Rattle.plan.specs.LentLists.{listsRefusal, planOfLists}
 use Rattle.plan.specs.declared.Header.{Header}
 use Rattle.walk.specs.Scenario.{Scenario, number}
-use Rattle.walk.specs.Member.{among}
 use Rattle.walk.specs.Walk.{examined}
 use Rattle.walk.specs.declared.Failing.{Failing}
 use Rattle.bounds.specs.Bounds.{cuts}
@@ -23,6 +20,11 @@ use Rattle.readings.specs.declared.Witnessed.the-variants as witnessed
 unfoldable pub some : (Scenario → Bool) → List Scenario → Bool
 some test [] = false
 some test (s ∷ list) = test s || some test list
+
+-- the first scenario of a list of which a test holds; where there is none, the one of no event, which no answer shows
+unfoldable pub firstWhere : (Scenario → Bool) → List Scenario → Scenario
+firstWhere test [] = []
+firstWhere test (s ∷ list) = elim (test s) [ true ↦ s | false ↦ firstWhere test list ]
 
 -- 14: none of the scenarios of a list disconnects the pair (v, w)
 abbrev pub noneTest : Plan → ℕ → ℕ → List Scenario → ℕ
@@ -41,6 +43,14 @@ witnessRefusal h linkRoom eventRoom links words v w =
 abbrev pub witnessNumber : Header → List ℕ → List ℕ → ℕ → ℕ → ℕ
 witnessNumber h links events v w = witnessRefusal h (length links) (length events / 4) links events v w
 
+-- "the first examined scenario, in walk order, that disconnects the pair" (v, w)
+abbrev pub firstCut : Plan → ℕ → ℕ → Scenario
+firstCut p v w = firstWhere (cuts p v w) (examined p)
+
+-- "the 128-bit set of its failing events": events 0 to 63 in the low word, 64 to 127 in the high one
+abbrev pub failingOf : Scenario → Failing
+failingOf s = record { low = number s % 2 ^ 64; high = number s / 2 ^ 64 }
+
 -- the case of the answer that a number and a set of failing events stand for: `Refused` with a number that is not 0, else the set
 abbrev pub witnessAnswer : ℕ → Failing → Witnessed
 witnessAnswer zero set = witnessed.Found set
@@ -51,9 +61,8 @@ abbrev pub failingIn : Witnessed → Failing
 failingIn (witnessed.Refused number) = record { low = 0; high = 0 }
 failingIn (witnessed.Found set) = set
 
--- the set of failing events of one scenario of the list, that disconnects the pair; which one is left free
-pub record Shows (p : Plan) (v w : ℕ) (list : List Scenario) (set : Failing) : Type 0 where
-  pub scenario : Scenario
-  pub failing : joined (set .low) (set .high) ≡ number scenario
-  pub member : among scenario list ≡ true
-  pub disconnects : cuts p v w scenario ≡ true
+-- THE WITNESS of the pair (v, w) on lent lists, the whole answer: the number of the first refusal met, or the failing events of the first
+-- examined scenario that disconnects the pair
+abbrev pub witnessOf : Header → List ℕ → List ℕ → ℕ → ℕ → Witnessed
+witnessOf h links events v w =
+    witnessAnswer (witnessNumber h links events v w) (failingOf (firstCut (planOfLists h links events) v w))

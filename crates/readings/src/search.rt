@@ -1,4 +1,4 @@
-// Witness: an examined scenario that disconnects a pair.
+// Witness: the first examined scenario that disconnects a pair.
 use crate::Witnessed;
 use network::Failed;
 use plan::Header;
@@ -12,8 +12,8 @@ ghost use Rattle.walk.specs.Walk.{examined};
 ghost use Rattle.network.specs.Table.{LinksAt};
 ghost use Rattle.bounds.specs.Bounds.{cuts};
 ghost use Rattle.plan.specs.Held.{Held};
-ghost use Rattle.readings.specs.Witness.{witnessNumber, witnessAnswer, failingIn, Shows};
-ghost use Rattle.readings.specs.Search.{reached, Seeking, Searched};
+ghost use Rattle.readings.specs.Witness.{witnessOf};
+ghost use Rattle.readings.specs.Search.{reached, searched, Seeking};
 
 // Whether the topology of a scenario, by its failing events, disconnects the pair.
 fn cut_by(
@@ -62,12 +62,12 @@ fn search_on(
 ) -> Witnessed
     requires { ⌜ LinksAt (now links) (h .links) (now table) ⌝ }
     requires { ⌜ Seeking h (now links) (now words) start (now stack) v w ⌝ }
-    ensures { λ r. ⌜ Searched (planOfLists h (now (links .entry)) (now (words .entry))) v w
-        (reached h (now (words .entry)) start (now (stack .entry)) k) r ⌝ }
+    ensures { λ r. ⌜ r ≡ searched (planOfLists h (now (links .entry)) (now (words .entry))) v w
+        (reached h (now (words .entry)) start (now (stack .entry)) k) ⌝ }
 {
     let mut at = start;
     let mut left = k;
-    // What a search of the next `left` ends may answer from here, a search of the k ends from the start may answer.
+    // What a search of the next `left` ends answers from here, a search of the k ends from the start answers.
     // A scenario that is found takes one end or more, so `left` falls in each turn that does not return.
     loop {
         let r = walk::next_relevant(h.events, h.threshold, words, &mut *stack, at, left);
@@ -85,12 +85,12 @@ fn search_on(
     }
 }
 
-// A witness of an accepted plan: the walk from its root, for at most cap ends.
+// The witness of an accepted plan: the walk from its root, for at most cap ends.
 fn search_all(h: Header, links: &[u8; 256], words: &[u64; 512], v: usize, w: usize) -> Witnessed
     requires { ⌜ Held h (now links) (now words) ⌝ }
     requires { ⌜ (v < 64) × (w < 64) ⌝ }
-    ensures { λ r. ⌜ Searched (planOfLists h (now (links .entry)) (now (words .entry))) v w
-        (examined (planOfLists h (now (links .entry)) (now (words .entry)))) r ⌝ }
+    ensures { λ r. ⌜ r ≡ searched (planOfLists h (now (links .entry)) (now (words .entry))) v w
+        (examined (planOfLists h (now (links .entry)) (now (words .entry)))) ⌝ }
 {
     let table = network::links_at(h.nodes as usize, links, h.links as usize);
     let mut stack = [0u64; 512];
@@ -98,12 +98,10 @@ fn search_all(h: Header, links: &[u8; 256], words: &[u64; 512], v: usize, w: usi
     search_on(h, links, words, &table, &mut stack, at, v, w, h.limit)
 }
 
-// A witness: one examined scenario that disconnects the pair, as the set of its failing events. Which one is left free.
+// The witness: the first examined scenario, in the walk's order, that disconnects the pair, as the set of its failing events; 14 where there
+// is none.
 pub fn witness(h: Header, links: &[u8], events: &[u64], v: u64, w: u64) -> Witnessed
-    ensures answer { λ r. ⌜ r ≡ witnessAnswer (witnessNumber h (now (links .entry)) (now (events .entry)) v w) (failingIn r) ⌝ }
-    ensures shown { λ r. ⌜ (witnessNumber h (now (links .entry)) (now (events .entry)) v w ≡ 0
-        → Shows (planOfLists h (now (links .entry)) (now (events .entry))) v w
-        (examined (planOfLists h (now (links .entry)) (now (events .entry)))) (failingIn r)) ⌝ }
+    ensures answer { λ r. ⌜ r ≡ witnessOf h (now (links .entry)) (now (events .entry)) v w ⌝ }
 {
     let mut bytes = [0u8; 256];
     let mut words = [0u64; 512];

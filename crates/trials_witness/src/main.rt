@@ -1,6 +1,6 @@
-// The test program of the witness: document 01, "Further readings of a plan". Each plan here has one witness only, or none. Each expected
-// value stands beside its vector, taken from document 01 or worked out by hand; a difference is printed, and `trials ended` is the last
-// line. The stored output is that line alone.
+// The test program of the witness: document 01, "Further readings of a plan", and document 02, request U5. Each expected value stands beside
+// its vector, taken from document 01 or worked out by hand; a difference is printed, and `trials ended` is the last line. The stored output
+// is that line alone.
 use plan::Header;
 use readings::Witnessed;
 use vectors::header;
@@ -15,6 +15,7 @@ fn main() {
     marked();
     denied();
     high_word();
+    several();
     refused();
     io::write_all(1, b"trials ended\n");
 }
@@ -143,21 +144,21 @@ fn denied() {
     on_link(b"marked plan 9", 500_000_000, 0, 1, WHOLE, 100, 0, 1, 14, 0);
 }
 
-// Events 0 to 63 are certain and have no member, event 64, of 1/10, is on the link.
-fn certain_events() -> [u64; 260] {
+// Events 0 to 63 have the probability q and no member, event 64, of 1/10, is on the link.
+fn many_events(q: u64) -> [u64; 260] {
     let mut events = [0u64; 260];
     for i in 0..64 {
-        events[4 * i] = 1_000_000_000;
+        events[4 * i] = q;
     }
     events[256] = 100_000_000;
     events[258] = 1;
     events
 }
 
-// 64 ends are dropped, end 65 is the scenario where event 64 works, and end 66 the one where it fails.
+// Events 0 to 63 are certain: 64 ends are dropped, end 65 is the scenario where event 64 works, and end 66 the one where it fails.
 fn event_64(label: &[u8], cap: u64, number: u64) {
     let links = [0u8, 1];
-    let events = certain_events();
+    let events = many_events(1_000_000_000);
     failing(
         label,
         header(2, 1, 65, 1, cap),
@@ -174,6 +175,69 @@ fn event_64(label: &[u8], cap: u64, number: u64) {
 fn high_word() {
     event_64(b"event 64", 66, 0);
     event_64(b"event 64 past the cap", 65, 14);
+}
+
+// Two events on the link, of 1/2 and 1/10. The four ends: nothing fails, event 1 alone (1/20), event 0 alone (9/20), both (1/20).
+fn two_events(label: &[u8], threshold: u64, cap: u64, number: u64, low: u64) {
+    let links = [0u8, 1];
+    let events = [500_000_000u64, 0, 1, 0, 100_000_000, 0, 1, 0];
+    failing(
+        label,
+        header(2, 1, 2, threshold, cap),
+        &links,
+        &events,
+        0,
+        1,
+        number,
+        low,
+        0,
+    );
+}
+
+// Nothing joins the two nodes: each of the two ends cuts.
+fn each_end_cuts() {
+    let links = [0u8; 1];
+    let events = [500_000_000u64, 0, 0, 0];
+    failing(
+        b"the first end",
+        header(2, 0, 1, 1, 100),
+        &links,
+        &events,
+        0,
+        1,
+        0,
+        0,
+        0,
+    );
+}
+
+// Events 0 and 64 are on the link: event 64 alone is the second end, though event 0 alone is the smaller number.
+fn low_and_high() {
+    let links = [0u8, 1];
+    let mut events = many_events(100_000_000);
+    events[2] = 1;
+    failing(
+        b"event 64 before event 0",
+        header(2, 1, 65, 1, 100),
+        &links,
+        &events,
+        0,
+        1,
+        0,
+        0,
+        1,
+    );
+}
+
+// Several scenarios cut the pair: the first of the walk is given, not the likeliest (event 0 alone) and not the last; a dropped one is
+// passed over, and is an end all the same.
+fn several() {
+    two_events(b"the first of three", 1, 100, 0, 2);
+    two_events(b"at the threshold", TENTH / 2, 2, 0, 2);
+    two_events(b"below the threshold", TENTH / 2 + 1, 3, 0, 1);
+    two_events(b"a dropped end is not shown", TENTH / 2 + 1, 2, 14, 0);
+    each_end_cuts();
+    low_and_high();
 }
 
 // The lists' refusals come before 13, and 13 before 14.

@@ -1,14 +1,14 @@
--- `trials_witness::certain_events` is safe and ends: the index is at most 64. Assumes nothing.
+-- `trials_witness::many_events` is safe and ends: the index is at most 64. Assumes nothing.
 use Prim.Native.Nat.{_≤_, _-_}
 use borrow.Author.Needs.{needs}
-use Rattle.trials_witness.proofs.certain_events.Statement.{statement}
-use Rattle.trials_witness.proofs.certain_events.Tie as tie
+use Rattle.trials_witness.proofs.many_events.Statement.{statement}
+use Rattle.trials_witness.proofs.many_events.Tie as tie
 
 abbrev Inv-loop : tie.InvT-loop
-Inv-loop events₀ i₀ events i = i ≤ 64
+Inv-loop q events₀ i₀ events i = i ≤ 64
 
 abbrev μ-loop : tie.MeasureT-loop
-μ-loop events₀ i₀ events i = 64 - i
+μ-loop q events₀ i₀ events i = 64 - i
 
 loop-holds : tie.Need-loop-holds Inv-loop μ-loop
 loop-holds c = search needs
@@ -40,8 +40,8 @@ array-write-events-3 c = search needs
 returns : tie.Need-returns Inv-loop μ-loop
 returns c = search needs
 
-pub certain-events-spec : {M : Type 1} → statement M
-certain-events-spec =
+pub many-events-spec : {M : Type 1} → statement M
+many-events-spec =
     tie.close
     (tie.spec
     Inv-loop

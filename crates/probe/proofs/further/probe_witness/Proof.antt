@@ -1,6 +1,4 @@
 -- `probe::further::probe_witness` meets its contract: the answer of the call is handed out. Assumes nothing.
-use mathlib.Core.Path.{refl}
-use Rattle.readings.specs.Witness.{failingIn}
 use Rattle.probe.proofs.Handing.{witness-back}
 use borrow.Author.Needs.{needs}
 use Rattle.probe.proofs.further.probe_witness.Statement.{statement}
@@ -23,16 +21,8 @@ returns c =
     let f = c .before .before .give-failing .ensures in
     let k = c .before .before .before .before in
     let same = k .before .header .ensures in
-    let e = rw same at (k .witness .ensures .0) in
-    let n = rw (e, witness-back) at (f .0) in
-    rw n (
-      refl,
-      record {
-        set = failingIn (k .witness .result);
-        words = rw e at (f .1);
-        shown = rw same at (k .witness .ensures .1);
-      },
-    )
+    let e = rw same at (k .witness .ensures) in
+    (rw (e, witness-back) at (f .0), rw e at (f .1))
 
 pub probe-witness-spec : {M : Type 1} → statement M
 probe-witness-spec =

@@ -1,6 +1,6 @@
 -- `readings::search::search_all` meets its contract. Assumes nothing.
 use borrow.Author.Needs.{needs}
-use mathlib.Core.Path.{refl}
+use mathlib.Core.Path.{refl, _∙_}
 use Rattle.walk.proofs.Resume.{begun-alone}
 use Rattle.readings.proofs.WitnessPromise.{seeking-whole, answers-whole}
 use Rattle.readings.proofs.search.search_all.Statement.{statement}
@@ -18,7 +18,9 @@ search-on-requires c κs =
     (c .before .before .before .before .links-at .ensures, seeking-whole _ _ _ _ _ _ _ (begun-alone _ _ _ _ _ _ _ refl (c .before .before .begin .ensures)) (pre .0) (pre .1))
 
 returns : tie.Need-returns
-returns c = answers-whole _ _ _ _ _ _ _ (begun-alone _ _ _ _ _ _ _ refl (c .before .before .before .begin .ensures)) _ (c .search-on .ensures)
+returns c =
+    c .search-on .ensures
+    ∙ answers-whole _ _ _ _ _ _ _ (begun-alone _ _ _ _ _ _ _ refl (c .before .before .before .begin .ensures))
 
 pub search-all-spec : {M : Type 1} → statement M
 search-all-spec = tie.close (tie.spec links-at-requires begin-requires search-on-requires returns)

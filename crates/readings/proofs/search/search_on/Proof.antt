@@ -1,6 +1,6 @@
--- `readings::search::search_on` meets its contract: the invariant is `Seek`, the measure the ends left. Assumes nothing.
-use mathlib.Core.Path.{sym, _∙_}
-use borrow.Author.Needs.{needs}
+-- `readings::search::search_on` meets its contract: the invariant is `Seek`, the measure the ends left. `.ok` has the ranges of the fields of a
+-- step, the low word's among them. Assumes nothing.
+use mathlib.Core.Path.{refl, sym, _∙_}
 use borrow.Author.Tests.{not-true, not-false}
 use Rattle.walk.proofs.Resume.{left-less}
 use Rattle.readings.proofs.Seek.{Seek, ended, found-here, turned}
@@ -14,7 +14,7 @@ abbrev μ-loop : tie.MeasureT-loop
 μ-loop h links words table stack₀ start v w k at₀ left₀ stack at left = left
 
 loop-holds : tie.Need-loop-holds Inv-loop μ-loop
-loop-holds c = record { seeking = c .pre .1; answers = λ r a. a }
+loop-holds c = record { seeking = c .pre .1; answers = refl }
 
 next-relevant-requires : tie.Need-next-relevant-requires Inv-loop μ-loop
 next-relevant-requires c κs =
@@ -38,6 +38,7 @@ returns-2 c =
     let n = e .before .before in
     found-here _ _ _ _ _ _ _ _ _ _ _ (n .before .before .loop .inv) _ _ (n .next-relevant .ensures) (not-false _ (e .if1 .left))
     (sym (c .before .cut-by .ensures) ∙ c .if2 .taken)
+    (n .next-relevant .ok .1 .1 .1 .1 .1 .1 .0 .1)
 
 loop-less : tie.Need-loop-less Inv-loop μ-loop
 loop-less c =

@@ -6,7 +6,7 @@ use Prim.Native.Nat.{ℕ}
 use native.Mathlib.Omega.{arith}
 use Rattle.lent.specs.Taken.{Taken}
 use Rattle.bounds.proofs.Answers.{pair-inside}
-use Rattle.readings.proofs.WitnessPromise.{lists-refused, pair-refused, searched}
+use Rattle.readings.proofs.WitnessPromise.{lists-refused, pair-refused, searched-all}
 use Rattle.readings.proofs.search.witness.Statement.{statement}
 use Rattle.readings.proofs.search.witness.Tie as tie
 
@@ -59,7 +59,7 @@ returns-3 : tie.Need-returns-3
 returns-3 c =
     let e = c .before .before .before in
     let a = entry (first e) .args in
-    searched (a .h) (a .links .now) (a .events .now) (a .v) (a .w) (bytes (first e)) (words (first e)) (taken (first e))
+    searched-all (a .h) (a .links .now) (a .events .now) (a .v) (a .w) (bytes (first e)) (words (first e)) (taken (first e))
     (sym (first e .before .accept .ensures .0) ∙ first e .if1 .left)
     (sym (e .before .pair-test .ensures) ∙ e .if2 .left)
     _
