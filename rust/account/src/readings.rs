@@ -2,7 +2,7 @@
 
 use crate::bounds::bounds_over;
 use crate::calls::test_pair;
-use crate::plan::{Lent, Plan};
+use crate::plan::Lent;
 use crate::refusal::{demand, Refusal};
 use crate::topology::{components, effective, Topology};
 use crate::walk::{walk, Scenario};
@@ -72,20 +72,15 @@ pub fn figure(lent: &Lent, v: u64, w: u64) -> Result<Option<Figure>, Refusal> {
     }))
 }
 
-/// Every examined scenario that disconnects the pair.
-fn witnesses(plan: &Plan, (v, w): (usize, usize)) -> Vec<Scenario> {
-    let mut examined = walk(plan).examined;
-    examined.retain(|scenario| components(plan, scenario.failing).disconnects(v, w));
-    examined
-}
-
-/// The scenarios that may be handed out as a witness: the tests of the lists, 13, then 14 where there is none.
-pub fn witness_sets(lent: &Lent, v: u64, w: u64) -> Result<Vec<u128>, Refusal> {
+/// The witness: the first examined scenario, in walk order, that disconnects the pair, as the set of its failing events.
+/// The tests of the lists, 13, then 14 where there is none.
+pub fn witness(lent: &Lent, v: u64, w: u64) -> Result<u128, Refusal> {
     let plan = lent.plan()?;
-    let pair = test_pair(plan.nodes, v, w)?;
-    let witnesses = witnesses(&plan, pair);
-    demand(!witnesses.is_empty(), Refusal::NoWitness)?;
-    Ok(witnesses.iter().map(|scenario| scenario.failing).collect())
+    let (v, w) = test_pair(plan.nodes, v, w)?;
+    let cuts = |scenario: &Scenario| components(&plan, scenario.failing).disconnects(v, w);
+    let first = walk(&plan).examined.into_iter().find(cuts);
+    let set = first.map(|scenario| scenario.failing);
+    set.ok_or(Refusal::NoWitness)
 }
 
 /// The downtime of a lower and an upper mass in seconds of a year, the lower one rounded down and the upper one up, or 16.

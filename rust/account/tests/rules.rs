@@ -1,7 +1,7 @@
 //! Rules of document 01 that the marked plans leave out.
 
 use account::exact::exact_sums;
-use account::readings::{downtime, float_of, topologies, witness_sets};
+use account::readings::{downtime, float_of, topologies, witness};
 use account::walk::{final_mass, split, walk};
 use account::{bounds, calls, file, number, Event, Lent, Plan, Refusal, CERTAIN, WHOLE};
 
@@ -74,7 +74,7 @@ fn a_link_is_down_with_its_end_node() {
         let mut list = [9; 7];
         assert_eq!(topologies(lent, &mut list), Ok(1));
         assert_eq!(list, [0b101, 0, 0, WHOLE, 9, 9, 9]);
-        assert_eq!(witness_sets(lent, 0, 2), Ok(vec![1]));
+        assert_eq!(witness(lent, 0, 2), Ok(1));
     });
 }
 
@@ -99,6 +99,28 @@ fn the_walk_hands_out_final_masses() {
     }
     let order: Vec<u128> = walk.examined.iter().map(|s| s.failing).collect();
     assert_eq!(order, [0, 4, 2, 6, 1, 5, 3, 7]);
+}
+
+/// In the order of the walk, 0, 4, 2, 6, 1, .., the first set that cuts is event 2 alone, the least likely one; where the
+/// threshold drops it, the first that is left.
+#[test]
+fn the_witness_is_the_first_of_the_walk() {
+    with_lists(&row(), |lent| {
+        assert_eq!(witness(lent, 0, 2), Ok(4));
+        assert_eq!(witness(lent, 0, 1), Ok(4));
+    });
+    let above = Plan {
+        threshold: 560_000_001,
+        ..row()
+    };
+    with_lists(&above, |lent| {
+        assert_eq!(witness(lent, 0, 2), Ok(2));
+        assert_eq!(witness(lent, 0, 1), Ok(1));
+    });
+    let short = Plan { cap: 1, ..row() };
+    with_lists(&short, |lent| {
+        assert_eq!(witness(lent, 0, 2), Err(Refusal::NoWitness));
+    });
 }
 
 #[test]
@@ -167,6 +189,6 @@ fn refusals_of_numbers() {
         ..row()
     };
     with_lists(&still, |lent| {
-        assert_eq!(number(&witness_sets(lent, 0, 1)), 14);
+        assert_eq!(number(&witness(lent, 0, 1)), 14);
     });
 }

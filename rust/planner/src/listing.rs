@@ -103,7 +103,7 @@ fn table(rows: &[Row]) -> String {
         })
         .collect();
     let witnesses = rows.iter().map(|row| row.witness.as_str());
-    let mut text = line(&header, &widths, "a scenario that cuts it");
+    let mut text = line(&header, &widths, "the first scenario that cuts it");
     for (fields, witness) in body.iter().zip(witnesses) {
         text += &line(fields, &widths, witness);
     }

@@ -14,7 +14,8 @@ const HELP: &str = "\
 planner file PLAN.txt OUT.plan     writes the plan file of a plan in text form
 planner text IN.plan               prints a plan file in text form, with n0, l0, e0 for names
 planner listing PLAN.txt|IN.plan   prints for people the bounds of each pair, the worst pair first,
-                                   with one examined scenario that cuts it where there is one;
+                                   with the first examined scenario that cuts it where there is one:
+                                   the first in the walk's order, not the likeliest;
                                    a long listing shows its progress where standard error is a
                                    terminal: the ends of the walk that are reached, of the cap
 planner bounds PLAN.txt|IN.plan    prints the bounds as the program listing does, line by line

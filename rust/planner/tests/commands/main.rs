@@ -145,6 +145,22 @@ fn a_pair_that_nothing_cuts_and_one_that_was_never_joined() {
     assert_eq!(call.out.lines().last(), Some(expected));
 }
 
+/// Two events cut the link. In the order of the walk the rarer one alone comes first, then the likelier one alone.
+#[test]
+fn the_listing_shows_the_first_scenario_and_not_the_likeliest() {
+    let text = b"threshold 1\ncap 100\nnode A\nnode B\nlink AB A B\nevent often 500000000 AB\nevent rarely 100000000 AB\n";
+    let call = planner(&["listing", &scratch_with("first.txt", text)]);
+    let lines: Vec<&str> = call.out.lines().collect();
+    assert!(
+        lines[5].ends_with("  the first scenario that cuts it"),
+        "{}",
+        lines[5]
+    );
+    assert!(lines[6].ends_with("  rarely"), "{}", lines[6]);
+    let help = planner(&["--help"]).out;
+    assert!(help.contains("the first in the walk's order, not the likeliest"));
+}
+
 #[test]
 fn the_bounds_are_the_lines_of_the_listing() {
     let listing = "3 3 3 4 1 999999999999999996\n0 1 0 4\n0 2 0 4\n1 2 0 4\n";

@@ -62,17 +62,9 @@ fn the_listing_has_the_names_of_the_equipment() {
     let call = planner(&["listing", &text]);
     assert_eq!((call.status, call.err.as_str()), (0, ""));
     let pair = call.out.lines().find(|line| line.starts_with("B C "));
+    // By falling q: duct, cable, dark, oxc. The walk's second end, oxc alone, takes C out.
     let witness: Vec<&str> = pair.expect("the pair").split_whitespace().skip(6).collect();
-    let cuts = ["duct", "dark", "oxc"];
-    assert!(
-        witness.iter().any(|name| cuts.contains(name)),
-        "{witness:?}"
-    );
-    let names = ["duct", "dark", "oxc", "cable", "+"];
-    assert!(
-        witness.iter().all(|name| names.contains(name)),
-        "{witness:?}"
-    );
+    assert_eq!(witness, ["oxc"]);
 }
 
 #[test]
