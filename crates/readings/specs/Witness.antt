@@ -21,7 +21,7 @@ unfoldable pub some : (Scenario → Bool) → List Scenario → Bool
 some test [] = false
 some test (s ∷ list) = test s || some test list
 
--- the first scenario of a list of which a test holds; where there is none, the one of no event, which no answer shows
+-- the first scenario of a list of which a test holds; where there is none it is [], which is not shown: the answer is then 14
 unfoldable pub firstWhere : (Scenario → Bool) → List Scenario → Scenario
 firstWhere test [] = []
 firstWhere test (s ∷ list) = elim (test s) [ true ↦ s | false ↦ firstWhere test list ]

@@ -36,8 +36,9 @@ The text form, a line for each thing, what is named standing above; # starts a c
 In a text with equipment, events and equipment stand in any order. They are numbered by falling Q,
 equal ones in the order of their lines, and together they are at most 128.
 
-This is a convenience outside the proof. The bounds, the plan files and the events of a sheet come
-from the proved code; nothing else that it reads or prints is proved.
+This is a convenience outside the proof. The bounds, their seconds, the scenarios that cut a pair,
+the plan files and the events of a sheet come from the proved code; nothing else that it reads or
+prints is proved.
 ";
 
 fn main() -> ExitCode {
