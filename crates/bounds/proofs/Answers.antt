@@ -45,6 +45,15 @@ ran-refuses number refusal totals e n = ran-refused number totals n ∙ ap (λ (
 pub pair-refuses : (number refusal : ℕ) (bounds : PairBounds) → number ≡ refusal → (number ≡ 0 → ⊥) → paired.Refused number ≡ pairAnswer refusal bounds
 pair-refuses number refusal bounds e n = pair-refused number bounds n ∙ ap (λ (x : ℕ). pairAnswer x bounds) e
 
+-- and what the answer says of its number
+pub pair-refused-is : (number n : ℕ) (b : PairBounds) → paired.Refused n ≡ pairAnswer number b → (n ≡ number) × (number ≡ 0 → ⊥)
+pair-refused-is zero n b e = absurd (let never : _≡_ {A = ℕ} 0 1 = cc in omega arith)
+pair-refused-is (suc number) n b e = let is : n ≡ suc number = cc in (is, λ z. omega arith)
+
+pub pair-done-is : (number : ℕ) (x b : PairBounds) → paired.Done x ≡ pairAnswer number b → (number ≡ 0) × (x ≡ b)
+pair-done-is zero x b e = (refl, cc)
+pair-done-is (suc number) x b e = absurd (let never : _≡_ {A = ℕ} 0 1 = cc in omega arith)
+
 pub pair-none : (h : Header) (linkRoom eventRoom : ℕ) (links words : List ℕ) (v w : ℕ)
     → pairRefusal h linkRoom eventRoom links words v w ≡ 0 → listsRefusal h linkRoom eventRoom links words ≡ 0
 unfolding pairRefusal

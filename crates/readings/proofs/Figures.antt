@@ -6,22 +6,20 @@ use Prim.Native.Nat.{ℕ, zero, suc, _+_, _-_, _/_, _%_, _^_, _≤_}
 use native.Mathlib.Omega.{arith}
 use lib.Dec.{T, le→leb}
 use lib.IntN.{pos}
-use lib.ListN.{length}
 use lib.Ieee.{Float, binary64, add, mul, div, ofInt, ofBits, inFloat}
 use Rattle.mass.specs.Split.{certain, whole}
 use Rattle.plan.specs.Plan.{Plan}
-use Rattle.plan.specs.LentLists.{planOfLists, planRefusal}
+use Rattle.plan.specs.LentLists.{planOfLists}
 use Rattle.plan.specs.declared.Header.{Header}
-use Rattle.layout.proofs.Theorems.{lists-denote}
 use Rattle.walk.specs.Walk.{massExamined}
-use Rattle.walk.proofs.Valid.{plan-probable}
-use Rattle.sums.proofs.BoundsLaws.{upper-le}
-use Rattle.bounds.specs.Bounds.{lowerOf, upperOf, cuts}
+use Rattle.bounds.specs.Bounds.{lowerOf}
 use Rattle.bounds.specs.Calls.{pairNumber, pairAnswer, boundsOf}
 use Rattle.bounds.specs.declared.PairBounds.{PairBounds}
 use Rattle.bounds.specs.declared.Paired.{Paired}
 use Rattle.bounds.specs.declared.Paired.the-variants as paired
-use Rattle.bounds.proofs.Answers.{pair-none, raised, mass-most}
+use Rattle.bounds.proofs.Answers.{raised, mass-most}
+use Rattle.readings.proofs.PairTold as pair-told
+use Rattle.readings.proofs.PairTold.{Accepted}
 use Rattle.readings.specs.Figure.{float, floatOf, sharesOf, figureAnswer, figureOf, floatsIn, Numbers}
 use Rattle.readings.proofs.FigureLaws.{shares-numbers, float-number}
 use Rattle.readings.specs.declared.Shares.{Shares}
@@ -70,14 +68,6 @@ numbers zero lower (suc examined) l e = let n = shares-numbers lower (suc examin
 
 -- ---- from the bounds of the pair
 
-refused-number : (number n : ℕ) (bounds : PairBounds) → paired.Refused n ≡ pairAnswer number bounds → (n ≡ number) × (n ≡ 0 → ⊥)
-refused-number zero n bounds e = absurd (let never : _≡_ {A = ℕ} 0 1 = cc in omega arith)
-refused-number (suc number) n bounds e = let same : n ≡ suc number = cc in (same, λ z. omega arith)
-
-done-number : (number : ℕ) (b bounds : PairBounds) → paired.Done b ≡ pairAnswer number bounds → (number ≡ 0) × (b ≡ bounds)
-done-number zero b bounds e = (refl, cc)
-done-number (suc number) b bounds e = absurd (let never : _≡_ {A = ℕ} 0 1 = cc in omega arith)
-
 figure-refuses : (number n examined : ℕ) (s : Shares) → n ≡ number → (n ≡ 0 → ⊥) → figured.Refused n ≡ figureAnswer number examined s
 figure-refuses number zero examined s e k = absurd (k refl)
 figure-refuses number (suc n) examined s e k = ap (λ (x : ℕ). figureAnswer x examined s) e
@@ -92,39 +82,20 @@ module _ (h : Header) (links events : List ℕ) (v w : ℕ) (r : Paired)
 
   pub refused-told : (n : ℕ) → r ≡ paired.Refused n → (figured.Refused n ≡ figureOf number p v w) × Numbers (floatsIn (figured.Refused n))
   refused-told n e =
-      let k = refused-number number n (boundsOf p v w) (sym e ∙ told) in
+      let k = pair-told.refused-told h links events v w r told n e in
       (figure-refuses number n (massExamined p) _ (k .0) (k .1), (float-number 0, (float-number 0, tt)))
 
   module _ (b : PairBounds) (e : r ≡ paired.Done b) where
-    zero-number : number ≡ 0
-    zero-number = done-number number b (boundsOf p v w) (sym e ∙ told) .0
-
-    bounds-are : b ≡ boundsOf p v w
-    bounds-are = done-number number b (boundsOf p v w) (sym e ∙ told) .1
-
-    lower-is : b .lower ≡ lowerOf p v w
-    lower-is = ap (λ (x : PairBounds). x .lower) bounds-are
-
-    upper-is : b .upper ≡ upperOf p v w
-    upper-is = ap (λ (x : PairBounds). x .upper) bounds-are
-
-    valid : planRefusal p ≡ 0
-    valid =
-        lists-denote h (length links) (length events / 4) links events
-        (pair-none h (length links) (length events / 4) links events v w zero-number)
+    known : Accepted h links events v w b
+    known = pair-told.done-told h links events v w r told b e
 
     -- upper + E = lower + 10^18
-    pub upper-fits : b .upper ≤ whole
-    upper-fits = omega (arith, upper-is, upper-le p (plan-probable p valid) (cuts p v w))
-
     pub examined-is : b .lower + (whole - b .upper) ≡ massExamined p
-    examined-is = omega (arith, upper-fits, lower-is, upper-is, raised p valid v w, mass-most p valid)
-
-    pub lower-fits : b .lower ≤ whole
-    lower-fits = omega (arith, lower-is, upper-is, upper-fits, raised p valid v w)
+    examined-is =
+        omega (arith, known .upper-fits, known .lower-is, known .upper-is, raised p (known .valid) v w, mass-most p (known .valid))
 
     pub examined-fits : b .lower + (whole - b .upper) ≤ whole
-    examined-fits = omega (arith, examined-is, mass-most p valid)
+    examined-fits = omega (arith, examined-is, mass-most p (known .valid))
 
     pub given-told : (f : Figured) (lower examined : ℕ) → lower ≡ b .lower → examined ≡ b .lower + (whole - b .upper)
         → f ≡ figureAnswer 0 examined (sharesOf lower examined) → (f ≡ figureOf number p v w) × Numbers (floatsIn f)
@@ -132,9 +103,9 @@ module _ (h : Header) (links events : List ℕ) (v w : ℕ) (r : Paired)
         let is : f ≡ figureOf number p v w =
         a
         ∙ ap (λ (x : ℕ). figureAnswer 0 x (sharesOf lower x)) (m ∙ examined-is)
-        ∙ ap (λ (x : ℕ). figureAnswer 0 (massExamined p) (sharesOf x (massExamined p))) (l ∙ lower-is)
-        ∙ ap (λ (x : ℕ). figureAnswer x (massExamined p) (sharesOf (lowerOf p v w) (massExamined p))) (sym zero-number) in (
+        ∙ ap (λ (x : ℕ). figureAnswer 0 (massExamined p) (sharesOf x (massExamined p))) (l ∙ known .lower-is)
+        ∙ ap (λ (x : ℕ). figureAnswer x (massExamined p) (sharesOf (lowerOf p v w) (massExamined p))) (sym (known .none)) in (
           is,
           subst (λ (x : Figured). Numbers (floatsIn x)) (sym is)
-              (numbers number (lowerOf p v w) (massExamined p) (omega (arith, lower-fits, lower-is)) (mass-most p valid)),
+              (numbers number (lowerOf p v w) (massExamined p) (omega (arith, known .lower-fits, known .lower-is)) (mass-most p (known .valid))),
         )

@@ -2,6 +2,7 @@
 pub mod Refusing
 pub mod Seek
 pub mod WitnessPromise
+pub mod PairTold
 pub mod Figures
 pub mod FigureLaws
 pub mod DowntimeLaws

@@ -8,6 +8,7 @@ pub use ratio::figure;
 pub use search::witness;
 use walk::Failing;
 pub use yearly::downtime;
+pub use yearly::seconds_of;
 
 // Seconds of a year, for a lower and an upper mass.
 pub struct Seconds {

@@ -18,6 +18,17 @@ fn seconds_with(m: u64, added: u64) -> u64
     m / PARTS * 1971 + (m % PARTS * 1971 + added) / PARTS
 }
 
+// The seconds of a lower and an upper mass of at most one whole each.
+pub fn seconds_of(lower: u64, upper: u64) -> Seconds
+    requires { ⌜ (lower ≤ whole) × (upper ≤ whole) ⌝ }
+    ensures { λ r. ⌜ r ≡ secondsOf lower upper ⌝ }
+{
+    Seconds {
+        lower: seconds_with(lower, 0),
+        upper: seconds_with(upper, PARTS - 1),
+    }
+}
+
 // The downtime of a lower and an upper mass: each times 31,536,000 seconds, over 10^18, the lower one rounded down and the upper one up.
 // Where the two are the bounds of a pair, its exact downtime lies between the two answers.
 pub fn downtime(lower: u64, upper: u64) -> Timed
@@ -32,8 +43,5 @@ pub fn downtime(lower: u64, upper: u64) -> Timed
     if high != 0 {
         return Timed::Refused(high);
     }
-    Timed::Given(Seconds {
-        lower: seconds_with(lower, 0),
-        upper: seconds_with(upper, PARTS - 1),
-    })
+    Timed::Given(seconds_of(lower, upper))
 }

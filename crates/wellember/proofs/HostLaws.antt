@@ -28,7 +28,7 @@ use Rattle.bounds.specs.declared.PairBounds.{PairBounds}
 use Rattle.bounds.specs.declared.Paired.{Paired}
 use Rattle.bounds.specs.declared.Paired.the-variants as paired
 use Rattle.plan.proofs.FilledLaws.{filled-none, filled-all}
-use Rattle.bounds.proofs.Answers.{pair-refuses, enclosed}
+use Rattle.bounds.proofs.Answers.{pair-refuses, pair-refused-is, pair-done-is, enclosed}
 use Rattle.input.specs.Loaded.{Loaded}
 use Rattle.wellember.specs.Host.{hostRefusal, sixteen, lowerIn, upperIn}
 
@@ -41,14 +41,6 @@ reading-refused (suc number) n h e = let is : n ≡ suc number = cc in (is, λ z
 pub reading-accepted : (number : ℕ) (x h : Header) → reading.Accepted x ≡ readAnswer number h → (number ≡ 0) × (x ≡ h)
 reading-accepted zero x h e = (refl, cc)
 reading-accepted (suc number) x h e = absurd (let never : _≡_ {A = ℕ} 0 1 = cc in omega arith)
-
-pub pair-refused-is : (number n : ℕ) (b : PairBounds) → paired.Refused n ≡ pairAnswer number b → (n ≡ number) × (number ≡ 0 → ⊥)
-pair-refused-is zero n b e = absurd (let never : _≡_ {A = ℕ} 0 1 = cc in omega arith)
-pair-refused-is (suc number) n b e = let is : n ≡ suc number = cc in (is, λ z. omega arith)
-
-pub pair-done-is : (number : ℕ) (x b : PairBounds) → paired.Done x ≡ pairAnswer number b → (number ≡ 0) × (x ≡ b)
-pair-done-is zero x b e = (refl, cc)
-pair-done-is (suc number) x b e = absurd (let never : _≡_ {A = ℕ} 0 1 = cc in omega arith)
 
 -- 12 is not given, and 13 decides
 pub room-passed : (room number : ℕ) → roomTest room 16 ≡ 0 → number ≡ first (roomTest room 16 ∷ number ∷ [])

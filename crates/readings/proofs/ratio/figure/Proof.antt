@@ -2,13 +2,10 @@
 use mathlib.Core.Path.{refl}
 use native.Mathlib.Omega.{arith}
 use borrow.Author.Needs.{needs}
-use Rattle.readings.proofs.Figures.{refused-told, upper-fits, lower-fits, examined-fits, given-told}
+use Rattle.readings.proofs.Figures.{refused-told, examined-fits, given-told}
+use Rattle.readings.proofs.PairTold.{done-told}
 use Rattle.readings.proofs.ratio.figure.Statement.{statement}
 use Rattle.readings.proofs.ratio.figure.Tie as tie
-use Rattle.readings.proofs.ratio.figure.Reads as reads
-use Rattle.readings.proofs.ratio.figure.Lts as lts
-use Rattle.bounds.proofs.pair.Reads as pair-reads
-use Rattle.readings.proofs.ratio.figure_of.Reads as figure-of-reads
 
 pair-requires : tie.Need-pair-requires
 pair-requires c κs = search needs
@@ -23,7 +20,7 @@ sub-figure-of : tie.Need-sub-figure-of
 sub-figure-of c =
     let k = c .before .before .before in
     let a = k .before .before .before .before .before .args in
-    upper-fits (a .h) (a .links .now) (a .events .now) (a .v) (a .w) _ (k .before .before .pair .ensures .0) _ (k .answer2 .given .1)
+    done-told (a .h) (a .links .now) (a .events .now) (a .v) (a .w) _ (k .before .before .pair .ensures .0) _ (k .answer2 .given .1) .upper-fits
 
 add-figure-of : tie.Need-add-figure-of
 add-figure-of c =
@@ -35,7 +32,7 @@ figure-of-requires : tie.Need-figure-of-requires
 figure-of-requires c κs =
     let k = c .before .before .before .before in
     let a = k .before .before .before .before .before .args in (
-      lower-fits (a .h) (a .links .now) (a .events .now) (a .v) (a .w) _ (k .before .before .pair .ensures .0) _ (k .answer2 .given .1),
+      done-told (a .h) (a .links .now) (a .events .now) (a .v) (a .w) _ (k .before .before .pair .ensures .0) _ (k .answer2 .given .1) .lower-fits,
       examined-fits (a .h) (a .links .now) (a .events .now) (a .v) (a .w) _ (k .before .before .pair .ensures .0) _ (k .answer2 .given .1),
     )
 

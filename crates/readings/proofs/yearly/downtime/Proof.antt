@@ -4,14 +4,13 @@
 use borrow.Author.Needs.{needs}
 use mathlib.Core.Path.{_≡_, refl, sym, ap, ap₂, subst, _∙_}
 use Prim.Native.Nat.{ℕ}
-use native.Mathlib.Omega.{arith}
 use lib.ListN.{length}
 use Rattle.mass.specs.Split.{massTest}
 use Rattle.mass.proofs.Answer.{mass-fits}
 use Rattle.refusals.proofs.OrderLaws.{stop, skip}
 use Rattle.sums.specs.Exact.{exactCut}
 use Rattle.bounds.specs.Bounds.{cuts}
-use Rattle.readings.specs.Downtime.{lowerSeconds, upperSeconds, downtimeAnswer, downtimeRefusal, secondsOf, secondsIn}
+use Rattle.readings.specs.Downtime.{downtimeAnswer, downtimeRefusal, secondsOf, secondsIn}
 use Rattle.readings.specs.Downtime.{DowntimeWithin, EnclosesDowntime}
 use Rattle.readings.specs.declared.Seconds.{Seconds}
 use Rattle.readings.specs.declared.Timed.{Timed}
@@ -63,25 +62,19 @@ returns-2 c =
     (skip _ (c .before .before .before .mass-test .ensures) (c .before .before .if1 .left) (stop _ (c .before .mass-test2 .ensures) (c .if2 .taken)))
     (c .if2 .taken))
 
-seconds-with-requires : tie.Need-seconds-with-requires
-seconds-with-requires c κs = (mass-fits _ (sym (c .before .before .before .mass-test .ensures) ∙ c .before .before .if1 .left), omega arith)
-
-sub-seconds-with : tie.Need-sub-seconds-with
-sub-seconds-with c = search needs
-
-seconds-with-requires-2 : tie.Need-seconds-with-requires-2
-seconds-with-requires-2 c κs = (mass-fits _ (sym (c .before .before .mass-test2 .ensures) ∙ c .before .if2 .left), omega arith)
+seconds-of-requires : tie.Need-seconds-of-requires
+seconds-of-requires c κs = (
+  mass-fits _ (sym (c .before .before .before .mass-test .ensures) ∙ c .before .before .if1 .left),
+  mass-fits _ (sym (c .before .mass-test2 .ensures) ∙ c .if2 .left),
+)
 
 returns-3 : tie.Need-returns-3
 returns-3 c =
-    let args = c .before .before .before .before .before .before .args in
-    let down : c .before .seconds-with .result ≡ lowerSeconds (args .lower) = omega (arith, c .before .seconds-with .ensures) in
-    let up : c .seconds-with2 .result ≡ upperSeconds (args .upper) = omega (arith, c .seconds-with2 .ensures) in
     concluded _ _ _
     (given _ _ _
-    (sym (c .before .before .before .before .before .mass-test .ensures) ∙ c .before .before .before .before .if1 .left)
-    (sym (c .before .before .before .mass-test2 .ensures) ∙ c .before .before .if2 .left)
-    (ap₂ (λ (l u : ℕ). record { lower = l; upper = u }) down up))
+    (sym (c .before .before .before .before .mass-test .ensures) ∙ c .before .before .before .if1 .left)
+    (sym (c .before .before .mass-test2 .ensures) ∙ c .before .if2 .left)
+    (c .seconds-of .ensures))
 
 pub downtime-spec : {M : Type 1} → statement M
 downtime-spec =
@@ -91,7 +84,5 @@ downtime-spec =
     returns
     mass-test-requires-2
     returns-2
-    seconds-with-requires
-    sub-seconds-with
-    seconds-with-requires-2
+    seconds-of-requires
     returns-3)

@@ -1,7 +1,8 @@
 -- `wellember::host::wellember_pair` meets its contract: nothing is laid down before the last test. Assumes nothing.
 use native.Mathlib.Omega.{arith}
 use mathlib.Core.Path.{sym, _∙_}
-use Rattle.wellember.proofs.HostLaws.{host-refused, host-done, host-room, pair-done-is}
+use Rattle.bounds.proofs.Answers.{pair-done-is}
+use Rattle.wellember.proofs.HostLaws.{host-refused, host-done, host-room}
 use borrow.Author.Needs.{needs}
 use Rattle.wellember.proofs.host.wellember_pair.Statement.{statement}
 use Rattle.wellember.proofs.host.wellember_pair.Tie as tie
