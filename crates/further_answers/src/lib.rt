@@ -4,6 +4,7 @@
 use answers::give_three;
 use answers::give_two;
 use answers::put;
+use credits::Credited;
 use readings::Figured;
 use readings::Shares;
 use readings::Timed;
@@ -19,6 +20,7 @@ ghost use Rattle.readings.specs.Figure.{floatsIn, Numbers};
 ghost use Rattle.sheets.specs.SheetCalls.{sheetNumber};
 ghost use Rattle.answers.specs.Laid.{laid};
 ghost use Rattle.further_answers.specs.FurtherAnswers.{listedNumber, entriesValues, figuredNumber, figureValues};
+ghost use Rattle.further_answers.specs.FurtherAnswers.{wordOf, creditedNumber, creditsValues};
 ghost use Rattle.further_answers.specs.FurtherAnswers.{timedNumber, secondsValues, witnessedNumber, failingValues, countsValues};
 
 // How many entries the topology list has.
@@ -83,6 +85,34 @@ pub fn give_seconds(answer: Timed, result: &mut [u64]) -> u32
         }
         Timed::Given(seconds) => {
             give_two(result, seconds.lower, seconds.upper);
+            0
+        }
+    }
+}
+
+// A signed number as an unsigned one: 2^64 is added where it is negative.
+fn word_of(n: i64) -> u64
+    ensures { λ r. ⌜ r ≡ wordOf n ⌝ }
+{
+    if n >= 0 {
+        return n as u64;
+    }
+    18_446_744_073_709_551_615 - ((0 - (n + 1)) as u64)
+}
+
+// The lower and the upper credit, and the headroom.
+pub fn give_credits(answer: Credited, result: &mut [u64]) -> u32
+    ensures number { λ r. ⌜ r ≡ creditedNumber answer ⌝ }
+    ensures result { λ r. ⌜ now (result .exit) ≡ laid (creditsValues answer) (now (result .entry)) ⌝ }
+{
+    match answer {
+        Credited::Refused(number) => {
+            give_three(result, 0, 0, 0);
+            number
+        }
+        Credited::Given(credits) => {
+            let headroom = word_of(credits.headroom);
+            give_three(result, credits.lower, credits.upper, headroom);
             0
         }
     }

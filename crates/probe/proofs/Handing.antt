@@ -9,10 +9,12 @@ use Rattle.readings.specs.Witness.{witnessAnswer}
 use Rattle.readings.specs.Downtime.{downtimeAnswer}
 use Rattle.readings.specs.declared.Shares.{Shares}
 use Rattle.readings.specs.declared.Seconds.{Seconds}
+use Rattle.credits.specs.Credit.{creditAnswer}
+use Rattle.credits.specs.declared.Credits.{Credits}
 use Rattle.topology_list.specs.Calls.{listedAnswer}
 use Rattle.sheets.specs.SheetCalls.{readSheetAnswer, sheetNumber}
 use Rattle.sheets.specs.declared.Counts.{Counts}
-use Rattle.further_answers.specs.FurtherAnswers.{listedNumber, figuredNumber, timedNumber, witnessedNumber}
+use Rattle.further_answers.specs.FurtherAnswers.{listedNumber, figuredNumber, timedNumber, witnessedNumber, creditedNumber}
 
 pub list-back : (n count : ℕ) → listedNumber (listedAnswer n count) ≡ n
 list-back zero count = refl
@@ -29,6 +31,10 @@ sheet-back (suc n) c = refl
 pub witness-back : (n : ℕ) (set : Failing) → witnessedNumber (witnessAnswer n set) ≡ n
 witness-back zero set = refl
 witness-back (suc n) set = refl
+
+pub credit-back : (n : ℕ) (c : Credits) → creditedNumber (creditAnswer n c) ≡ n
+credit-back zero c = refl
+credit-back (suc n) c = refl
 
 pub figure-back : (n examined : ℕ) (s : Shares) → figuredNumber (figureAnswer n examined s) ≡ n
 figure-back zero zero s = refl

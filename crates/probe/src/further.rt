@@ -6,9 +6,10 @@ ghost use Rattle.bounds.specs.Calls.{pairNumber};
 ghost use Rattle.readings.specs.Figure.{figureOf};
 ghost use Rattle.readings.specs.Witness.{witnessNumber, witnessOf};
 ghost use Rattle.readings.specs.Downtime.{downtimeAnswer, downtimeRefusal, secondsOf};
+ghost use Rattle.credits.specs.Credit.{creditNumber, creditOf};
 ghost use Rattle.answers.specs.Laid.{laid};
 ghost use Rattle.answers.specs.Answers.{headerWith};
-ghost use Rattle.further_answers.specs.FurtherAnswers.{figureValues, secondsValues, failingValues};
+ghost use Rattle.further_answers.specs.FurtherAnswers.{figureValues, secondsValues, failingValues, creditsValues};
 
 #[no_mangle]
 pub extern "C" fn probe_figure(
@@ -63,4 +64,33 @@ pub extern "C" fn probe_downtime(lower: u64, upper: u64, result: &mut [u64]) -> 
         (secondsValues (downtimeAnswer r (secondsOf lower upper))) (now (result .entry)) ⌝ }
 {
     further_answers::give_seconds(readings::downtime(lower, upper), result)
+}
+
+#[no_mangle]
+pub extern "C" fn probe_credit(
+    nodes: u64,
+    links_count: u64,
+    events_count: u64,
+    threshold: u64,
+    limit: u64,
+    links: &[u8],
+    events: &[u64],
+    v: u64,
+    w: u64,
+    fee: u64,
+    limit_seconds: u64,
+    rate: u64,
+    result: &mut [u64],
+) -> u32
+    ensures number { λ r. ⌜ r ≡ creditNumber (headerWith nodes «links_count» «events_count» threshold limit)
+        (now (links .entry)) (now (events .entry)) v w fee «limit_seconds» rate ⌝ }
+    ensures result { λ r. ⌜ now (result .exit) ≡ laid (creditsValues (creditOf
+        (headerWith nodes «links_count» «events_count» threshold limit) (now (links .entry)) (now (events .entry)) v w
+        fee «limit_seconds» rate)) (now (result .entry)) ⌝ }
+{
+    let h = header(nodes, links_count, events_count, threshold, limit);
+    further_answers::give_credits(
+        credits::credit(h, links, events, v, w, fee, limit_seconds, rate),
+        result,
+    )
 }

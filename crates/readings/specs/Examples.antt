@@ -23,7 +23,7 @@ use lib.Ieee.{binary64, add, mul, div, ofInt, toBits}
 use Rattle.mass.specs.Split.{whole}
 
 -- two nodes, the link 0-1, and an event of probability q on it
-abbrev line : ℕ → ℕ → ℕ → Plan
+abbrev pub line : ℕ → ℕ → ℕ → Plan
 line q t limit =
     record {
       nodes = 2;
