@@ -1,8 +1,10 @@
-//! Demand 3: the exact sums over all 2^n sets of events, and the three inequalities.
+//! Demand 3: the exact sums over all 2^n sets of events, and the three inequalities; the exact downtime of a pair, and the
+//! credit for it.
 
 use std::collections::HashSet;
 
 use crate::bounds::Bounds;
+use crate::credit::{Contract, MINUTE_SECONDS};
 use crate::plan::Plan;
 use crate::readings::YEAR_SECONDS;
 use crate::topology::components;
@@ -88,6 +90,27 @@ impl ExactSums {
     pub fn downtime_holds(&self, pair: usize, lower: u64, upper: u64) -> bool {
         let exact = self.disconnected[pair].times(YEAR_SECONDS);
         self.scaled(lower) <= exact && exact <= self.scaled(upper)
+    }
+
+    /// The started minutes by which the exact downtime of the pair is above a limit of at most a year: the least whole
+    /// number m with D × 31,536,000 ≤ (limit + 60 m) × 10^(9n). The minutes of a year are always enough.
+    fn minutes_above(&self, pair: usize, limit: u64) -> u64 {
+        let exact = self.disconnected[pair].times(YEAR_SECONDS);
+        let enough = |minutes: u64| exact <= self.scaled(limit + MINUTE_SECONDS * minutes);
+        let (mut least, mut most) = (0, YEAR_SECONDS / MINUTE_SECONDS);
+        while least < most {
+            let middle = (least + most) / 2;
+            match enough(middle) {
+                true => most = middle,
+                false => least = middle + 1,
+            }
+        }
+        least
+    }
+
+    /// The credit of a contract for the exact downtime of the pair.
+    pub fn credit(&self, pair: usize, contract: &Contract) -> u64 {
+        contract.for_minutes(self.minutes_above(pair, contract.limit))
     }
 
     /// The three inequalities of demand 3 for one pair.

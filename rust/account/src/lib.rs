@@ -6,6 +6,7 @@
 
 pub mod bounds;
 pub mod calls;
+pub mod credit;
 pub mod exact;
 pub mod file;
 pub mod listing;

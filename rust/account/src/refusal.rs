@@ -42,6 +42,8 @@ pub enum Refusal {
     Lines = 18,
     /// The quota of ends is empty.
     Quota = 19,
+    /// The fee or the rate of a contract is above 10^12 cents, or its limit above 31,536,000 seconds.
+    Terms = 20,
 }
 
 impl Refusal {
