@@ -1,6 +1,8 @@
-//! Plans, equipment sheets and networks for the tests and the benchmark: random ones, valid and damaged, some that are
-//! written down by hand, and the example files.
+//! Plans, equipment sheets, networks and contracts for the tests and the benchmark: random ones, valid and damaged, some
+//! that are written down by hand, and the example files.
 
+pub mod contracts;
+pub mod credits;
 pub mod damage;
 pub mod examples;
 pub mod lists;
