@@ -3,6 +3,8 @@
 
 use account::rounds::{reach as own_reach, Network};
 use account::{calls, number, Header};
+use plans::damage::damaged_lists;
+use plans::valid::random_plan;
 use plans::{Lists, Rng};
 
 use crate::{probe, rounds};
@@ -14,6 +16,16 @@ pub fn lent_length(rng: &mut Rng, needed: usize) -> usize {
         1 => rng.below(needed + 1),
         2..=6 => needed,
         _ => needed + rng.below(9),
+    }
+}
+
+/// Random lists, three in four of them valid.
+pub fn mostly_valid_lists(rng: &mut Rng) -> Lists {
+    let plan = random_plan(rng);
+    match rng.below(4) {
+        0 => damaged_lists(rng, &plan),
+        1 => Lists::of(&plan).with_spare(rng),
+        _ => Lists::of(&plan),
     }
 }
 

@@ -1,8 +1,11 @@
 //! How often each answer was met.
 
-/// A counter for 0, accepted, and for each refusal from 1 to 19.
+/// The answers of a call: 0, accepted, and each refusal from 1 to 20.
+const ANSWERS: usize = 21;
+
+/// A counter for each answer.
 #[derive(Default)]
-pub struct Tally([u64; 20]);
+pub struct Tally([u64; ANSWERS]);
 
 impl Tally {
     /// Counts one answer.
@@ -14,7 +17,8 @@ impl Tally {
     #[track_caller]
     pub fn expect(&self, numbers: impl IntoIterator<Item = u32>) {
         let expected: Vec<u32> = numbers.into_iter().collect();
-        let met: Vec<u32> = (0..20).filter(|&n| self.0[n as usize] > 0).collect();
+        let answers = 0..ANSWERS as u32;
+        let met: Vec<u32> = answers.filter(|&n| self.0[n as usize] > 0).collect();
         assert_eq!(met, expected, "answers met: {:?}", self.0);
     }
 

@@ -1,8 +1,9 @@
 //! Each number of the table "Refused" by a small input written down here, and the order of the tests where several fail.
 //! What is expected stands here as numbers; the account has no part in it.
 
+use account::credit::Contract;
 use account::{Header, Lent};
-use conformance::probe;
+use conformance::{probe, readings};
 
 /// A plan of 37 bytes: two nodes, one link, two events.
 const PLAN: [u8; 37] = [
@@ -130,7 +131,14 @@ const HEADER: Header = Header {
 const LINKS: [u8; 2] = [0, 1];
 const EVENTS: [u64; 8] = [7, 2, 1, 0, 3, 0, 0, 0];
 
-/// Write, run and pair refuse with this number and change nothing.
+/// A contract whose terms are all past their limits.
+const PAST: Contract = Contract {
+    fee: 1_000_000_000_001,
+    limit: 31_536_001,
+    rate: 1_000_000_000_001,
+};
+
+/// Write, run and pair refuse with this number and change nothing; so does a credit, whatever its pair and terms.
 #[track_caller]
 fn expect_lists(header: Header, links: &[u8], events: &[u64], number: u32) {
     let lent = Lent {
@@ -145,6 +153,10 @@ fn expect_lists(header: Header, links: &[u8], events: &[u64], number: u32) {
     let run = probe::run(&lent, &mut lower, &mut upper);
     assert_eq!((run, lower, upper), ((number, [0; 3]), [9; 3], [9; 3]));
     assert_eq!(probe::pair(&lent, 0, 1), (number, [0; 2]), "pair");
+    for (v, w) in [(0, 1), (1, 1)] {
+        let credit = readings::credit(&lent, v, w, &PAST);
+        assert_eq!(credit, (number, [0; 3]), "credit for {v} {w}");
+    }
 }
 
 /// The events with one word changed.
@@ -215,7 +227,7 @@ fn outputs_too_short_and_pairs_that_are_none() {
 
 #[test]
 fn refusals_of_readings() {
-    use conformance::readings::{downtime, figure, topologies, witness};
+    use conformance::readings::{credit, downtime, figure, topologies, witness};
 
     assert_eq!(figure(&right(), 1, 1), (13, [0; 3]));
     assert_eq!(witness(&right(), 1, 1), (13, [0; 2]));
@@ -231,4 +243,6 @@ fn refusals_of_readings() {
     assert_eq!(downtime(0, 1_000_000_000_000_000_001), (16, [0; 2]));
     assert_eq!(downtime(1_000_000_000_000_000_001, 0), (16, [0; 2]));
     assert_eq!(downtime(u64::MAX, 0), (16, [0; 2]));
+    assert_eq!(credit(&right(), 1, 1, &PAST), (13, [0; 3]));
+    assert_eq!(credit(&right(), 0, 1, &PAST), (20, [0; 3]));
 }

@@ -2,23 +2,12 @@
 
 use account::readings as own;
 use account::{number, WHOLE};
-use conformance::compare::{random_pair, words};
+use conformance::compare::{mostly_valid_lists, random_pair, words};
 use conformance::{probe, readings, Tally};
-use plans::damage::damaged_lists;
 use plans::valid::random_plan;
 use plans::{Lists, Rng};
 
 const PLANS: usize = 10_000;
-
-/// Random lists, three in four of them valid.
-fn random_lists(rng: &mut Rng) -> Lists {
-    let plan = random_plan(rng);
-    match rng.below(4) {
-        0 => damaged_lists(rng, &plan),
-        1 => Lists::of(&plan).with_spare(rng),
-        _ => Lists::of(&plan),
-    }
-}
 
 fn topologies(rng: &mut Rng, lists: &Lists) -> u32 {
     let length = rng.pick(&[0, 3, 4, 7, 9, 30, 200, 40_000]);
@@ -62,7 +51,7 @@ fn compare_many(stream: u64, call: fn(&mut Rng, &Lists) -> u32, more: &[u32]) {
     let mut rng = Rng::for_stream(stream);
     let mut tally = Tally::default();
     for _ in 0..PLANS {
-        let lists = random_lists(&mut rng);
+        let lists = mostly_valid_lists(&mut rng);
         tally.add(call(&mut rng, &lists));
     }
     let lists_answers = [0, 4, 5, 6, 7, 8, 9, 10, 12];
