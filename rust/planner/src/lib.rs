@@ -1,9 +1,10 @@
-//! The text form of plans, and a listing for people.
+//! The text form of plans, and a listing and credits for people.
 //!
 //! A convenience outside the proof: nothing here is proved. Plan files are read, written and run by the proved code
-//! (libprobe.a), which also reads equipment sheets; the text form, the names, the bytes of a sheet and the layout of
-//! the listing are plain Rust, held by tests.
+//! (libprobe.a), which also reads equipment sheets and works out credits; the text form, the names, the bytes of a sheet,
+//! the layout of the listing and the words around credits are plain Rust, held by tests.
 
+mod credit;
 mod equipment;
 mod events;
 mod line;
@@ -16,6 +17,7 @@ mod readings;
 mod refused;
 mod text;
 
+pub use credit::credit;
 pub use line::Fault;
 pub use listing::listing;
 pub use named::Named;

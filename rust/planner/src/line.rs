@@ -21,6 +21,13 @@ impl fmt::Display for Fault {
     }
 }
 
+/// A whole number below 2^64, in digits; `_` may stand between them.
+pub fn whole_number(word: &str) -> Option<u64> {
+    let digits = word.replace('_', "");
+    let only_digits = digits.bytes().all(|byte| byte.is_ascii_digit());
+    digits.parse().ok().filter(|_| only_digits)
+}
+
 /// A line that says something: its number, counted from 1, its keyword and the words after it.
 #[derive(Clone)]
 pub struct Line<'a> {
@@ -64,7 +71,7 @@ impl Line<'_> {
         )
     }
 
-    /// A whole number within limits; `_` may stand between its digits.
+    /// A whole number within limits.
     pub fn number_within(
         &self,
         word: &str,
@@ -72,10 +79,7 @@ impl Line<'_> {
         least: u64,
         most: u64,
     ) -> Result<u64, Fault> {
-        let digits = word.replace('_', "");
-        let only_digits = !digits.is_empty() && digits.bytes().all(|byte| byte.is_ascii_digit());
-        let number = digits.parse().ok().filter(|_| only_digits);
-        let within = number.filter(|number| (least..=most).contains(number));
+        let within = whole_number(word).filter(|number| (least..=most).contains(number));
         let expected = || format!("{what} as a whole number from {least} to {most}");
         within.ok_or_else(|| self.fault(expected(), format!("`{word}`")))
     }

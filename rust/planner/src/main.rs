@@ -6,7 +6,9 @@ use std::process::ExitCode;
 
 use account::sheet::layout;
 use conformance::proved;
-use planner::{listing, parse, parse_sheet, plan_reason, print, print_events, sheet_reason};
+use planner::{
+    credit, listing, parse, parse_sheet, plan_reason, print, print_events, sheet_reason,
+};
 use planner::{Fault, Named, Progress};
 use plans::Lists;
 
@@ -19,10 +21,18 @@ planner listing PLAN.txt|IN.plan   prints for people the bounds of each pair, th
                                    a long listing shows its progress where standard error is a
                                    terminal: the ends of the walk that are reached, of the cap
 planner bounds PLAN.txt|IN.plan    prints the bounds as the program listing does, line by line
+planner credit PLAN.txt|IN.plan NODE NODE FEE LIMIT RATE
+                                   prints the service credit of a contract for two nodes, at least
+                                   and at most, and the headroom: the limit less the upper downtime;
+                                   FEE a year, and RATE for each started minute above the limit, in
+                                   cents, at most 10^12 each; LIMIT in seconds a year, at most
+                                   31536000; the credit is that of the downtime that the bounds give,
+                                   a mean over years, not the mean of the credits of single years
 planner sheet PLAN.txt OUT.sheet   writes the equipment sheet of a plan in text form
 planner events IN.sheet            prints the events of an equipment sheet by falling q, in text form
 
-For listing and bounds a name that ends in .plan is read as a plan file, every other as text.
+For listing, bounds and credit a name that ends in .plan is read as a plan file, every other as
+text. The nodes of a plan file are n0, n1 and so on.
 
 The text form, a line for each thing, what is named standing above; # starts a comment:
   threshold T            scenarios of less mass are left out; units of 10^-18, 1 to 10^18
@@ -37,8 +47,8 @@ In a text with equipment, events and equipment stand in any order. They are numb
 equal ones in the order of their lines, and together they are at most 128.
 
 This is a convenience outside the proof. The bounds, their seconds, the scenarios that cut a pair,
-the plan files and the events of a sheet come from the proved code; nothing else that it reads or
-prints is proved.
+credits and headroom, the plan files and the events of a sheet come from the proved code; nothing
+else that it reads or prints is proved.
 ";
 
 fn main() -> ExitCode {
@@ -51,6 +61,9 @@ fn main() -> ExitCode {
         ["listing", from] => listing_of(from),
         ["bounds", from] => {
             read_any(from).map(|named| proved::plan_listing(&Lists::of(&named.plan)))
+        }
+        ["credit", from, first, second, fee, limit, rate] => {
+            read_any(from).and_then(|named| credit(&named, [first, second], [fee, limit, rate]))
         }
         ["sheet", from, to] => write_sheet(from, to),
         ["events", from] => events_of(from),

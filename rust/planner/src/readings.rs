@@ -1,9 +1,10 @@
-//! Witness and downtime, by the proved code.
+//! Witness, downtime and credits, by the proved code.
 
 use account::bounds::Bounds;
+use account::credit::Contract;
 use account::plan::pairs;
 use account::WHOLE;
-use conformance::readings;
+use conformance::{probe, readings};
 use plans::Lists;
 
 use crate::progress::Progress;
@@ -12,6 +13,30 @@ use crate::progress::Progress;
 pub fn downtime(lower: u64, upper: u64) -> [u64; 2] {
     assert!(lower <= WHOLE && upper <= WHOLE, "the bounds of a pair");
     readings::downtime(lower, upper).1
+}
+
+/// What a contract brings for a pair: its lower and upper downtime in seconds, the credit for each in cents, and the
+/// headroom in seconds.
+pub struct Due {
+    pub seconds: [u64; 2],
+    pub credits: [u64; 2],
+    pub headroom: i64,
+}
+
+/// What a contract brings for two nodes of a plan, or the refusal's number.
+pub fn due(lists: &Lists, (v, w): (usize, usize), contract: &Contract) -> Result<Due, u32> {
+    let (v, w) = (v as u64, w as u64);
+    let (refusal, [lower, upper, headroom]) = readings::credit(&lists.lent(), v, w, contract);
+    if refusal != 0 {
+        return Err(refusal);
+    }
+    let (refusal, bounds) = probe::pair(&lists.lent(), v, w);
+    assert_eq!(refusal, 0, "the bounds of a pair that has credits");
+    Ok(Due {
+        seconds: downtime(bounds[0], bounds[1]),
+        credits: [lower, upper],
+        headroom: headroom as i64,
+    })
 }
 
 /// For each pair, in the order of pairs, the failing events of the first examined scenario that disconnects it. An

@@ -30,3 +30,12 @@ pub fn sheet_reason(number: u32) -> &'static str {
         _ => plan_reason(number),
     }
 }
+
+/// What a refusal of a credit means.
+pub fn credit_reason(number: u32) -> &'static str {
+    match number {
+        13 => "a pair is two different nodes of the plan",
+        20 => "FEE or RATE is above 10^12 cents, or LIMIT is above 31536000 seconds",
+        _ => plan_reason(number),
+    }
+}

@@ -1,5 +1,6 @@
 //! The command line: what it prints, and how it ends.
 
+mod credit;
 mod sheets;
 
 use std::path::{Path, PathBuf};
