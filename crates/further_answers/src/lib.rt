@@ -90,7 +90,7 @@ pub fn give_seconds(answer: Timed, result: &mut [u64]) -> u32
     }
 }
 
-// A signed number as an unsigned one: 2^64 is added where it is negative.
+// A signed number as an unsigned one: 2^64 is added where it is negative, so that −(k + 1) is k less than 2^64 − 1.
 fn word_of(n: i64) -> u64
     ensures { λ r. ⌜ r ≡ wordOf n ⌝ }
 {
