@@ -182,10 +182,9 @@ module _ (count : ℕ) (words : List ℕ) (held : count ≤ 128) where
         links = union-two (λ e. e .links) (eventsOf count words) (out .links) (low * 2 ^ 0) (high * 2 ^ 64) (joined low high) (joined-parts low high h) x;
       })
 
--- a struct's words united with an event's words
-pub with-words : (words : List ℕ) (i nodes low high n l u : ℕ) → i < 128 → low < 2 ^ 64 → l < 2 ^ 64
+-- the nodes and the links of event i, from its words
+pub named-words : (words : List ℕ) (i n l u : ℕ) → i < 128
     → n ≡ getD words (4 * i + 1) 0 → l ≡ getD words (4 * i + 2) 0 → u ≡ getD words (4 * i + 3) 0
-    → _≡_ {A = Outage} (record { nodes = bitOr nodes n; links = joined (bitOr low l) (bitOr high u) })
-    (withEvent (record { nodes = nodes; links = joined low high }) (eventAt (eventsOf 128 words) i))
-with-words words i nodes low high n l u h fl ff en el eu =
-    rw (event-at 128 words i h, ← en, ← el, ← eu, joined-or low high l u fl ff)
+    → (let e = eventAt (eventsOf 128 words) i in
+    _≡_ {A = Outage} (record { nodes = n; links = joined l u }) (record { nodes = e .nodes; links = e .links }))
+named-words words i n l u h en el eu = rw (event-at 128 words i h, ← en, ← el, ← eu)

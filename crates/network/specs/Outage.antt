@@ -13,6 +13,14 @@ pub record Outage : Type 0 where
   pub nodes : ℕ
   pub links : ℕ
 
+-- nothing has failed
+abbrev pub intact : Outage
+intact = record { nodes = 0; links = 0 }
+
+-- what has failed in either of two
+abbrev pub beside : Outage → Outage → Outage
+beside out more = record { nodes = bitOr (out .nodes) (more .nodes); links = bitOr (out .links) (more .links) }
+
 -- the union of a starting set and of one part (nodes or links) of each failing event: event i fails where i is an element of `failing`
 unfoldable pub unionOf : (Event → ℕ) → ℕ → List Event → ℕ → ℕ
 unionOf part start [] failing = start
@@ -20,7 +28,7 @@ unionOf part start (e ∷ es) failing = unionOf part (cond (bit failing 0) (bitO
 
 -- one event's nodes and links beside what has failed
 abbrev pub withEvent : Outage → Event → Outage
-withEvent out e = record { nodes = bitOr (out .nodes) (e .nodes); links = bitOr (out .links) (e .links) }
+withEvent out e = beside out (record { nodes = e .nodes; links = e .links })
 
 -- event i of a list
 abbrev pub eventAt : List Event → ℕ → Event

@@ -6,7 +6,7 @@ ghost use Prim.Native.Nat.{_*_, _^_, _≤_, _<_};
 ghost use lib.ListN.{getD};
 ghost use Rattle.sets.specs.Sets.{joined};
 ghost use Rattle.plan.specs.Lists.{eventsOf};
-ghost use Rattle.network.specs.Outage.{eventAt, withEvent, outageOf};
+ghost use Rattle.network.specs.Outage.{beside, eventAt, withEvent, outageOf};
 ghost use Rattle.network.specs.Code.{outage};
 
 // Word k of the events.
@@ -17,17 +17,29 @@ fn word(events: &[u64; 512], k: usize) -> u64
     events[k]
 }
 
+// What has failed in either of two.
+pub fn beside(f: Failed, more: Failed) -> Failed
+    ensures { λ r. ⌜ outage r ≡ beside (outage f) (outage more) ⌝ }
+{
+    Failed {
+        nodes: f.nodes | more.nodes,
+        low: f.low | more.low,
+        high: f.high | more.high,
+    }
+}
+
 // What has failed when event i fails too.
 fn with_event(events: &[u64; 512], i: usize, f: Failed) -> Failed
     requires { ⌜ i < 128 ⌝ }
     ensures { λ r. ⌜ outage r ≡ withEvent (outage f) (eventAt (eventsOf 128 (now (events .entry))) i) ⌝ }
 {
     let at = 4 * i;
-    Failed {
-        nodes: f.nodes | word(events, at + 1),
-        low: f.low | word(events, at + 2),
-        high: f.high | word(events, at + 3),
-    }
+    let named = Failed {
+        nodes: word(events, at + 1),
+        low: word(events, at + 2),
+        high: word(events, at + 3),
+    };
+    beside(f, named)
 }
 
 // What has failed when the events base + i, for each element i of one word, fail.

@@ -6,6 +6,7 @@ mod rows;
 mod table;
 mod working;
 
+pub use failing::beside;
 pub use failing::failed_by;
 pub use rows::neighbours;
 pub use table::links_at;
@@ -17,6 +18,15 @@ pub struct Failed {
     pub nodes: u64,
     pub low: u64,
     pub high: u64,
+}
+
+impl Failed {
+    // Nothing has failed.
+    pub const NONE: Failed = Failed {
+        nodes: 0,
+        low: 0,
+        high: 0,
+    };
 }
 
 // A set of links in two words.

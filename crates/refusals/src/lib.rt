@@ -145,7 +145,7 @@ pub fn member_test(nodes: u64, links: u64, least: u64, kind: u64, number: u64) -
 }
 
 // Whether a set has an element that is `count` or more.
-fn reaches(count: u64, set: u64) -> bool
+pub fn reaches(count: u64, set: u64) -> bool
     requires { ⌜ count ≤ 64 ⌝ }
     ensures { λ r. ⌜ r ≡ leb (2 ^ count) set ⌝ }
 {

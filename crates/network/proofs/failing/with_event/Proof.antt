@@ -1,7 +1,9 @@
--- `network::failing::with_event` meets its contract: the words united are those of the event. Assumes nothing.
+-- `network::failing::with_event` meets its contract: the words that are put beside what has failed are those of the event. Assumes nothing.
 use borrow.Author.Needs.{needs}
-use native.Mathlib.Omega.{arith}
-use Rattle.network.proofs.Events.{with-words}
+use mathlib.Core.Path.{ap, _∙_}
+use Rattle.network.specs.Outage.{beside}
+use Rattle.network.specs.Code.{outage}
+use Rattle.network.proofs.Events.{named-words}
 use Rattle.network.proofs.failing.with_event.Statement.{statement}
 use Rattle.network.proofs.failing.with_event.Tie as tie
 
@@ -26,16 +28,19 @@ add-word-3 c = search needs
 word-requires-3 : tie.Need-word-requires-3
 word-requires-3 c κs = search needs
 
+beside-requires : tie.Need-beside-requires
+beside-requires c κs = search needs
+
 returns : tie.Need-returns
 returns c =
-    let a = c .before .before .before .before .before .before .args in
-    with-words (a .events .now) (a .i) (a .f .nodes) (a .f .low) (a .f .high) _ _ _
-    (c .before .before .before .before .before .before .pre)
-    (omega arith)
-    (omega arith)
-    (c .before .before .before .before .before .word .ensures)
-    (c .before .before .before .word2 .ensures)
-    (c .before .word3 .ensures)
+    let e = c .before in
+    let s = e .before .before .before in
+    c .beside .ensures
+    ∙ ap (beside (outage (s .args .f)))
+    (named-words (s .args .events .now) (s .args .i) _ _ _ (s .pre)
+    (e .before .before .word .ensures)
+    (e .before .word2 .ensures)
+    (e .word3 .ensures))
 
 pub with-event-spec : {M : Type 1} → statement M
 with-event-spec =
@@ -48,4 +53,5 @@ with-event-spec =
     word-requires-2
     add-word-3
     word-requires-3
+    beside-requires
     returns)
