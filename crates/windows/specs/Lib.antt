@@ -1,0 +1,3 @@
+-- What the contracts of the crate `windows` cite.
+pub mod Windows
+pub mod Examples
