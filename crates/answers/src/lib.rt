@@ -4,6 +4,7 @@
 // Assumes nothing.
 mod calls;
 mod lay;
+mod runs;
 
 pub use calls::give_bounds;
 pub use calls::give_header;
@@ -12,3 +13,4 @@ pub use calls::give_totals;
 pub use lay::give_three;
 pub use lay::give_two;
 pub use lay::put;
+pub use runs::run_at;

@@ -14,6 +14,7 @@ use Rattle.plan.specs.Plan.{Plan}
 use Rattle.plan.specs.LentLists.{planRefusal, listsRefusal}
 use Rattle.plan.specs.declared.Header.{Header}
 use Rattle.refusals.proofs.TestLaws.{or-none}
+use Rattle.network.specs.Outage.{Outage}
 use Rattle.walk.specs.Walk.{massExamined, count}
 use Rattle.walk.proofs.Theorems.{massExamined-le}
 use Rattle.walk.proofs.Valid.{plan-probable}
@@ -70,45 +71,47 @@ module _ (p : Plan) (valid : planRefusal p ≡ 0) where
   pub mass-most : massExamined p ≤ whole
   mass-most = massExamined-le p (plan-probable p valid)
 
+-- with some nodes and links out before the first event
+module _ (out : Outage) (p : Plan) (valid : planRefusal p ≡ 0) where
   -- upper is what is not examined, and lower
-  pub raised : (v w : ℕ) → (whole - massExamined p) + lowerOf p v w ≡ upperOf p v w
-  raised v w = omega (arith, upper-lower p (plan-probable p valid) (cuts p v w), mass-most)
+  pub raised : (v w : ℕ) → (whole - massExamined p) + lowerOf out p v w ≡ upperOf out p v w
+  raised v w = omega (arith, upper-lower p (plan-probable p valid) (cuts out p v w), mass-most p valid)
 
-  pub enclosed : (v w : ℕ) → Encloses p v w (lowerOf p v w) (upperOf p v w) (count p)
-  enclosed v w = demand3-valid p valid (cuts p v w)
+  pub enclosed : (v w : ℕ) → Encloses out p v w (lowerOf out p v w) (upperOf out p v w) (count p)
+  enclosed v w = demand3-valid p valid (cuts out p v w)
 
   -- sums of the whole walk may be given out
-  pub giving : (n mass : ℕ) (sums lower upper : List ℕ) → Summed p n sums → mass ≡ massExamined p → n ≤ 64
+  pub giving : (n mass : ℕ) (sums lower upper : List ℕ) → Summed out p n sums → mass ≡ massExamined p → n ≤ 64
       → pairCount n ≤ length lower → pairCount n ≤ length upper → BoundsFit n mass sums lower upper
   giving n mass sums lower upper s e few l u =
       record {
         few = few;
-        light = omega (arith, mass-most);
+        light = omega (arith, mass-most p valid);
         sized = s .sized;
-        below = λ i. omega (arith, s .below i, mass-most);
+        below = λ i. omega (arith, s .below i, mass-most p valid);
         lower-room = l;
         upper-room = u;
       }
 
   -- the bounds of a pair, from the sums
-  pub pair-bounds : (n mass : ℕ) (sums : List ℕ) (r : PairBounds) → Summed p n sums → mass ≡ massExamined p → (v w : ℕ) → v < w → w < n
-      → (r .lower ≡ getD sums (place n v w) 0) × (r .upper ≡ (whole - mass) + getD sums (place n v w) 0) → r ≡ boundsOf p v w
+  pub pair-bounds : (n mass : ℕ) (sums : List ℕ) (r : PairBounds) → Summed out p n sums → mass ≡ massExamined p → (v w : ℕ) → v < w → w < n
+      → (r .lower ≡ getD sums (place n v w) 0) × (r .upper ≡ (whole - mass) + getD sums (place n v w) 0) → r ≡ boundsOf out p v w
   pair-bounds n mass sums r s e v w l k is =
-      let low : r .lower ≡ lowerOf p v w = is .0 ∙ s .each v w l k in
-      let high : r .upper ≡ upperOf p v w = omega (arith, is .1, s .each v w l k, raised v w, e) in
+      let low : r .lower ≡ lowerOf out p v w = is .0 ∙ s .each v w l k in
+      let high : r .upper ≡ upperOf out p v w = omega (arith, is .1, s .each v w l k, raised v w, e) in
       λ i. record { lower = low i; upper = high i }
 
   -- ---- the lists
 
-  lowers-are : (sums : List ℕ) → Summed p (p .nodes) sums → p .nodes ≤ 64 → take (pairCount (p .nodes)) sums ≡ lowerList p
-  lowers-are sums s few = table-is (lowerOf p) (p .nodes) sums (omega (arith, s .sized, pairs-most (p .nodes) few)) (s .each)
+  lowers-are : (sums : List ℕ) → Summed out p (p .nodes) sums → p .nodes ≤ 64 → take (pairCount (p .nodes)) sums ≡ lowerList out p
+  lowers-are sums s few = table-is (lowerOf out p) (p .nodes) sums (omega (arith, s .sized, pairs-most (p .nodes) few)) (s .each)
 
-  uppers-are : (sums : List ℕ) → Summed p (p .nodes) sums → p .nodes ≤ 64
-      → map (λ x. (whole - massExamined p) + x) (take (pairCount (p .nodes)) sums) ≡ upperList p
+  uppers-are : (sums : List ℕ) → Summed out p (p .nodes) sums → p .nodes ≤ 64
+      → map (λ x. (whole - massExamined p) + x) (take (pairCount (p .nodes)) sums) ≡ upperList out p
   uppers-are sums s few =
       ap (map (λ x. (whole - massExamined p) + x)) (lowers-are sums s few)
-      ∙ map-table (λ x. (whole - massExamined p) + x) (lowerOf p) (p .nodes)
-      ∙ table-same (λ v w. (whole - massExamined p) + lowerOf p v w) (upperOf p) (p .nodes) raised
+      ∙ map-table (λ x. (whole - massExamined p) + x) (lowerOf out p) (p .nodes)
+      ∙ table-same (λ v w. (whole - massExamined p) + lowerOf out p v w) (upperOf out p) (p .nodes) raised
 
   -- what was laid down is found at each pair's place
   at-place : (f : ℕ → ℕ → ℕ) (list : List ℕ) → pairCount (p .nodes) ≤ length list → p .nodes ≤ 64 → (v w : ℕ) → v < w → w < p .nodes
@@ -119,21 +122,21 @@ module _ (p : Plan) (valid : planRefusal p ≡ 0) where
       (List·getD-append (table f (p .nodes)) _ 0 (place (p .nodes) v w) (omega (arith, place-lt (p .nodes) v w few l k))
       ∙ table-at f (p .nodes) v w l k)
 
-  module _ (sums lower upper : List ℕ) (s : Summed p (p .nodes) sums) (few : p .nodes ≤ 64)
-      (lr : pairCount (p .nodes) ≤ length lower) (ur : pairCount (p .nodes) ≤ length upper) where
-    pub lower-laid : sets lower 0 (take (pairCount (p .nodes)) sums) ≡ sets lower 0 (lowerList p)
-    lower-laid = ap (sets lower 0) (lowers-are sums s few)
+  module _ (sums : List ℕ) (s : Summed out p (p .nodes) sums) (few : p .nodes ≤ 64) where
+    pub lower-laid : (lower : List ℕ) → sets lower 0 (take (pairCount (p .nodes)) sums) ≡ sets lower 0 (lowerList out p)
+    lower-laid lower = ap (sets lower 0) (lowers-are sums s few)
 
-    pub upper-laid : (mass : ℕ) → mass ≡ massExamined p
-        → sets upper 0 (map (λ x. (whole - mass) + x) (take (pairCount (p .nodes)) sums)) ≡ sets upper 0 (upperList p)
-    upper-laid mass e =
+    pub upper-laid : (upper : List ℕ) (mass : ℕ) → mass ≡ massExamined p
+        → sets upper 0 (map (λ x. (whole - mass) + x) (take (pairCount (p .nodes)) sums)) ≡ sets upper 0 (upperList out p)
+    upper-laid upper mass e =
         ap (λ (m : ℕ). sets upper 0 (map (λ x. (whole - m) + x) (take (pairCount (p .nodes)) sums))) e
         ∙ ap (sets upper 0) (uppers-are sums s few)
 
-    -- DEMAND 3 for the numbers in the lists
-    pub all-enclosed : EnclosesAll p (sets lower 0 (lowerList p)) (sets upper 0 (upperList p)) (count p)
-    all-enclosed v w l k =
-        subst₂ (λ (a c : ℕ). Encloses p v w a c (count p))
-        (sym (at-place (lowerOf p) lower lr few v w l k))
-        (sym (at-place (upperOf p) upper ur few v w l k))
-        (enclosed v w)
+  -- DEMAND 3 for the numbers in the lists
+  pub all-enclosed : (lower upper : List ℕ) → p .nodes ≤ 64 → pairCount (p .nodes) ≤ length lower → pairCount (p .nodes) ≤ length upper
+      → EnclosesAll out p (sets lower 0 (lowerList out p)) (sets upper 0 (upperList out p)) (count p)
+  all-enclosed lower upper few lr ur v w l k =
+      subst₂ (λ (a c : ℕ). Encloses out p v w a c (count p))
+      (sym (at-place (lowerOf out p) lower lr few v w l k))
+      (sym (at-place (upperOf out p) upper ur few v w l k))
+      (enclosed v w)

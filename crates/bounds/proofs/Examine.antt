@@ -30,7 +30,7 @@ use Rattle.walk.proofs.ScenarioLaws.{number-scenario}
 use Rattle.walk.specs.declared.Step.{Step}
 use Rattle.pairs.specs.Pairs.{place, pairCount}
 use Rattle.pairs.proofs.PairLaws.{unplace}
-use Rattle.bounds.specs.Bounds.{intact, cuts}
+use Rattle.bounds.specs.Bounds.{cuts}
 use Rattle.pairs.specs.Adding.{JoinedByRows, AddingCut, AddedCut}
 use Rattle.bounds.specs.Tallied.{Room, MassAdded}
 use Rattle.plan.specs.Held.{Held}
@@ -82,15 +82,15 @@ module _ (h : Header) (links words lower : List ℕ) (failed : Failed) (nodes : 
           mul-le-mul-left (step .mass) (at-most (disconnected net (p .0) (p .1))),
         ))
 
-    module _ (decided : joined (step .low) (step .high) < 2 ^ h .events)
-        (gathered : outage failed ≡ outageOf intact (eventsOf (h .events) words) (joined (step .low) (step .high))) where
-      is-cut : (v w : ℕ) → disconnected net v w ≡ cuts (planOfLists h links words) v w (scenarioOf (h .events) (joined (step .low) (step .high)))
+    module _ (out : Outage) (decided : joined (step .low) (step .high) < 2 ^ h .events)
+        (gathered : outage failed ≡ outageOf out (eventsOf (h .events) words) (joined (step .low) (step .high))) where
+      is-cut : (v w : ℕ) → disconnected net v w ≡ cuts out (planOfLists h links words) v w (scenarioOf (h .events) (joined (step .low) (step .high)))
       unfolding planOfLists
       is-cut v w =
           ap (λ (o : Outage). disconnected (networkOf (h .nodes) (linksOf (h .links) links) o) v w)
-          (gathered ∙ ap (outageOf intact (eventsOf (h .events) words)) (sym (number-scenario (h .events) (joined (step .low) (step .high)) decided)))
+          (gathered ∙ ap (outageOf out (eventsOf (h .events) words)) (sym (number-scenario (h .events) (joined (step .low) (step .high)) decided)))
 
-      pub examined : MassAdded h links words step lower lower′
+      pub examined : MassAdded out h links words step lower lower′
       examined =
           record {
             sized = added .sized;

@@ -5,3 +5,4 @@ pub mod Root
 pub mod Zeros
 pub mod Answers
 pub mod Outcome
+pub mod Theorems

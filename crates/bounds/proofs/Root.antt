@@ -13,6 +13,7 @@ use Rattle.plan.specs.Lists.{eventsOf}
 use Rattle.plan.specs.LentLists.{planOfLists}
 use Rattle.plan.specs.Held.{Held}
 use Rattle.plan.specs.declared.Header.{Header}
+use Rattle.network.specs.Outage.{Outage}
 use Rattle.walk.specs.Ends.{sumEnds, weighed}
 use Rattle.walk.proofs.Laws.{masses-le}
 use Rattle.walk.specs.Walk.{planEnds, firstEnds}
@@ -44,7 +45,7 @@ module _ (h : Header) (links words : List ℕ) (at : ℕ) (stack lower : List �
         counted = omega arith;
       }
 
-  module _ (stack′ lower′ : List ℕ) (r : Tally) (t : Tallied h links words stack lower start stack′ lower′ r) where
+  module _ (out : Outage) (stack′ lower′ : List ℕ) (r : Tally) (t : Tallied out h links words stack lower start stack′ lower′ r) where
     abbrev p : Plan
     p = planOfLists h links words
 
@@ -67,7 +68,7 @@ module _ (h : Header) (links words : List ℕ) (at : ℕ) (stack lower : List �
         let three : r .mass ≡ totalsOf p .mass = omega (arith, t .masses, ap (sumEnds (λ s m. m)) firsts) in
         λ i. record { count = one i; complete = two i; mass = three i }
 
-    pub whole-sums : Summed p (h .nodes) lower′
+    pub whole-sums : Summed out p (h .nodes) lower′
     whole-sums =
         record {
           sized = t .sized;
@@ -78,6 +79,6 @@ module _ (h : Header) (links words : List ℕ) (at : ℕ) (stack lower : List �
                 arith,
                 t .entries v w l k,
                 clear .zeros (place (h .nodes) v w),
-                ap (weighed (λ s. digit (cuts p v w s))) firsts,
+                ap (weighed (λ s. digit (cuts out p v w s))) firsts,
               );
         }

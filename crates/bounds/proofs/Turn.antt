@@ -9,6 +9,7 @@ use Rattle.mass.specs.Split.{whole}
 use Rattle.sets.specs.Sets.{joined, digit}
 use Rattle.plan.specs.LentLists.{planOfLists}
 use Rattle.plan.specs.declared.Header.{Header}
+use Rattle.network.specs.Outage.{Outage}
 use Rattle.walk.specs.Scenario.{Scenario, scenarioOf}
 use Rattle.walk.specs.Ends.{sumEnds}
 use Rattle.walk.specs.Steps.{Handed}
@@ -19,10 +20,10 @@ use Rattle.bounds.specs.Tallied.{Room, MassAdded, reached, Ready, Tallie
 use Rattle.bounds.specs.declared.Tally.{Tally}
 
 -- in the loop: what it promises from here on gives what it promises from the start
-pub record Turn (h : Header) (links words stack₀ lower₀ : List ℕ) (start : Tally) (stack lower : List ℕ) (here : Tally) : Type 0 where
+pub record Turn (out : Outage) (h : Header) (links words stack₀ lower₀ : List ℕ) (start : Tally) (stack lower : List ℕ) (here : Tally) : Type 0 where
   pub ready : Ready h links words stack lower here
-  pub goes : (stack′ lower′ : List ℕ) (r : Tally) → Tallied h links words stack lower here stack′ lower′ r
-      → Tallied h links words stack₀ lower₀ start stack′ lower′ r
+  pub goes : (stack′ lower′ : List ℕ) (r : Tally) → Tallied out h links words stack lower here stack′ lower′ r
+      → Tallied out h links words stack₀ lower₀ start stack′ lower′ r
 
 -- a step of the walk, from any state
 module _ (h : Header) (links words stack lower : List ℕ) (here : Tally) (ready : Ready h links words stack lower here)
@@ -31,13 +32,13 @@ module _ (h : Header) (links words stack lower : List ℕ) (here : Tally) (ready
   none : (f : Scenario → ℕ → ℕ) → step .found ≡ false → sumEnds f (reached h words stack here) ≡ 0
   none = sum-none _ _ _ _ _ _ _ _ s
 
-  pub stopped : step .found ≡ false
-      → Tallied h links words stack lower here stack′ lower (record { at = step .at; left = step .left; number = here .number; mass = here .mass })
-  stopped e =
+  pub stopped : (out : Outage) → step .found ≡ false
+      → Tallied out h links words stack lower here stack′ lower (record { at = step .at; left = step .left; number = here .number; mass = here .mass })
+  stopped out e =
       record {
         numbers = omega (arith, none (λ s m. 1) e);
         masses = omega (arith, none (λ s m. m) e);
-        entries = λ v w l k. omega (arith, none (λ s m. m * digit (cuts (planOfLists h links words) v w s)) e);
+        entries = λ v w l k. omega (arith, none (λ s m. m * digit (cuts out (planOfLists h links words) v w s)) e);
         below = ready .below;
         left = left-none _ _ _ _ _ _ _ _ s e;
         rest = sym (drop-none _ _ _ _ _ _ _ _ s e);
@@ -67,7 +68,7 @@ module _ (h : Header) (links words stack lower : List ℕ) (here : Tally) (ready
     pub room : Room (step .mass) lower
     room = record { sized = ready .sized; fits = λ i. omega (arith, ready .below i, mass-fits) }
 
-    module _ (lower′ : List ℕ) (x : MassAdded h links words step lower lower′) where
+    module _ (out : Outage) (lower′ : List ℕ) (x : MassAdded out h links words step lower lower′) where
       ready-next : Ready h links words stack′ lower′ next
       ready-next =
           record {
@@ -79,14 +80,14 @@ module _ (h : Header) (links words stack lower : List ℕ) (here : Tally) (ready
             counted = omega (arith, ready .counted, less);
           }
 
-      from-next : (stack″ lower″ : List ℕ) (r : Tally) → Tallied h links words stack′ lower′ next stack″ lower″ r
-          → Tallied h links words stack lower here stack″ lower″ r
+      from-next : (stack″ lower″ : List ℕ) (r : Tally) → Tallied out h links words stack′ lower′ next stack″ lower″ r
+          → Tallied out h links words stack lower here stack″ lower″ r
       from-next stack″ lower″ r t =
           record {
             numbers = omega (arith, t .numbers, one (λ s m. 1));
             masses = omega (arith, t .masses, one (λ s m. m));
             entries =
-                λ v w l k. omega (arith, t .entries v w l k, x .each v w l k, one (λ s m. m * digit (cuts (planOfLists h links words) v w s)));
+                λ v w l k. omega (arith, t .entries v w l k, x .each v w l k, one (λ s m. m * digit (cuts out (planOfLists h links words) v w s)));
             below = t .below;
             left = omega (arith, t .left, left-found _ _ _ _ _ _ _ _ s e);
             rest = t .rest ∙ sym (drop-found _ _ _ _ _ _ _ _ s e);
@@ -96,7 +97,7 @@ module _ (h : Header) (links words stack lower : List ℕ) (here : Tally) (ready
           }
 
       pub turned : (stack₀ lower₀ : List ℕ) (start : Tally)
-          → ((stack″ lower″ : List ℕ) (r : Tally) → Tallied h links words stack lower here stack″ lower″ r
-          → Tallied h links words stack₀ lower₀ start stack″ lower″ r)
-          → Turn h links words stack₀ lower₀ start stack′ lower′ next
+          → ((stack″ lower″ : List ℕ) (r : Tally) → Tallied out h links words stack lower here stack″ lower″ r
+          → Tallied out h links words stack₀ lower₀ start stack″ lower″ r)
+          → Turn out h links words stack₀ lower₀ start stack′ lower′ next
       turned stack₀ lower₀ start goes = record { ready = ready-next; goes = λ stack″ lower″ r t. goes stack″ lower″ r (from-next stack″ lower″ r t) }

@@ -9,8 +9,10 @@ use Rattle.plan.specs.Plan.{Plan}
 use Rattle.refusals.specs.Tests.{roomTest}
 use Rattle.plan.specs.LentLists.{listsRefusal}
 use Rattle.plan.specs.declared.Header.{Header}
+use Rattle.network.specs.Outage.{Outage}
 use Rattle.walk.specs.Walk.{count, complete, massExamined}
 use Rattle.pairs.specs.Pairs.{pairCount, pairTest}
+use Rattle.windows.specs.Windows.{workRefusal}
 use Rattle.bounds.specs.Bounds.{lowerOf, upperOf}
 use Rattle.bounds.specs.declared.Totals.{Totals}
 use Rattle.bounds.specs.declared.Ran.{Ran}
@@ -33,7 +35,12 @@ abbrev pub runNumber : Header → List ℕ → List ℕ → List ℕ → List �
 runNumber h links events lower upper =
     runRefusal h (length links) (length events / 4) links events (length lower) (length upper)
 
--- the examined count, complete and E of a plan
+-- the run with windows: as the run, then 12 for words that make no whole window, each window 21, then 22 for the minute
+unfoldable pub runAtNumber : Header → List ℕ → List ℕ → List ℕ → ℕ → List ℕ → List ℕ → ℕ
+runAtNumber h links events windows minute lower upper =
+    first (runNumber h links events lower upper ∷ workRefusal (h .nodes) (h .links) windows minute ∷ [])
+
+-- the examined count, complete and E of a plan; no outage moves them
 abbrev pub totalsOf : Plan → Totals
 totalsOf p = record { count = count p; complete = complete p; mass = massExamined p }
 
@@ -56,8 +63,8 @@ abbrev pub pairNumber : Header → List ℕ → List ℕ → ℕ → ℕ → ℕ
 pairNumber h links events v w = pairRefusal h (length links) (length events / 4) links events v w
 
 -- the two bounds of the pair (v, w)
-abbrev pub boundsOf : Plan → ℕ → ℕ → PairBounds
-boundsOf p v w = record { lower = lowerOf p v w; upper = upperOf p v w }
+abbrev pub boundsOf : Outage → Plan → ℕ → ℕ → PairBounds
+boundsOf out p v w = record { lower = lowerOf out p v w; upper = upperOf out p v w }
 
 abbrev pub pairAnswer : ℕ → PairBounds → Paired
 pairAnswer zero bounds = paired.Done bounds

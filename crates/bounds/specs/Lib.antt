@@ -3,3 +3,4 @@ pub mod Bounds
 pub mod Summed
 pub mod Tallied
 pub mod Calls
+pub mod Examples

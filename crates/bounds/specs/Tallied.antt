@@ -1,4 +1,5 @@
 -- The loop of the run over the relevant scenarios of the walk: what it asks and promises, from any state.
+-- `out` is what is out before the first event (document 02, request U7).
 -- Assumes nothing.
 use mathlib.Core.Path.{_≡_}
 use mathlib.Core.List.{List}
@@ -9,6 +10,7 @@ use Rattle.sets.specs.Sets.{joined, digit}
 use Rattle.plan.specs.declared.Header.{Header}
 use Rattle.plan.specs.LentLists.{planOfLists}
 use Rattle.plan.specs.Held.{Held}
+use Rattle.network.specs.Outage.{Outage}
 use Rattle.walk.specs.Scenario.{scenarioOf}
 use Rattle.walk.specs.Ends.{End, sumEnds, weighed}
 use Rattle.walk.specs.Stack.{Stack, toCome, pendingMass}
@@ -31,13 +33,13 @@ pub record Room (mass : ℕ) (lower : List ℕ) : Type 0 where
   pub fits : (i : ℕ) → getD lower i 0 + mass ≤ whole
 
 -- the mass of the scenario that a step of the walk handed out is added to the entries of the pairs that its topology disconnects
-pub record MassAdded (h : Header) (links words : List ℕ) (step : Step) (lower lower′ : List ℕ) : Type 0 where
+pub record MassAdded (out : Outage) (h : Header) (links words : List ℕ) (step : Step) (lower lower′ : List ℕ) : Type 0 where
   pub sized : length lower′ ≡ 2016
   pub most : (i : ℕ) → getD lower′ i 0 ≤ getD lower i 0 + step .mass
   pub each : (v w : ℕ) → v < w → w < h .nodes
       → getD lower′ (place (h .nodes) v w) 0
       ≡ getD lower (place (h .nodes) v w) 0
-      + step .mass * digit (cuts (planOfLists h links words) v w (scenarioOf (h .events) (joined (step .low) (step .high))))
+      + step .mass * digit (cuts out (planOfLists h links words) v w (scenarioOf (h .events) (joined (step .low) (step .high))))
 
 -- what the loop asks: a stack that denotes the ends to come, no entry above the mass so far, and room for the ends that are reached
 pub record Ready (h : Header) (links words stack lower : List ℕ) (start : Tally) : Type 0 where
@@ -50,13 +52,13 @@ pub record Ready (h : Header) (links words stack lower : List ℕ) (start : Tall
 
 -- what it promises: the sums so far plus those over the ends that are reached, the others still to come, and how many of the allowed ends
 -- were not used; the mass added comes off that of the pending branches
-pub record Tallied (h : Header) (links words stack lower : List ℕ) (start : Tally) (stack′ lower′ : List ℕ) (r : Tally) : Type 0 where
+pub record Tallied (out : Outage) (h : Header) (links words stack lower : List ℕ) (start : Tally) (stack′ lower′ : List ℕ) (r : Tally) : Type 0 where
   pub numbers : r .number ≡ start .number + sumEnds (λ s m. 1) (reached h words stack start)
   pub masses : r .mass ≡ start .mass + sumEnds (λ s m. m) (reached h words stack start)
   pub entries : (v w : ℕ) → v < w → w < h .nodes
       → getD lower′ (place (h .nodes) v w) 0
       ≡ getD lower (place (h .nodes) v w) 0
-      + weighed (λ s. digit (cuts (planOfLists h links words) v w s)) (reached h words stack start)
+      + weighed (λ s. digit (cuts out (planOfLists h links words) v w s)) (reached h words stack start)
   pub below : (i : ℕ) → getD lower′ i 0 ≤ r .mass
   pub left : r .left + length (reached h words stack start) ≡ start .left
   pub rest : coming h words (r .at) stack′ ≡ drop (start .left) (coming h words (start .at) stack)

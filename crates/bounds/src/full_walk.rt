@@ -2,6 +2,7 @@
 use crate::Tally;
 use crate::Totals;
 use crate::ends::go_on;
+use network::Failed;
 use plan::Header;
 ghost use mathlib.Core.Path.{_≡_};
 ghost use Prim.Native.Nat.{_<_};
@@ -9,6 +10,7 @@ ghost use lib.Dec.{leb};
 ghost use Rattle.sets.specs.Sets.{digit};
 ghost use Rattle.plan.specs.LentLists.{planOfLists};
 ghost use Rattle.plan.specs.Held.{Held};
+ghost use Rattle.network.specs.Code.{outage};
 ghost use Rattle.bounds.specs.Calls.{totalsOf};
 ghost use Rattle.bounds.specs.Summed.{Summed, Cleared};
 
@@ -22,13 +24,20 @@ pub fn none_left(at: usize) -> u64
     0
 }
 
-// The full walk of an accepted plan: the totals, and the lower bounds in the entries of the pairs.
-pub fn walk_all(h: Header, links: &[u8; 256], words: &[u64; 512], lower: &mut [u64; 2016]) -> Totals
+// The full walk of an accepted plan, with some nodes and links out before the first event: the totals, and the lower bounds in the entries
+// of the pairs.
+pub fn walk_all(
+    h: Header,
+    links: &[u8; 256],
+    words: &[u64; 512],
+    out: Failed,
+    lower: &mut [u64; 2016],
+) -> Totals
     requires { ⌜ Held h (now links) (now words) ⌝ }
     requires { ⌜ h .limit < 4294967296 ⌝ }
     requires { ⌜ Cleared (now lower) ⌝ }
     ensures { λ r. ⌜ r ≡ totalsOf (planOfLists h (now (links .entry)) (now (words .entry))) ⌝ }
-    ensures { λ r. ⌜ Summed (planOfLists h (now (links .entry)) (now (words .entry))) (h .nodes) (now (lower .exit)) ⌝ }
+    ensures { λ r. ⌜ Summed (outage out) (planOfLists h (now (links .entry)) (now (words .entry))) (h .nodes) (now (lower .exit)) ⌝ }
 {
     let table = network::links_at(h.nodes as usize, links, h.links as usize);
     let mut stack = [0u64; 512];
@@ -39,7 +48,7 @@ pub fn walk_all(h: Header, links: &[u8; 256], words: &[u64; 512], lower: &mut [u
         number: 0,
         mass: 0,
     };
-    let r = go_on(h, links, words, &table, &mut stack, lower, so_far);
+    let r = go_on(h, links, words, &table, out, &mut stack, lower, so_far);
     Totals {
         count: r.number,
         complete: none_left(r.at),

@@ -1,14 +1,16 @@
-// The run over all pairs and the bounds of one pair: document 01, section "Bounds of a pair".
+// The run over all pairs and the bounds of one pair: document 01, section "Bounds of a pair"; the run with windows: document 02, U7.
 // Assumes nothing.
-mod calls;
 mod ends;
 mod full_walk;
+mod one_pair;
+mod runs;
 
-pub use calls::pair;
-pub use calls::run;
 pub use ends::go_on;
 pub use full_walk::none_left;
 pub use full_walk::walk_all;
+pub use one_pair::pair;
+pub use runs::run;
+pub use runs::run_at;
 
 // Where the stack of the walk begins, how many ends may still be reached, how many scenarios are examined so far, and their mass.
 pub struct Tally {

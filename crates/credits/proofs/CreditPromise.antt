@@ -20,6 +20,7 @@ use Rattle.bounds.specs.declared.PairBounds.{PairBounds}
 use Rattle.bounds.specs.declared.Paired.{Paired}
 use Rattle.bounds.specs.declared.Paired.the-variants as paired
 use Rattle.mass.specs.Split.{whole}
+use Rattle.network.specs.Outage.{intact}
 use Rattle.readings.specs.Downtime.{year, lowerSeconds, upperSeconds, secondsOf}
 use Rattle.readings.specs.declared.Seconds.{Seconds}
 use Rattle.readings.proofs.PairTold.{Accepted, refused-told, done-told}
@@ -67,16 +68,16 @@ module _ (h : Header) (links events : List ℕ) (v w fee limit rate : ℕ) where
   number = creditNumber h links events v w fee limit rate
 
   abbrev credits : Credits
-  credits = creditsOf fee limit rate (secondsOf (lowerOf p v w) (upperOf p v w))
+  credits = creditsOf fee limit rate (secondsOf (lowerOf intact p v w) (upperOf intact p v w))
 
   -- what the call promises of its answer
   abbrev Promised : Credited → Type 0
   Promised a =
-      (a ≡ creditOf h links events v w fee limit rate)
+      (a ≡ creditOf intact h links events v w fee limit rate)
       × ((creditsIn a .lower ≤ creditsIn a .upper)
-      × (number ≡ 0 → CreditWithin (exactCredit p v w fee limit rate) (creditsIn a)))
+      × (number ≡ 0 → CreditWithin (exactCredit intact p v w fee limit rate) (creditsIn a)))
 
-  module _ (r : Paired) (told : r ≡ pairAnswer (pairNumber h links events v w) (boundsOf p v w)) where
+  module _ (r : Paired) (told : r ≡ pairAnswer (pairNumber h links events v w) (boundsOf intact p v w)) where
     -- the pair is refused, and so the call
     pub pair-refused : (n : ℕ) → r ≡ paired.Refused n → Promised (credited.Refused n)
     unfolding creditNumber
@@ -98,13 +99,13 @@ module _ (h : Header) (links events : List ℕ) (v w fee limit rate : ℕ) where
       ordered zero = credits-ordered p (known .valid) v w fee limit rate
       ordered (suc n) = omega arith
 
-      promised : Promised (creditOf h links events v w fee limit rate)
+      promised : Promised (creditOf intact h links events v w fee limit rate)
       promised = (
         refl,
         (
           ordered number,
           λ z.
-              subst (λ (n : ℕ). CreditWithin (exactCredit p v w fee limit rate) (creditsIn (creditAnswer n credits))) (sym z)
+              subst (λ (n : ℕ). CreditWithin (exactCredit intact p v w fee limit rate) (creditsIn (creditAnswer n credits))) (sym z)
               (credits-enclose p (known .valid) v w fee limit rate (known .inside .0) (known .inside .1)),
         ),
       )
@@ -112,7 +113,7 @@ module _ (h : Header) (links events : List ℕ) (v w fee limit rate : ℕ) where
       pub given-told : (a : Credited) (lower upper : ℕ) → lower ≡ b .lower → upper ≡ b .upper
           → a ≡ creditAnswer (termsTest fee limit rate) (creditsOf fee limit rate (secondsOf lower upper)) → Promised a
       given-told a lower upper l u is =
-          let same : a ≡ creditOf h links events v w fee limit rate =
+          let same : a ≡ creditOf intact h links events v w fee limit rate =
           is
           ∙ (λ i. creditAnswer (number-is i) (creditsOf fee limit rate (secondsOf ((l ∙ known .lower-is) i) ((u ∙ known .upper-is) i)))) in
           subst Promised (sym same) promised

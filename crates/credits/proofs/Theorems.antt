@@ -11,6 +11,7 @@ use lib.ListN.{length}
 use lib.Signed.{_≤ℤ_, leZ, leZ-yes}
 use Rattle.plan.specs.Plan.{Plan}
 use Rattle.plan.specs.LentLists.{planRefusal}
+use Rattle.network.specs.Outage.{intact}
 use Rattle.walk.proofs.Valid.{plan-probable}
 use Rattle.sums.specs.Exact.{scale, exactCut}
 use Rattle.sums.proofs.BoundsLaws.{lower-upper}
@@ -54,22 +55,22 @@ none-headroom limit seconds h = by (decLe seconds limit)
 
 module _ (p : Plan) (valid : planRefusal p ≡ 0) (v w fee limit rate : ℕ) where
   abbrev seconds : Seconds
-  seconds = secondsOf (lowerOf p v w) (upperOf p v w)
+  seconds = secondsOf (lowerOf intact p v w) (upperOf intact p v w)
 
   -- the lower credit never exceeds the upper
   pub credits-ordered : creditFor fee limit rate 1 (seconds .lower) ≤ creditFor fee limit rate 1 (seconds .upper)
   credits-ordered =
-      let least : lowerOf p v w ≤ upperOf p v w = lower-upper p (plan-probable p valid) (cuts p v w) in
+      let least : lowerOf intact p v w ≤ upperOf intact p v w = lower-upper p (plan-probable p valid) (cuts intact p v w) in
       credit-longer fee limit rate 1 1 (seconds .lower) (seconds .upper) (omega arith) (omega arith)
-      (omega (arith, seconds-ordered (lowerOf p v w) (upperOf p v w) least))
+      (omega (arith, seconds-ordered (lowerOf intact p v w) (upperOf intact p v w) least))
 
   -- the credit of the exact downtime lies between the two (from request U1)
-  pub credits-enclose : v < w → w < p .nodes → CreditWithin (exactCredit p v w fee limit rate) (creditsOf fee limit rate seconds)
+  pub credits-enclose : v < w → w < p .nodes → CreditWithin (exactCredit intact p v w fee limit rate) (creditsOf fee limit rate seconds)
   credits-enclose l k =
-      let within : DowntimeWithin (length (p .events)) (exactCut p (cuts p v w)) seconds =
-      bounds-enclose (lowerOf p v w) (upperOf p v w) p valid v w l k refl refl in
+      let within : DowntimeWithin (length (p .events)) (exactCut p (cuts intact p v w)) seconds =
+      bounds-enclose intact (lowerOf intact p v w) (upperOf intact p v w) p valid v w l k refl refl in
       let n : ℕ = length (p .events) in
-      let time : ℕ = exactCut p (cuts p v w) * year in
+      let time : ℕ = exactCut p (cuts intact p v w) * year in
       record {
         below = credit-longer fee limit rate 1 (scale n) (seconds .lower) time (omega arith) (scale-pos n) (omega (arith, within .below));
         above = credit-longer fee limit rate (scale n) 1 time (seconds .upper) (scale-pos n) (omega arith) (omega (arith, within .above));

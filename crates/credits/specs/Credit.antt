@@ -1,4 +1,5 @@
 -- Service credits: document 02, request U6. Fee, rate and credits are in cents, the limit in seconds of a year of 365 days.
+-- `out` is what is out before the first event (document 02, request U7).
 -- Assumes nothing.
 use mathlib.Core.Bool.{_||_}
 use mathlib.Core.List.{List, [], _∷_}
@@ -10,6 +11,7 @@ use Rattle.mass.specs.Refusal.{refuse, first}
 use Rattle.plan.specs.Plan.{Plan}
 use Rattle.plan.specs.LentLists.{planOfLists}
 use Rattle.plan.specs.declared.Header.{Header}
+use Rattle.network.specs.Outage.{Outage}
 use Rattle.sums.specs.Exact.{scale, exactCut}
 use Rattle.bounds.specs.Bounds.{cuts, lowerOf, upperOf}
 use Rattle.bounds.specs.Calls.{pairNumber}
@@ -63,14 +65,14 @@ unfoldable pub creditNumber : Header → List ℕ → List ℕ → (v w fee limi
 creditNumber h links events v w fee limit rate = first (pairNumber h links events v w ∷ termsTest fee limit rate ∷ [])
 
 -- the whole answer of a call
-abbrev pub creditOf : Header → List ℕ → List ℕ → (v w fee limit rate : ℕ) → Credited
-creditOf h links events v w fee limit rate =
+abbrev pub creditOf : Outage → Header → List ℕ → List ℕ → (v w fee limit rate : ℕ) → Credited
+creditOf out h links events v w fee limit rate =
     creditAnswer (creditNumber h links events v w fee limit rate)
-    (creditsOf fee limit rate (secondsOf (lowerOf (planOfLists h links events) v w) (upperOf (planOfLists h links events) v w)))
+    (creditsOf fee limit rate (secondsOf (lowerOf out (planOfLists h links events) v w) (upperOf out (planOfLists h links events) v w)))
 
 -- the credit of a pair's exact downtime, D × 31,536,000 seconds, with D in units of 10^-9n
-abbrev pub exactCredit : Plan → (v w fee limit rate : ℕ) → ℕ
-exactCredit p v w fee limit rate = creditFor fee limit rate (scale (length (p .events))) (exactCut p (cuts p v w) * year)
+abbrev pub exactCredit : Outage → Plan → (v w fee limit rate : ℕ) → ℕ
+exactCredit out p v w fee limit rate = creditFor fee limit rate (scale (length (p .events))) (exactCut p (cuts out p v w) * year)
 
 -- that credit lies between the two
 pub record CreditWithin (exact : ℕ) (credits : Credits) : Type 0 where

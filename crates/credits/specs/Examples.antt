@@ -3,7 +3,7 @@
 use mathlib.Core.Path.{_≡_, refl}
 use lib.IntN.{pos, negsuc}
 use Rattle.sets.specs.Sets.{bit, anyBelow}
-use Rattle.network.specs.Outage.{unionOf}
+use Rattle.network.specs.Outage.{intact, unionOf}
 use Rattle.network.specs.Topology.{nodeWorks, linkWorks, joins, adjacent}
 use Rattle.topology.specs.Paths.{via, disconnected}
 use Rattle.walk.specs.Ends.{ends}
@@ -44,8 +44,8 @@ example-terms = (refl, refl, refl, refl)
 
 -- a link that fails with 10^-9 is a risk of 0.03 seconds a year. With a limit of 0 the exact downtime starts a minute, and so does the
 -- upper one, 1 second, but not the lower one, 0 seconds
-example-exact : (exactCredit (line 1 1 100) 0 1 5000 0 500 ≡ 500)
-    × (creditsOf 5000 0 500 (secondsOf (lowerOf (line 1 1 100) 0 1) (upperOf (line 1 1 100) 0 1))
+example-exact : (exactCredit intact (line 1 1 100) 0 1 5000 0 500 ≡ 500)
+    × (creditsOf 5000 0 500 (secondsOf (lowerOf intact (line 1 1 100) 0 1) (upperOf intact (line 1 1 100) 0 1))
     ≡ record { lower = 0; upper = 500; headroom = negsuc 0 })
 unfolding ends disconnected via nodeWorks linkWorks joins adjacent anyBelow unionOf bit exactSum scale
 example-exact = (refl, refl)

@@ -1,4 +1,5 @@
 -- The twelve marked plans of document 01, section "Marked plans", in one list. The theorem about them stands in `proofs/Theorems.antt`.
+-- `out` is what is out before the first event (document 02, request U7).
 -- Assumes nothing.
 use mathlib.Core.Path.{_≡_}
 use mathlib.Core.Bool.{Bool, true, false}
@@ -10,6 +11,7 @@ use Rattle.sets.specs.Sets.{digit}
 use Rattle.plan.specs.Plan.{Plan, Link, Event}
 use Rattle.plan.specs.Layout.{layout}
 use Rattle.plan.specs.File.{refusal}
+use Rattle.network.specs.Outage.{Outage, intact}
 use Rattle.pairs.specs.Pairs.{table}
 use Rattle.bounds.specs.Bounds.{lowerList, upperList}
 use Rattle.bounds.specs.Calls.{totalsOf}
@@ -47,8 +49,8 @@ hasFigure figured.NoFigure = false
 hasFigure (figured.Given shares) = true
 
 -- for each pair of a plan, in order: 1 if the call that is not refused (number 0) gives it a figure, else 0
-abbrev pub figureList : Plan → List ℕ
-figureList p = table (λ v w. digit (hasFigure (figureOf 0 p v w))) (p .nodes)
+abbrev pub figureList : Outage → Plan → List ℕ
+figureList out p = table (λ v w. digit (hasFigure (figureOf out 0 p v w))) (p .nodes)
 
 -- what is said of an entry, by the definitions that the contracts cite. Of a plan: its file meets no refusal (`plan::check`); the run's
 -- count, complete and E, and its two lists of bounds, are those of the entry (`bounds::run`); and so is which pairs have a figure
@@ -57,9 +59,9 @@ abbrev pub Right : MarkedEntry → Type 0
 Right (planned m) =
     (refusal (layout (m .plan)) ≡ 0)
     × (totalsOf (m .plan) ≡ record { count = m .examined; complete = m .complete; mass = m .mass })
-    × (lowerList (m .plan) ≡ m .lowers)
-    × (upperList (m .plan) ≡ m .uppers)
-    × (figureList (m .plan) ≡ m .figures)
+    × (lowerList intact (m .plan) ≡ m .lowers)
+    × (upperList intact (m .plan) ≡ m .uppers)
+    × (figureList intact (m .plan) ≡ m .figures)
 Right (parted m) = splitOf (m .mass) (m .q) ≡ Split (units (m .fails)) (units (m .works))
 
 -- a property of every entry of a list

@@ -10,6 +10,7 @@ use Rattle.mass.specs.Split.{whole}
 use Rattle.plan.specs.LentLists.{planOfLists}
 use Rattle.plan.specs.declared.Header.{Header}
 use Rattle.lent.specs.Taken.{Taken}
+use Rattle.network.specs.Outage.{intact}
 use Rattle.walk.specs.Walk.{planEnds}
 use Rattle.walk.specs.Stack.{Begun}
 use Rattle.walk.proofs.Resume.{Alone, begun-alone, begun-stack, begun-whole, begun-mass, root-entry}
@@ -39,7 +40,7 @@ module _ (h : Header) (links events bytes words : List ℕ) (at : ℕ) (stack : 
   alone : Alone 0 whole 0 0 at stack
   alone = begun-alone 0 whole 0 0 at (zeros 512) stack refl b
 
-  pub begun : Taken h links events bytes words → WalkAt (planOfLists h links events) 0 made
+  pub begun : Taken h links events bytes words → WalkAt intact (planOfLists h links events) 0 made
   unfolding planOfLists
   begun t =
       record {

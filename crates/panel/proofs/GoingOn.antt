@@ -12,6 +12,7 @@ use Rattle.plan.specs.Plan.{Plan}
 use Rattle.plan.specs.Held.{Held}
 use Rattle.plan.specs.LentLists.{planOfLists}
 use Rattle.lent.proofs.Accepted.{lists-held, limit-most}
+use Rattle.network.specs.Outage.{intact}
 use Rattle.walk.specs.Scenario.{Scenario}
 use Rattle.walk.specs.Ends.{End, sumEnds}
 use Rattle.walk.specs.Stack.{Stack}
@@ -103,7 +104,7 @@ module _ (n k : ℕ) (list : List End) where
 -- ---- what the loop promises
 
 module _ (w : Walk) (allowed : ℕ) (stack′ sums′ : List ℕ) (r : Tally)
-    (t : Tallied (w .header) (w .links) (w .events) (w .stack) (w .sums) (tallyOf w allowed) stack′ sums′ r) where
+    (t : Tallied intact (w .header) (w .links) (w .events) (w .stack) (w .sums) (tallyOf w allowed) stack′ sums′ r) where
   -- the walk after so many ends more
   abbrev walkOn : ℕ → Walk
   walkOn got =
@@ -124,7 +125,7 @@ module _ (w : Walk) (allowed : ℕ) (stack′ sums′ : List ℕ) (r : Tally)
   got-is = omega (arith, t .left, length-take allowed (endsToCome w))
 
   -- what it has so far is that of the plan with a cap of so many ends
-  module _ (n : ℕ) (at : WalkAt (walkPlan w) n w) (fits : allowed + n ≤ w .header .limit) where
+  module _ (n : ℕ) (at : WalkAt intact (walkPlan w) n w) (fits : allowed + n ≤ w .header .limit) where
     abbrev p : Plan
     p = walkPlan w
 
@@ -140,7 +141,7 @@ module _ (w : Walk) (allowed : ℕ) (stack′ sums′ : List ℕ) (r : Tally)
     mass-on : r .mass ≡ massExamined (capped p (n + got))
     mass-on = omega (arith, t .masses, at .masses, sum-on (λ s m. m))
 
-    sums-on : Summed (capped p (n + got)) (p .nodes) sums′
+    sums-on : Summed intact (capped p (n + got)) (p .nodes) sums′
     unfolding planOfLists
     sums-on =
         record {
@@ -148,10 +149,10 @@ module _ (w : Walk) (allowed : ℕ) (stack′ sums′ : List ℕ) (r : Tally)
           below = λ i. omega (arith, t .below i, mass-on);
           each =
               λ v x l k.
-              omega (arith, t .entries v x l k, at .sums .each v x l k, sum-on (λ s m. Prim.Native.Nat._*_ m (digit (cuts p v x s))));
+              omega (arith, t .entries v x l k, at .sums .each v x l k, sum-on (λ s m. Prim.Native.Nat._*_ m (digit (cuts intact p v x s))));
         }
 
-    own-kept : WalkAt p (n + got) (walkOn got)
+    own-kept : WalkAt intact p (n + got) (walkOn got)
     unfolding planOfLists
     own-kept =
         record {
@@ -171,14 +172,14 @@ module _ (w : Walk) (allowed : ℕ) (stack′ sums′ : List ℕ) (r : Tally)
     same-got : allowed - r .left ≡ got
     same-got = omega (arith, t .left, ap (λ (l : List End). length (take allowed l)) (at .ends))
 
-    kept-here : WalkAt p (n + (allowed - r .left)) (walkOn (allowed - r .left))
-    kept-here = subst (λ (x : ℕ). WalkAt p (n + x) (walkOn x)) (sym same-got) own-kept
+    kept-here : WalkAt intact p (n + (allowed - r .left)) (walkOn (allowed - r .left))
+    kept-here = subst (λ (x : ℕ). WalkAt intact p (n + x) (walkOn x)) (sym same-got) own-kept
 
-  kept : (q : Plan) (n : ℕ) → WalkAt q n w → allowed + w .reached ≤ w .header .limit
-      → WalkAt q (n + (allowed - r .left)) (walkOn (allowed - r .left))
+  kept : (q : Plan) (n : ℕ) → WalkAt intact q n w → allowed + w .reached ≤ w .header .limit
+      → WalkAt intact q (n + (allowed - r .left)) (walkOn (allowed - r .left))
   kept q n at fits =
-      subst (λ (x : Plan). WalkAt x n w → WalkAt x (n + (allowed - r .left)) (walkOn (allowed - r .left))) (at .plan)
-      (λ (here : WalkAt (walkPlan w) n w). kept-here n here (omega (arith, here .reached)))
+      subst (λ (x : Plan). WalkAt intact x n w → WalkAt intact x (n + (allowed - r .left)) (walkOn (allowed - r .left))) (at .plan)
+      (λ (here : WalkAt intact (walkPlan w) n w). kept-here n here (omega (arith, here .reached)))
       at
 
   -- law: it has reached so many ends more as there are of those allowed, and a walk of a plan stays one
@@ -186,5 +187,5 @@ module _ (w : Walk) (allowed : ℕ) (stack′ sums′ : List ℕ) (r : Tally)
   walked fits =
       record {
         reached = ap (λ (x : ℕ). w .reached + x) got-is;
-        moved = λ q n at. subst (λ (x : ℕ). WalkAt q (n + x) (walkOn (allowed - r .left))) got-is (kept q n at fits);
+        moved = λ q n at. subst (λ (x : ℕ). WalkAt intact q (n + x) (walkOn (allowed - r .left))) got-is (kept q n at fits);
       }

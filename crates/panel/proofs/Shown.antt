@@ -15,6 +15,7 @@ use Rattle.plan.specs.Plan.{Plan}
 use Rattle.plan.specs.LentLists.{planOfLists}
 use Rattle.lent.proofs.Accepted.{lists-held}
 use Rattle.layout.proofs.Theorems.{lists-accepted}
+use Rattle.network.specs.Outage.{intact}
 use Rattle.walk.specs.Walk.{complete}
 use Rattle.walk.proofs.Resume.{complete-at}
 use Rattle.walk.proofs.Valid.{plan-probable}
@@ -73,52 +74,52 @@ shown-same nodes mass a b e = step (decLe nodes 64)
 
 -- ---- what is shown of a walk
 
-pub looked : (p : Plan) (n : ℕ) (w : Walk) → WalkAt p n w → lookOf w ≡ totalsOf (capped p n)
+pub looked : (p : Plan) (n : ℕ) (w : Walk) → WalkAt intact p n w → lookOf w ≡ totalsOf (capped p n)
 looked p n w at =
     let whether : digit (leb 512 (w .at)) ≡ complete (capped p n) =
     sym (complete-at (w .header .events) (w .header .threshold) (w .events) (capped p n) (w .at) (w .stack) (at .stacked) (sym (at .ends))) in
     λ i. record { count = at .counts i; complete = whether i; mass = at .masses i }
 
-module _ (w : Walk) (n : ℕ) (at : WalkAt (walkPlan w) n w) (v x : ℕ) where
+module _ (w : Walk) (n : ℕ) (at : WalkAt intact (walkPlan w) n w) (v x : ℕ) where
   abbrev p : Plan
   p = walkPlan w
 
   few : w .header .nodes ≤ 64
   few = lists-held (w .header) 256 128 (w .links) (w .events) (lists-accepted (w .header) (w .links) (w .events) (at .valid)) .links-held .nodes-fit
 
-  own-pair : v < x → x < w .header .nodes → lookPairOf w v x ≡ boundsOf (capped p n) v x
+  own-pair : v < x → x < w .header .nodes → lookPairOf w v x ≡ boundsOf intact (capped p n) v x
   unfolding planOfLists
   own-pair l k =
       let sum = getD (w .sums) (place (w .header .nodes) v x) 0 in
-      let low : sum ≡ lowerOf (capped p n) v x = at .sums .each v x l k in
+      let low : sum ≡ lowerOf intact (capped p n) v x = at .sums .each v x l k in
       let light : w .mass ≤ whole = omega (arith, at .pending) in
       let below : sum ≤ w .mass = omega (arith, at .sums .below (place (w .header .nodes) v x), at .masses) in
-      let high : (whole - w .mass) + sum ≡ upperOf (capped p n) v x =
-      omega (arith, low, at .masses, light, upper-lower (capped p n) (plan-probable p (at .valid)) (cuts p v x)) in
+      let high : (whole - w .mass) + sum ≡ upperOf intact (capped p n) v x =
+      omega (arith, low, at .masses, light, upper-lower (capped p n) (plan-probable p (at .valid)) (cuts intact p v x)) in
       shown-true (w .header .nodes) (w .mass) sum (sym (sum-decides (w .header .nodes) (w .mass) sum few light) ∙ le-leb sum (w .mass) below)
       ∙ λ i. record { lower = low i; upper = high i }
 
-  own-answer : pairAnswer (pairTest (w .header .nodes) v x) (lookPairOf w v x) ≡ pairAnswer (pairTest (w .header .nodes) v x) (boundsOf (capped p n) v x)
+  own-answer : pairAnswer (pairTest (w .header .nodes) v x) (lookPairOf w v x) ≡ pairAnswer (pairTest (w .header .nodes) v x) (boundsOf intact (capped p n) v x)
   own-answer = step (pairTest (w .header .nodes) v x) refl
     where
-      step : (number : ℕ) → pairTest (w .header .nodes) v x ≡ number → pairAnswer number (lookPairOf w v x) ≡ pairAnswer number (boundsOf (capped p n) v x)
+      step : (number : ℕ) → pairTest (w .header .nodes) v x ≡ number → pairAnswer number (lookPairOf w v x) ≡ pairAnswer number (boundsOf intact (capped p n) v x)
       step zero e = let i = pair-inside (w .header .nodes) v x e in ap (pairAnswer 0) (own-pair (i .0) (i .1))
       step (suc number) e = refl
 
-pub looked-pair : (p : Plan) (n : ℕ) (w : Walk) → WalkAt p n w → (v x : ℕ)
-    → pairAnswer (pairTest (w .header .nodes) v x) (lookPairOf w v x) ≡ pairAnswer (pairTest (p .nodes) v x) (boundsOf (capped p n) v x)
+pub looked-pair : (p : Plan) (n : ℕ) (w : Walk) → WalkAt intact p n w → (v x : ℕ)
+    → pairAnswer (pairTest (w .header .nodes) v x) (lookPairOf w v x) ≡ pairAnswer (pairTest (p .nodes) v x) (boundsOf intact (capped p n) v x)
 unfolding planOfLists
 looked-pair p n w at v x =
     subst
-    (λ (q : Plan). WalkAt q n w
-    → pairAnswer (pairTest (w .header .nodes) v x) (lookPairOf w v x) ≡ pairAnswer (pairTest (q .nodes) v x) (boundsOf (capped q n) v x))
+    (λ (q : Plan). WalkAt intact q n w
+    → pairAnswer (pairTest (w .header .nodes) v x) (lookPairOf w v x) ≡ pairAnswer (pairTest (q .nodes) v x) (boundsOf intact (capped q n) v x))
     (at .plan)
-    (λ (here : WalkAt (walkPlan w) n w). own-answer w n here v x)
+    (λ (here : WalkAt intact (walkPlan w) n w). own-answer w n here v x)
     at
 
-pub pair-looked : (p : Plan) (n : ℕ) (w : Walk) → WalkAt p n w → (v x : ℕ) → v < x → x < p .nodes → lookPairOf w v x ≡ boundsOf (capped p n) v x
+pub pair-looked : (p : Plan) (n : ℕ) (w : Walk) → WalkAt intact p n w → (v x : ℕ) → v < x → x < p .nodes → lookPairOf w v x ≡ boundsOf intact (capped p n) v x
 unfolding planOfLists
 pair-looked p n w at v x =
-    subst (λ (q : Plan). WalkAt q n w → v < x → x < q .nodes → lookPairOf w v x ≡ boundsOf (capped q n) v x) (at .plan)
-    (λ (here : WalkAt (walkPlan w) n w). own-pair w n here v x)
+    subst (λ (q : Plan). WalkAt intact q n w → v < x → x < q .nodes → lookPairOf w v x ≡ boundsOf intact (capped q n) v x) (at .plan)
+    (λ (here : WalkAt intact (walkPlan w) n w). own-pair w n here v x)
     at

@@ -18,6 +18,7 @@ use Rattle.plan.specs.Plan.{Plan}
 use Rattle.plan.specs.LentLists.{planRefusal, planOfLists}
 use Rattle.layout.proofs.LayoutFile.{valid-none, valid-pass}
 use Rattle.layout.proofs.Theorems.{lists-accepted}
+use Rattle.network.specs.Outage.{intact}
 use Rattle.walk.specs.Ends.{End, dropped, relevant, sumEnds, scenarios, weighed}
 use Rattle.walk.specs.Walk.{planEnds, firstEnds, count, complete}
 use Rattle.walk.proofs.EndsLaws.{count-sum}
@@ -46,7 +47,7 @@ examined-few [] = omega arith
 examined-few (dropped ∷ list) = omega (arith, examined-few list)
 examined-few (relevant s m ∷ list) = omega (arith, examined-few list)
 
-own-sound : (w : Walk) (n : ℕ) → WalkAt (walkPlan w) n w → SoundWalk w
+own-sound : (w : Walk) (n : ℕ) → WalkAt intact (walkPlan w) n w → SoundWalk w
 unfolding planOfLists
 own-sound w n at =
     let p = walkPlan w in
@@ -62,14 +63,14 @@ own-sound w n at =
       below = below-pass (w .mass) (w .sums) (λ i. omega (arith, at .sums .below i, at .masses));
     }
 
-pub walk-sound : (p : Plan) (n : ℕ) (w : Walk) → WalkAt p n w → sound w ≡ true
+pub walk-sound : (p : Plan) (n : ℕ) (w : Walk) → WalkAt intact p n w → sound w ≡ true
 walk-sound p n w at =
-    subst (λ (q : Plan). WalkAt q n w → sound w ≡ true) (at .plan) (λ (here : WalkAt (walkPlan w) n w). sound-pass w (own-sound w n here)) at
+    subst (λ (q : Plan). WalkAt intact q n w → sound w ≡ true) (at .plan) (λ (here : WalkAt intact (walkPlan w) n w). sound-pass w (own-sound w n here)) at
 
 -- ---- how many ends a go-on reaches
 
 -- the ends that a walk of a plan has left under the cap, after n of them
-own-left : (w : Walk) (n : ℕ) → WalkAt (walkPlan w) n w → endsLeft w ≡ length (firstEnds (walkPlan w)) - n
+own-left : (w : Walk) (n : ℕ) → WalkAt intact (walkPlan w) n w → endsLeft w ≡ length (firstEnds (walkPlan w)) - n
 unfolding planOfLists
 own-left w n at =
     omega (
@@ -82,18 +83,18 @@ own-left w n at =
       length-take (w .header .limit) (planEnds (walkPlan w)),
     )
 
-pub walk-left : (p : Plan) (n : ℕ) (w : Walk) → WalkAt p n w → endsLeft w ≡ length (firstEnds p) - n
+pub walk-left : (p : Plan) (n : ℕ) (w : Walk) → WalkAt intact p n w → endsLeft w ≡ length (firstEnds p) - n
 walk-left p n w at =
-    subst (λ (q : Plan). WalkAt q n w → endsLeft w ≡ length (firstEnds q) - n) (at .plan) (λ (here : WalkAt (walkPlan w) n w). own-left w n here) at
+    subst (λ (q : Plan). WalkAt intact q n w → endsLeft w ≡ length (firstEnds q) - n) (at .plan) (λ (here : WalkAt intact (walkPlan w) n w). own-left w n here) at
 
 -- "exactly the smallest of k, the ends the walk still has under the plan's cap, and what the quota still holds"
-pub reaches : (p : Plan) (n : ℕ) (w : Walk) (quota : Quota) (k : ℕ) (r : GoneOn) → WalkAt p n w → WentOn w quota k r
+pub reaches : (p : Plan) (n : ℕ) (w : Walk) (quota : Quota) (k : ℕ) (r : GoneOn) → WalkAt intact p n w → WentOn w quota k r
     → r .reached ≡ min (min k (length (firstEnds p) - n)) (quota .left)
 reaches p n w quota k r at went =
     went .reached ∙ ap (λ (x : ℕ). min x (quota .left)) (wanted-sound w k (walk-sound p n w at) ∙ ap (min k) (walk-left p n w at))
 
 -- "A call on an ended walk, or with k = 0, changes nothing", also where the quota is empty
-pub nothing-to-reach : (p : Plan) (n : ℕ) (w : Walk) (quota : Quota) (k : ℕ) (r : GoneOn) → WalkAt p n w → WentOn w quota k r
+pub nothing-to-reach : (p : Plan) (n : ℕ) (w : Walk) (quota : Quota) (k : ℕ) (r : GoneOn) → WalkAt intact p n w → WentOn w quota k r
     → (k ≡ 0) ⊎ (length (firstEnds p) ≤ n) → (r .number ≡ 0) × (r .reached ≡ 0) × (r .walk ≡ w) × (r .quota .left ≡ quota .left)
 nothing-to-reach p n w quota k r at went why =
     let none : endsWanted w k ≡ 0 = wanted-sound w k (walk-sound p n w at) ∙ ap (min k) (walk-left p n w at) ∙ smaller why in
@@ -105,7 +106,7 @@ nothing-to-reach p n w quota k r at went why =
     smaller (inr e) = omega arith
 
 -- "after those two cases, 19 where the quota is empty, the walk and bounds left unchanged"
-pub quota-empty : (p : Plan) (n : ℕ) (w : Walk) (quota : Quota) (k : ℕ) (r : GoneOn) → WalkAt p n w → WentOn w quota k r
+pub quota-empty : (p : Plan) (n : ℕ) (w : Walk) (quota : Quota) (k : ℕ) (r : GoneOn) → WalkAt intact p n w → WentOn w quota k r
     → 0 < k → n < length (firstEnds p) → quota .left ≡ 0 → (r .number ≡ 19) × (r .reached ≡ 0) × (r .walk ≡ w) × (r .quota .left ≡ 0)
 quota-empty p n w quota k r at went some more empty =
     let wanted : endsWanted w k ≡ min k (length (firstEnds p) - n) =
@@ -140,34 +141,34 @@ capped-valid p n e some under =
 -- ---- lists of go-on calls
 
 module _ (p : Plan) where
-  one-call : (on : On) (n : ℕ) (w : Walk) (quota : Quota) (k : ℕ) (answer : GoneOn) → WalkAt p n w → WentOn (madeOn on w) quota k answer
-      → WalkAt p (n + ownEnds on answer) (walkAfter on answer w)
+  one-call : (on : On) (n : ℕ) (w : Walk) (quota : Quota) (k : ℕ) (answer : GoneOn) → WalkAt intact p n w → WentOn (madeOn on w) quota k answer
+      → WalkAt intact p (n + ownEnds on answer) (walkAfter on answer w)
   one-call own n w quota k answer at went = went .moved p n at
-  one-call (other v) n w quota k answer at went = let same : n ≡ n + 0 = omega arith in subst (λ (x : ℕ). WalkAt p x w) same at
+  one-call (other v) n w quota k answer at went = let same : n ≡ n + 0 = omega arith in subst (λ (x : ℕ). WalkAt intact p x w) same at
 
   -- the walk after a list of calls is the one at the sum of the ends that they reached of it, and the quota is less by all ends that they reached
-  pub after-calls : (n : ℕ) (w : Walk) (quota : Quota) (calls : List Call) → WalkAt p n w → Answered w quota calls
-      → WalkAt p (n + endsOfWalk calls) (lastWalk w calls) × (lastQuota quota calls .left + endsOfAll calls ≡ quota .left)
+  pub after-calls : (n : ℕ) (w : Walk) (quota : Quota) (calls : List Call) → WalkAt intact p n w → Answered w quota calls
+      → WalkAt intact p (n + endsOfWalk calls) (lastWalk w calls) × (lastQuota quota calls .left + endsOfAll calls ≡ quota .left)
   after-calls n w quota [] at answered =
-      let same : n ≡ n + 0 = omega arith in (subst (λ (x : ℕ). WalkAt p x w) same at, omega arith)
+      let same : n ≡ n + 0 = omega arith in (subst (λ (x : ℕ). WalkAt intact p x w) same at, omega arith)
   after-calls n w quota (c ∷ calls) at answered =
       let next = one-call (c .on) n w quota (c .ends) (c .answer) at (answered .0) in
       let rest = after-calls (n + ownEnds (c .on) (c .answer)) (walkAfter (c .on) (c .answer) w) (c .answer .quota) calls next (answered .1) in
       let same : n + ownEnds (c .on) (c .answer) + endsOfWalk calls ≡ n + (ownEnds (c .on) (c .answer) + endsOfWalk calls) = omega arith in (
-        subst (λ (x : ℕ). WalkAt p x (lastWalk (walkAfter (c .on) (c .answer) w) calls)) same (rest .0),
+        subst (λ (x : ℕ). WalkAt intact p x (lastWalk (walkAfter (c .on) (c .answer) w) calls)) same (rest .0),
         omega (arith, rest .1, answered .0 .drawn),
       )
 
   -- "After every list of go-on calls on a walk, the bounds, count, complete flag and E equal those of a run whose cap is the number of ends
   -- reached so far", and the quota is 10,000,000 less all ends that all of them reached since power-up
-  pub since-power-up : (w : Walk) (calls : List Call) → WalkAt p 0 w → Answered w fullQuota calls
+  pub since-power-up : (w : Walk) (calls : List Call) → WalkAt intact p 0 w → Answered w fullQuota calls
       → (lookOf (lastWalk w calls) ≡ totalsOf (capped p (endsOfWalk calls)))
-      × ((v x : ℕ) → v < x → x < p .nodes → lookPairOf (lastWalk w calls) v x ≡ boundsOf (capped p (endsOfWalk calls)) v x)
+      × ((v x : ℕ) → v < x → x < p .nodes → lookPairOf (lastWalk w calls) v x ≡ boundsOf intact (capped p (endsOfWalk calls)) v x)
       × (lastQuota fullQuota calls .left + endsOfAll calls ≡ 10000000)
   since-power-up w calls at answered =
       let all = after-calls 0 w fullQuota calls at answered in
       let same : 0 + endsOfWalk calls ≡ endsOfWalk calls = omega arith in
-      let here = subst (λ (x : ℕ). WalkAt p x (lastWalk w calls)) same (all .0) in (
+      let here = subst (λ (x : ℕ). WalkAt intact p x (lastWalk w calls)) same (all .0) in (
         looked p (endsOfWalk calls) (lastWalk w calls) here,
         pair-looked p (endsOfWalk calls) (lastWalk w calls) here,
         all .1,
@@ -175,7 +176,7 @@ module _ (p : Plan) where
 
   -- "at 0 ends all are 0 but the upper bounds, which are 10^18"
   pub none-yet : (v x : ℕ)
-      → (totalsOf (capped p 0) ≡ record { count = 0; complete = 0; mass = 0 }) × (boundsOf (capped p 0) v x ≡ record { lower = 0; upper = whole })
+      → (totalsOf (capped p 0) ≡ record { count = 0; complete = 0; mass = 0 }) × (boundsOf intact (capped p 0) v x ≡ record { lower = 0; upper = whole })
   none-yet v x =
       let some = ends-some (p .threshold) whole (p .events) in
       (λ i. record { count = 0; complete = digit (lt-leb (length (planEnds p)) 0 some i); mass = 0 }, refl)
@@ -203,31 +204,31 @@ module _ (p : Plan) where
     same-totals =
         λ i. record { count = length (scenarios (same-ends i)); complete = same-complete i; mass = sumEnds (λ s x. x) (same-ends i) }
 
-    same-bounds : (v x : ℕ) → boundsOf (capped p m) v x ≡ boundsOf p v x
+    same-bounds : (v x : ℕ) → boundsOf intact (capped p m) v x ≡ boundsOf intact p v x
     same-bounds v x =
         λ i.
         record {
-          lower = weighed (λ s. digit (cuts p v x s)) (same-ends i);
-          upper = whole - weighed (λ s. digit (not (cuts p v x s))) (same-ends i);
+          lower = weighed (λ s. digit (cuts intact p v x s)) (same-ends i);
+          upper = whole - weighed (λ s. digit (not (cuts intact p v x s))) (same-ends i);
         }
 
   -- law: after a begin and one go-on with k = cap and enough quota, looks show what the run gives
-  pub run-in-steps : (w : Walk) (quota : Quota) (r : GoneOn) → WalkAt p 0 w → p .limit ≤ quota .left → WentOn w quota (p .limit) r
+  pub run-in-steps : (w : Walk) (quota : Quota) (r : GoneOn) → WalkAt intact p 0 w → p .limit ≤ quota .left → WentOn w quota (p .limit) r
       → (r .number ≡ 0) × (lookOf (r .walk) ≡ totalsOf p)
-      × ((v x : ℕ) → v < x → x < p .nodes → lookPairOf (r .walk) v x ≡ boundsOf p v x)
+      × ((v x : ℕ) → v < x → x < p .nodes → lookPairOf (r .walk) v x ≡ boundsOf intact p v x)
   run-in-steps w quota r at enough went =
       let all : r .reached ≡ length (firstEnds p) =
       omega (arith, reaches p 0 w quota (p .limit) r at went, length-take (p .limit) (planEnds p)) in
       let same : 0 + r .reached ≡ r .reached = omega arith in
-      let here = subst (λ (x : ℕ). WalkAt p x (r .walk)) same (went .moved p 0 at) in (
+      let here = subst (λ (x : ℕ). WalkAt intact p x (r .walk)) same (went .moved p 0 at) in (
         went .number ∙ not-empty w quota (p .limit) (omega (arith, cap-range p (at .valid) .0)),
         looked p (r .reached) (r .walk) here ∙ same-totals (r .reached) all,
         λ v x l k. pair-looked p (r .reached) (r .walk) here v x l k ∙ same-bounds (r .reached) all v x,
       )
 
   -- DEMAND 3 after any number of ends: the exact sum lies between the two bounds that a look shows, for the plan with that cap
-  pub look-encloses : (n : ℕ) (w : Walk) → WalkAt p n w → 1 ≤ n → (v x : ℕ) → v < x → x < p .nodes
-      → Encloses (capped p n) v x (lookPairOf w v x .lower) (lookPairOf w v x .upper) (lookOf w .count)
+  pub look-encloses : (n : ℕ) (w : Walk) → WalkAt intact p n w → 1 ≤ n → (v x : ℕ) → v < x → x < p .nodes
+      → Encloses intact (capped p n) v x (lookPairOf w v x .lower) (lookPairOf w v x .upper) (lookOf w .count)
   look-encloses n w at some v x l k =
       let pair = pair-looked p n w at v x l k in
-      rw (pair, looked p n w at) (enclosed (capped p n) (capped-valid p n (at .valid) some (at .under-cap)) v x)
+      rw (pair, looked p n w at) (enclosed intact (capped p n) (capped-valid p n (at .valid) some (at .under-cap)) v x)

@@ -13,6 +13,7 @@ use lib.ListN.{length}
 use Rattle.mass.proofs.RefusalLaws.{refuse-none}
 use Rattle.sets.proofs.Bools.{which, so-unless}
 use Rattle.plan.specs.Plan.{Plan}
+use Rattle.network.specs.Outage.{intact}
 use Rattle.walk.specs.Stack.{toCome}
 use Rattle.walk.proofs.Resume.{none-to-come, some-to-come}
 use Rattle.walk_state.specs.Sound.{sound}
@@ -136,8 +137,8 @@ module _ (w : Walk) (quota : Quota) (k : ℕ) where
       step (no none) = number-none (omega arith)
 
   -- no end more
-  still : (p : Plan) (n : ℕ) → WalkAt p n w → WalkAt p (n + 0) w
-  still p n at = let same : n ≡ n + 0 = omega arith in subst (λ (x : ℕ). WalkAt p x w) same at
+  still : (p : Plan) (n : ℕ) → WalkAt intact p n w → WalkAt intact p (n + 0) w
+  still p n at = let same : n ≡ n + 0 = omega arith in subst (λ (x : ℕ). WalkAt intact p x w) same at
 
   -- nothing is to be reached
   pub none-wanted : endsWanted w k ≡ 0 → WentOn w quota k (record { number = 0; reached = 0; walk = w; quota = quota })
@@ -204,5 +205,5 @@ module _ (w : Walk) (quota : Quota) (k : ℕ) (size : length (w .stack) ≡ 512)
           reached = got ∙ reached-is;
           drawn = put-back (quota .left) (r .reached - w .reached) in-quota;
           unmoved = λ (z : r .reached - w .reached ≡ 0). absurd (omega (arith, got, some, o .some));
-          moved = λ p n at. subst (λ (x : ℕ). WalkAt p (n + x) r) (sym got) (on .moved p n at);
+          moved = λ p n at. subst (λ (x : ℕ). WalkAt intact p (n + x) r) (sym got) (on .moved p n at);
         }

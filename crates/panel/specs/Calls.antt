@@ -9,6 +9,7 @@ use Rattle.mass.specs.Refusal.{refuse}
 use Rattle.mass.specs.Split.{whole}
 use Rattle.sets.specs.Sets.{digit}
 use Rattle.plan.specs.Plan.{Plan}
+use Rattle.network.specs.Outage.{intact}
 use Rattle.pairs.specs.Pairs.{place}
 use Rattle.bounds.specs.declared.Totals.{Totals}
 use Rattle.bounds.specs.declared.PairBounds.{PairBounds}
@@ -43,7 +44,7 @@ pub record WentOn (w : Walk) (quota : Quota) (k : ℕ) (r : GoneOn) : Type 0 whe
   pub reached : r .reached ≡ min (endsWanted w k) (quota .left)
   pub drawn : r .quota .left + r .reached ≡ quota .left
   pub unmoved : r .reached ≡ 0 → r .walk ≡ w
-  pub moved : (p : Plan) (n : ℕ) → WalkAt p n w → WalkAt p (n + r .reached) (r .walk)
+  pub moved : (p : Plan) (n : ℕ) → WalkAt intact p n w → WalkAt intact p (n + r .reached) (r .walk)
 
 -- what a look shows: the count, whether the stack is empty (1 or 0), and E
 abbrev pub lookOf : Walk → Totals

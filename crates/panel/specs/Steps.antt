@@ -6,6 +6,7 @@ use Prim.Native.Nat.{ℕ, _+_, _-_, min}
 use lib.Dec.{ltb}
 use lib.ListN.{length}
 use Rattle.plan.specs.Plan.{Plan}
+use Rattle.network.specs.Outage.{intact}
 use Rattle.walk_state.specs.Sound.{sound}
 use Rattle.walk_state.specs.declared.Walk.{Walk}
 use Rattle.panel.specs.Walks.{endsToCome, WalkAt}
@@ -21,4 +22,4 @@ endsThere w allowed = min allowed (length (endsToCome w))
 -- a walk gone on with for at most so many ends as are allowed
 pub record WalkedOn (w : Walk) (allowed : ℕ) (r : Walk) : Type 0 where
   pub reached : r .reached ≡ w .reached + endsThere w allowed
-  pub moved : (p : Plan) (n : ℕ) → WalkAt p n w → WalkAt p (n + endsThere w allowed) r
+  pub moved : (p : Plan) (n : ℕ) → WalkAt intact p n w → WalkAt intact p (n + endsThere w allowed) r

@@ -1,4 +1,5 @@
 -- A walk in steps: document 02, request U4. What it means that a walk has reached so many ends of a plan.
+-- `out` is what is out before the first event (document 02, request U7).
 -- Assumes nothing.
 use mathlib.Core.Path.{_≡_}
 use mathlib.Core.List.{List, [], _∷_}
@@ -9,6 +10,7 @@ use Rattle.mass.specs.Split.{whole}
 use Rattle.plan.specs.Plan.{Plan}
 use Rattle.plan.specs.LentLists.{planRefusal, planOfLists}
 use Rattle.plan.specs.declared.Header.{Header}
+use Rattle.network.specs.Outage.{Outage}
 use Rattle.walk.specs.Ends.{End}
 use Rattle.walk.specs.Walk.{planEnds, count, massExamined}
 use Rattle.walk.specs.Stack.{Stack, toCome, pendingMass}
@@ -33,7 +35,7 @@ endsLeft w = min (w .header .limit - w .reached) (length (endsToCome w))
 
 -- w is a walk of the plan p that has reached its first r ends: the others are to come, and what it has so far is that of the plan with
 -- cap r
-pub record WalkAt (p : Plan) (r : ℕ) (w : Walk) : Type 0 where
+pub record WalkAt (out : Outage) (p : Plan) (r : ℕ) (w : Walk) : Type 0 where
   pub plan : walkPlan w ≡ p
   pub valid : planRefusal p ≡ 0
   pub reached : w .reached ≡ r
@@ -43,7 +45,7 @@ pub record WalkAt (p : Plan) (r : ℕ) (w : Walk) : Type 0 where
   pub ends : endsToCome w ≡ drop r (planEnds p)
   pub counts : w .count ≡ count (capped p r)
   pub masses : w .mass ≡ massExamined (capped p r)
-  pub sums : Summed (capped p r) (p .nodes) (w .sums)
+  pub sums : Summed out (capped p r) (p .nodes) (w .sums)
   pub pending : w .mass + pendingMass (drop (w .at) (w .stack)) ≤ whole
 
 -- the walk that begins: the lists of its plan are copied, the root (no event decided, one whole) is the only entry of the stack, and

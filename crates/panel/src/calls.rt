@@ -11,6 +11,7 @@ ghost use mathlib.Core.Path.{_≡_};
 ghost use mathlib.Core.Bool.{true};
 ghost use Prim.Native.Nat.{_+_, _≤_, min};
 ghost use Rattle.plan.specs.LentLists.{planOfLists, listsNumber};
+ghost use Rattle.network.specs.Outage.{intact};
 ghost use Rattle.walk_state.specs.Sound.{sound};
 ghost use Rattle.walk_state.specs.States.{walkAnswer};
 ghost use Rattle.panel.specs.Walks.{WalkAt, rootWalk};
@@ -22,7 +23,7 @@ pub fn begin(h: Header, links: &[u8], events: &[u64]) -> WalkAnswer
     ensures answer { λ r. ⌜ r ≡ walkAnswer (listsNumber h (now (links .entry)) (now (events .entry)))
         (rootWalk h (now (links .entry)) (now (events .entry))) ⌝ }
     ensures begun { λ r. ⌜ (listsNumber h (now (links .entry)) (now (events .entry)) ≡ 0
-        → WalkAt (planOfLists h (now (links .entry)) (now (events .entry))) 0 (r .walk)) ⌝ }
+        → WalkAt intact (planOfLists h (now (links .entry)) (now (events .entry))) 0 (r .walk)) ⌝ }
 {
     let mut bytes = [0u8; 256];
     let mut words = [0u64; 512];
@@ -121,7 +122,16 @@ fn reach(w: Walk, allowed: u64) -> Walk
         number: w.count,
         mass: w.mass,
     };
-    let r = bounds::go_on(h, &links, &events, &table, &mut stack, &mut sums, so_far);
+    let r = bounds::go_on(
+        h,
+        &links,
+        &events,
+        &table,
+        network::Failed::NONE,
+        &mut stack,
+        &mut sums,
+        so_far,
+    );
     Walk {
         header: h,
         links,

@@ -9,6 +9,7 @@ ghost use mathlib.Core.Path.{_≡_};
 ghost use Prim.Native.Nat.{ℕ, _≤_, _<_};
 ghost use lib.ListN.{getD};
 ghost use Rattle.plan.specs.Plan.{Plan};
+ghost use Rattle.network.specs.Outage.{intact};
 ghost use Rattle.pairs.specs.Pairs.{place, pairTest};
 ghost use Rattle.bounds.specs.Calls.{totalsOf, boundsOf, pairAnswer};
 ghost use Rattle.panel.specs.Walks.{capped, WalkAt};
@@ -17,7 +18,7 @@ ghost use Rattle.panel.specs.Calls.{lookOf, mayShow, boundsShown, lookPa
 // The count, complete and E of a walk.
 pub fn look(w: Walk) -> Totals
     ensures answer { λ r. ⌜ r ≡ lookOf w ⌝ }
-    ensures shown { λ r. ⌜ ((p : Plan) (n : ℕ) → WalkAt p n w → r ≡ totalsOf (capped p n)) ⌝ }
+    ensures shown { λ r. ⌜ ((p : Plan) (n : ℕ) → WalkAt intact p n w → r ≡ totalsOf (capped p n)) ⌝ }
 {
     Totals {
         count: w.count,
@@ -69,7 +70,7 @@ fn sum_of(nodes: u64, sums: &[u64; 2016], v: u64, x: u64) -> u64
 // The bounds of a pair of a walk.
 pub fn look_pair(w: Walk, v: u64, x: u64) -> Paired
     ensures answer { λ r. ⌜ r ≡ pairAnswer (pairTest (w .header .nodes) v x) (lookPairOf w v x) ⌝ }
-    ensures shown { λ r. ⌜ ((p : Plan) (n : ℕ) → WalkAt p n w → r ≡ pairAnswer (pairTest (p .nodes) v x) (boundsOf (capped p n) v x)) ⌝ }
+    ensures shown { λ r. ⌜ ((p : Plan) (n : ℕ) → WalkAt intact p n w → r ≡ pairAnswer (pairTest (p .nodes) v x) (boundsOf intact (capped p n) v x)) ⌝ }
 {
     let nodes = w.header.nodes;
     let wrong = pair_test(nodes, v, x);

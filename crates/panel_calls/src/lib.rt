@@ -18,6 +18,7 @@ ghost use Prim.Native.Nat.{_≤_, _<_};
 ghost use lib.ListN.{length, getD};
 ghost use Rattle.plan.specs.LentLists.{planOfLists};
 ghost use Rattle.plan.specs.Calls.{filled};
+ghost use Rattle.network.specs.Outage.{intact};
 ghost use Rattle.bounds.specs.Calls.{ranAnswer, pairAnswer};
 ghost use Rattle.panel.specs.Walks.{WalkAt, rootWalk};
 ghost use Rattle.panel.specs.Calls.{lookOf, lookPairOf};
@@ -33,7 +34,7 @@ pub fn begin(h: Header, links: &[u8], events: &[u64], state: &mut [u64]) -> u32
     ensures state { λ r. ⌜ now (state .exit) ≡ filled r (walkWords
         (rootWalk h (now (links .entry)) (now (events .entry)))) (now (state .entry)) ⌝ }
     ensures begun { λ r. ⌜ (r ≡ 0
-        → WalkAt (planOfLists h (now (links .entry)) (now (events .entry))) 0 (walkOf (now (state .exit)))) ⌝ }
+        → WalkAt intact (planOfLists h (now (links .entry)) (now (events .entry))) 0 (walkOf (now (state .exit)))) ⌝ }
 {
     let r = panel::begin(h, links, events);
     let number = r.number;

@@ -3,6 +3,7 @@ ghost use mathlib.Core.Path.{_≡_};
 ghost use lib.ListN.{length};
 ghost use Rattle.plan.specs.File.{planOf};
 ghost use Rattle.plan.specs.Calls.{filled, writeAnswer};
+ghost use Rattle.network.specs.Outage.{intact};
 ghost use Rattle.bounds.specs.Bounds.{lowerList, upperList};
 ghost use Rattle.bounds.specs.Calls.{totalsOf, ranAnswer};
 ghost use Rattle.copying.specs.Copying.{copyRefusal};
@@ -18,8 +19,8 @@ pub extern "C" fn probe_run_plan(
     result: &mut [u64],
 ) -> u32
     ensures number { λ r. ⌜ r ≡ fileNumber (now (plan .entry)) (now (lower .entry)) (now (upper .entry)) ⌝ }
-    ensures lowers { λ r. ⌜ now (lower .exit) ≡ filled r (lowerList (planOf (now (plan .entry)))) (now (lower .entry)) ⌝ }
-    ensures uppers { λ r. ⌜ now (upper .exit) ≡ filled r (upperList (planOf (now (plan .entry)))) (now (upper .entry)) ⌝ }
+    ensures lowers { λ r. ⌜ now (lower .exit) ≡ filled r (lowerList intact (planOf (now (plan .entry)))) (now (lower .entry)) ⌝ }
+    ensures uppers { λ r. ⌜ now (upper .exit) ≡ filled r (upperList intact (planOf (now (plan .entry)))) (now (upper .entry)) ⌝ }
     ensures result { λ r. ⌜ now (result .exit) ≡ laid
         (totalsValues (ranAnswer r (totalsOf (planOf (now (plan .entry)))))) (now (result .entry)) ⌝ }
 {

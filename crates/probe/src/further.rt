@@ -2,6 +2,7 @@
 use crate::header;
 ghost use mathlib.Core.Path.{_≡_};
 ghost use Rattle.plan.specs.LentLists.{planOfLists};
+ghost use Rattle.network.specs.Outage.{intact};
 ghost use Rattle.bounds.specs.Calls.{pairNumber};
 ghost use Rattle.readings.specs.Figure.{figureOf};
 ghost use Rattle.readings.specs.Witness.{witnessNumber, witnessOf};
@@ -26,7 +27,7 @@ pub extern "C" fn probe_figure(
 ) -> u32
     ensures number { λ r. ⌜ r ≡ pairNumber (headerWith nodes «links_count» «events_count» threshold limit)
         (now (links .entry)) (now (events .entry)) v w ⌝ }
-    ensures bits { λ r. ⌜ now (bits .exit) ≡ laid (figureValues (figureOf r
+    ensures bits { λ r. ⌜ now (bits .exit) ≡ laid (figureValues (figureOf intact r
         (planOfLists (headerWith nodes «links_count» «events_count» threshold limit) (now (links .entry)) (now (events .entry))) v w))
         (now (bits .entry)) ⌝ }
 {
@@ -47,9 +48,9 @@ pub extern "C" fn probe_witness(
     w: u64,
     result: &mut [u64],
 ) -> u32
-    ensures number { λ r. ⌜ r ≡ witnessNumber (headerWith nodes «links_count» «events_count» threshold limit)
+    ensures number { λ r. ⌜ r ≡ witnessNumber intact (headerWith nodes «links_count» «events_count» threshold limit)
         (now (links .entry)) (now (events .entry)) v w ⌝ }
-    ensures result { λ r. ⌜ now (result .exit) ≡ laid (failingValues (witnessOf
+    ensures result { λ r. ⌜ now (result .exit) ≡ laid (failingValues (witnessOf intact
         (headerWith nodes «links_count» «events_count» threshold limit) (now (links .entry)) (now (events .entry)) v w))
         (now (result .entry)) ⌝ }
 {
@@ -84,7 +85,7 @@ pub extern "C" fn probe_credit(
 ) -> u32
     ensures number { λ r. ⌜ r ≡ creditNumber (headerWith nodes «links_count» «events_count» threshold limit)
         (now (links .entry)) (now (events .entry)) v w fee «limit_seconds» rate ⌝ }
-    ensures result { λ r. ⌜ now (result .exit) ≡ laid (creditsValues (creditOf
+    ensures result { λ r. ⌜ now (result .exit) ≡ laid (creditsValues (creditOf intact
         (headerWith nodes «links_count» «events_count» threshold limit) (now (links .entry)) (now (events .entry)) v w
         fee «limit_seconds» rate)) (now (result .entry)) ⌝ }
 {

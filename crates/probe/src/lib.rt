@@ -8,6 +8,7 @@ mod further;
 mod list;
 mod reach;
 mod walks;
+mod work;
 
 use plan::Header;
 ghost use mathlib.Core.Path.{_≡_};
@@ -18,6 +19,7 @@ ghost use Rattle.plan.specs.Layout.{layout};
 ghost use Rattle.plan.specs.Lists.{linkBytes, eventWords};
 ghost use Rattle.plan.specs.LentLists.{planOfLists};
 ghost use Rattle.plan.specs.Calls.{filled, headerOf, readRefusal, readAnswer, writeRefusal, writeAnswer};
+ghost use Rattle.network.specs.Outage.{intact};
 ghost use Rattle.bounds.specs.Bounds.{lowerList, upperList};
 ghost use Rattle.bounds.specs.Calls.{totalsOf, ranAnswer, runNumber, boundsOf, pairAnswer, pairNumber};
 ghost use Rattle.answers.specs.Laid.{laid};
@@ -100,10 +102,10 @@ pub extern "C" fn probe_run(
 ) -> u32
     ensures number { λ r. ⌜ r ≡ runNumber (headerWith nodes «links_count» «events_count» threshold limit)
         (now (links .entry)) (now (events .entry)) (now (lower .entry)) (now (upper .entry)) ⌝ }
-    ensures lowers { λ r. ⌜ now (lower .exit) ≡ filled r (lowerList
+    ensures lowers { λ r. ⌜ now (lower .exit) ≡ filled r (lowerList intact
         (planOfLists (headerWith nodes «links_count» «events_count» threshold limit) (now (links .entry)) (now (events .entry))))
         (now (lower .entry)) ⌝ }
-    ensures uppers { λ r. ⌜ now (upper .exit) ≡ filled r (upperList
+    ensures uppers { λ r. ⌜ now (upper .exit) ≡ filled r (upperList intact
         (planOfLists (headerWith nodes «links_count» «events_count» threshold limit) (now (links .entry)) (now (events .entry))))
         (now (upper .entry)) ⌝ }
     ensures result { λ r. ⌜ now (result .exit) ≡ laid (totalsValues (ranAnswer r (totalsOf
@@ -129,7 +131,7 @@ pub extern "C" fn probe_pair(
 ) -> u32
     ensures number { λ r. ⌜ r ≡ pairNumber (headerWith nodes «links_count» «events_count» threshold limit)
         (now (links .entry)) (now (events .entry)) v w ⌝ }
-    ensures result { λ r. ⌜ now (result .exit) ≡ laid (boundsValues (pairAnswer r (boundsOf
+    ensures result { λ r. ⌜ now (result .exit) ≡ laid (boundsValues (pairAnswer r (boundsOf intact
         (planOfLists (headerWith nodes «links_count» «events_count» threshold limit) (now (links .entry)) (now (events .entry))) v w)))
         (now (result .entry)) ⌝ }
 {

@@ -7,6 +7,7 @@ ghost use Rattle.topology_list.specs.Calls.{topologyListIn, topologiesNumber, l
 ghost use Rattle.answers.specs.Laid.{laid};
 ghost use Rattle.answers.specs.Answers.{headerWith};
 ghost use Rattle.further_answers.specs.FurtherAnswers.{entriesValues};
+ghost use Rattle.network.specs.Outage.{intact};
 
 #[no_mangle]
 pub extern "C" fn probe_topologies(
@@ -20,11 +21,11 @@ pub extern "C" fn probe_topologies(
     list: &mut [u64],
     result: &mut [u64],
 ) -> u32
-    ensures number { λ r. ⌜ r ≡ topologiesNumber (headerWith nodes «links_count» «events_count» threshold limit)
+    ensures number { λ r. ⌜ r ≡ topologiesNumber intact (headerWith nodes «links_count» «events_count» threshold limit)
         (now (links .entry)) (now (events .entry)) (now (list .entry)) ⌝ }
-    ensures list { λ r. ⌜ now (list .exit) ≡ listAfter (headerWith nodes «links_count» «events_count» threshold limit)
+    ensures list { λ r. ⌜ now (list .exit) ≡ listAfter intact (headerWith nodes «links_count» «events_count» threshold limit)
         (length (now (links .entry))) (length (now (events .entry)) / 4) (now (links .entry)) (now (events .entry)) (now (list .entry)) ⌝ }
-    ensures result { λ r. ⌜ now (result .exit) ≡ laid (entriesValues (listedAnswer r (length (topologyListIn
+    ensures result { λ r. ⌜ now (result .exit) ≡ laid (entriesValues (listedAnswer r (length (topologyListIn intact
         (headerWith nodes «links_count» «events_count» threshold limit)
         (now (links .entry)) (now (events .entry)) (now (list .entry)) .entries)))) (now (result .entry)) ⌝ }
 {

@@ -5,6 +5,7 @@ ghost use Prim.Native.Nat.{_≤_, _<_};
 ghost use lib.ListN.{length};
 ghost use Rattle.plan.specs.LentLists.{planOfLists};
 ghost use Rattle.plan.specs.Calls.{filled};
+ghost use Rattle.network.specs.Outage.{intact};
 ghost use Rattle.bounds.specs.Calls.{ranAnswer, pairAnswer};
 ghost use Rattle.panel.specs.Walks.{WalkAt, rootWalk};
 ghost use Rattle.panel.specs.Calls.{lookOf, lookPairOf};
@@ -36,7 +37,7 @@ pub extern "C" fn probe_begin(
     ensures state { λ r. ⌜ now (state .exit) ≡ filled r (walkWords (rootWalk
         (headerWith nodes «links_count» «events_count» threshold limit) (now (links .entry)) (now (events .entry))))
         (now (state .entry)) ⌝ }
-    ensures begun { λ r. ⌜ (r ≡ 0 → WalkAt (planOfLists
+    ensures begun { λ r. ⌜ (r ≡ 0 → WalkAt intact (planOfLists
         (headerWith nodes «links_count» «events_count» threshold limit) (now (links .entry)) (now (events .entry))) 0
         (walkOf (now (state .exit)))) ⌝ }
 {

@@ -11,6 +11,7 @@ use Rattle.mass.specs.Split.{whole, massTest}
 use Rattle.mass.proofs.RefusalLaws.{first-skip}
 use Rattle.plan.specs.Plan.{Plan}
 use Rattle.plan.specs.LentLists.{planRefusal}
+use Rattle.network.specs.Outage.{Outage}
 use Rattle.walk.proofs.Valid.{plan-probable}
 use Rattle.sums.proofs.BoundsLaws.{lower-upper, upper-le}
 use Rattle.bounds.specs.Bounds.{cuts, lowerOf, upperOf}
@@ -32,9 +33,9 @@ unfolding first
 none-refused lower upper e f = rw (first-skip (massTest lower) _ e, first-skip (massTest upper) _ f)
 
 -- nor are the bounds of a pair
-pub bounds-fit : (p : Plan) → planRefusal p ≡ 0 → (v w : ℕ) → downtimeRefusal (lowerOf p v w) (upperOf p v w) ≡ 0
-bounds-fit p valid v w =
+pub bounds-fit : (out : Outage) (p : Plan) → planRefusal p ≡ 0 → (v w : ℕ) → downtimeRefusal (lowerOf out p v w) (upperOf out p v w) ≡ 0
+bounds-fit out p valid v w =
     let probable = plan-probable p valid in
-    let least : lowerOf p v w ≤ upperOf p v w = lower-upper p probable (cuts p v w) in
-    let most : upperOf p v w ≤ whole = upper-le p probable (cuts p v w) in
-    none-refused (lowerOf p v w) (upperOf p v w) (fits (lowerOf p v w) (omega arith)) (fits (upperOf p v w) most)
+    let least : lowerOf out p v w ≤ upperOf out p v w = lower-upper p probable (cuts out p v w) in
+    let most : upperOf out p v w ≤ whole = upper-le p probable (cuts out p v w) in
+    none-refused (lowerOf out p v w) (upperOf out p v w) (fits (lowerOf out p v w) (omega arith)) (fits (upperOf out p v w) most)

@@ -11,6 +11,7 @@ use Rattle.mass.specs.Split.{certain, whole}
 use Rattle.plan.specs.Plan.{Plan}
 use Rattle.plan.specs.LentLists.{planOfLists}
 use Rattle.plan.specs.declared.Header.{Header}
+use Rattle.network.specs.Outage.{intact}
 use Rattle.walk.specs.Walk.{massExamined}
 use Rattle.bounds.specs.Bounds.{lowerOf}
 use Rattle.bounds.specs.Calls.{pairNumber, pairAnswer, boundsOf}
@@ -73,14 +74,14 @@ figure-refuses number zero examined s e k = absurd (k refl)
 figure-refuses number (suc n) examined s e k = ap (λ (x : ℕ). figureAnswer x examined s) e
 
 module _ (h : Header) (links events : List ℕ) (v w : ℕ) (r : Paired)
-    (told : r ≡ pairAnswer (pairNumber h links events v w) (boundsOf (planOfLists h links events) v w)) where
+    (told : r ≡ pairAnswer (pairNumber h links events v w) (boundsOf intact (planOfLists h links events) v w)) where
   abbrev p : Plan
   p = planOfLists h links events
 
   abbrev number : ℕ
   number = pairNumber h links events v w
 
-  pub refused-told : (n : ℕ) → r ≡ paired.Refused n → (figured.Refused n ≡ figureOf number p v w) × Numbers (floatsIn (figured.Refused n))
+  pub refused-told : (n : ℕ) → r ≡ paired.Refused n → (figured.Refused n ≡ figureOf intact number p v w) × Numbers (floatsIn (figured.Refused n))
   refused-told n e =
       let k = pair-told.refused-told h links events v w r told n e in
       (figure-refuses number n (massExamined p) _ (k .0) (k .1), (float-number 0, (float-number 0, tt)))
@@ -92,20 +93,20 @@ module _ (h : Header) (links events : List ℕ) (v w : ℕ) (r : Paired)
     -- upper + E = lower + 10^18
     pub examined-is : b .lower + (whole - b .upper) ≡ massExamined p
     examined-is =
-        omega (arith, known .upper-fits, known .lower-is, known .upper-is, raised p (known .valid) v w, mass-most p (known .valid))
+        omega (arith, known .upper-fits, known .lower-is, known .upper-is, raised intact p (known .valid) v w, mass-most p (known .valid))
 
     pub examined-fits : b .lower + (whole - b .upper) ≤ whole
     examined-fits = omega (arith, examined-is, mass-most p (known .valid))
 
     pub given-told : (f : Figured) (lower examined : ℕ) → lower ≡ b .lower → examined ≡ b .lower + (whole - b .upper)
-        → f ≡ figureAnswer 0 examined (sharesOf lower examined) → (f ≡ figureOf number p v w) × Numbers (floatsIn f)
+        → f ≡ figureAnswer 0 examined (sharesOf lower examined) → (f ≡ figureOf intact number p v w) × Numbers (floatsIn f)
     given-told f lower examined l m a =
-        let is : f ≡ figureOf number p v w =
+        let is : f ≡ figureOf intact number p v w =
         a
         ∙ ap (λ (x : ℕ). figureAnswer 0 x (sharesOf lower x)) (m ∙ examined-is)
         ∙ ap (λ (x : ℕ). figureAnswer 0 (massExamined p) (sharesOf x (massExamined p))) (l ∙ known .lower-is)
-        ∙ ap (λ (x : ℕ). figureAnswer x (massExamined p) (sharesOf (lowerOf p v w) (massExamined p))) (sym (known .none)) in (
+        ∙ ap (λ (x : ℕ). figureAnswer x (massExamined p) (sharesOf (lowerOf intact p v w) (massExamined p))) (sym (known .none)) in (
           is,
           subst (λ (x : Figured). Numbers (floatsIn x)) (sym is)
-              (numbers number (lowerOf p v w) (massExamined p) (omega (arith, known .lower-fits, known .lower-is)) (mass-most p (known .valid))),
+              (numbers number (lowerOf intact p v w) (massExamined p) (omega (arith, known .lower-fits, known .lower-is)) (mass-most p (known .valid))),
         )

@@ -12,6 +12,7 @@ use Rattle.plan.specs.Plan.{Plan}
 use Rattle.plan.specs.LentLists.{planOfLists, planRefusal}
 use Rattle.plan.specs.declared.Header.{Header}
 use Rattle.layout.proofs.Theorems.{lists-denote}
+use Rattle.network.specs.Outage.{intact}
 use Rattle.walk.proofs.Valid.{plan-probable}
 use Rattle.sums.proofs.BoundsLaws.{lower-upper, upper-le}
 use Rattle.bounds.specs.Bounds.{lowerOf, upperOf, cuts}
@@ -26,13 +27,13 @@ pub record Accepted (h : Header) (links events : List ℕ) (v w : ℕ) (b : Pair
   pub none : pairNumber h links events v w ≡ 0
   pub valid : planRefusal (planOfLists h links events) ≡ 0
   pub inside : (v < w) × (w < planOfLists h links events .nodes)
-  pub lower-is : b .lower ≡ lowerOf (planOfLists h links events) v w
-  pub upper-is : b .upper ≡ upperOf (planOfLists h links events) v w
+  pub lower-is : b .lower ≡ lowerOf intact (planOfLists h links events) v w
+  pub upper-is : b .upper ≡ upperOf intact (planOfLists h links events) v w
   pub lower-fits : b .lower ≤ whole
   pub upper-fits : b .upper ≤ whole
 
 module _ (h : Header) (links events : List ℕ) (v w : ℕ) (r : Paired)
-    (told : r ≡ pairAnswer (pairNumber h links events v w) (boundsOf (planOfLists h links events) v w)) where
+    (told : r ≡ pairAnswer (pairNumber h links events v w) (boundsOf intact (planOfLists h links events) v w)) where
   abbrev p : Plan
   p = planOfLists h links events
 
@@ -41,7 +42,7 @@ module _ (h : Header) (links events : List ℕ) (v w : ℕ) (r : Paired)
 
   pub refused-told : (n : ℕ) → r ≡ paired.Refused n → (n ≡ number) × (n ≡ 0 → ⊥)
   refused-told n e =
-      let k = pair-refused-is number n (boundsOf p v w) (sym e ∙ told) in
+      let k = pair-refused-is number n (boundsOf intact p v w) (sym e ∙ told) in
       (k .0, λ z. k .1 (sym (k .0) ∙ z))
 
   plan-valid : number ≡ 0 → planRefusal p ≡ 0
@@ -55,12 +56,12 @@ module _ (h : Header) (links events : List ℕ) (v w : ℕ) (r : Paired)
 
   pub done-told : (b : PairBounds) → r ≡ paired.Done b → Accepted h links events v w b
   done-told b e =
-      let k = pair-done-is number b (boundsOf p v w) (sym e ∙ told) in
-      let lower : b .lower ≡ lowerOf p v w = ap (λ (x : PairBounds). x .lower) (k .1) in
-      let upper : b .upper ≡ upperOf p v w = ap (λ (x : PairBounds). x .upper) (k .1) in
+      let k = pair-done-is number b (boundsOf intact p v w) (sym e ∙ told) in
+      let lower : b .lower ≡ lowerOf intact p v w = ap (λ (x : PairBounds). x .lower) (k .1) in
+      let upper : b .upper ≡ upperOf intact p v w = ap (λ (x : PairBounds). x .upper) (k .1) in
       let probable = plan-probable p (plan-valid (k .0)) in
-      let least : lowerOf p v w ≤ upperOf p v w = lower-upper p probable (cuts p v w) in
-      let most : upperOf p v w ≤ whole = upper-le p probable (cuts p v w) in
+      let least : lowerOf intact p v w ≤ upperOf intact p v w = lower-upper p probable (cuts intact p v w) in
+      let most : upperOf intact p v w ≤ whole = upper-le p probable (cuts intact p v w) in
       record {
         none = k .0;
         valid = plan-valid (k .0);

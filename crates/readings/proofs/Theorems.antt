@@ -14,6 +14,7 @@ use Rattle.mass.proofs.RefusalLaws.{first-none, refuse-none}
 use Rattle.plan.specs.Plan.{Plan}
 use Rattle.plan.specs.LentLists.{planOfLists}
 use Rattle.plan.specs.declared.Header.{Header}
+use Rattle.network.specs.Outage.{Outage, intact}
 use Rattle.walk.specs.Scenario.{Scenario, number}
 use Rattle.walk.specs.Walk.{examined, isExamined}
 use Rattle.walk.specs.WalkOrder.{earlier}
@@ -62,12 +63,12 @@ within n d lower upper h k =
       above = above-step upper (upperSeconds upper) (scale n) d (upper-rounds upper .0) k;
     }
 
--- the exact downtime of a pair lies between the seconds of its two bounds
-pub bounds-enclose : (lower upper : ℕ) → EnclosesDowntime lower upper (secondsOf lower upper)
-bounds-enclose lower upper p valid v w l k is-lower is-upper =
-    let held = demand3-valid p valid (cuts p v w) in
+-- the exact downtime of a pair lies between the seconds of its two bounds, whatever is out before the first event
+pub bounds-enclose : (out : Outage) (lower upper : ℕ) → EnclosesDowntime out lower upper (secondsOf lower upper)
+bounds-enclose out lower upper p valid v w l k is-lower is-upper =
+    let held = demand3-valid p valid (cuts out p v w) in
     let n : ℕ = length (p .events) in
-    let d : ℕ = exactCut p (cuts p v w) in
+    let d : ℕ = exactCut p (cuts out p v w) in
     within n d lower upper
     (subst (λ (m : ℕ). m * scale n ≤ d * whole) is-lower (held .below))
     (subst (λ (m : ℕ). d * whole ≤ m * scale n) is-upper (held .above))
@@ -75,39 +76,39 @@ bounds-enclose lower upper p valid v w l k is-lower is-upper =
 -- ---- the witness
 
 -- a pair that 14 is given for is disconnected by no scenario of the list
-pub none-cuts : (p : Plan) (v w : ℕ) (list : List Scenario) → noneTest p v w list ≡ 14 → (s : Scenario) → List·Memᴰ s list → cuts p v w s ≡ true → ⊥
-none-cuts p v w list e s m h = let z : _≡_ {A = ℕ} 0 14 = rw (some-member (cuts p v w) s list m h) at e in omega arith
+pub none-cuts : (p : Plan) (v w : ℕ) (list : List Scenario) → noneTest intact p v w list ≡ 14 → (s : Scenario) → List·Memᴰ s list → cuts intact p v w s ≡ true → ⊥
+none-cuts p v w list e s m h = let z : _≡_ {A = ℕ} 0 14 = rw (some-member (cuts intact p v w) s list m h) at e in omega arith
 
 -- the witness of every call that is not refused: document 02, request U5
-module _ (h : Header) (links events : List ℕ) (v w : ℕ) (accepted : witnessNumber h links events v w ≡ 0) where
+module _ (h : Header) (links events : List ℕ) (v w : ℕ) (accepted : witnessNumber intact h links events v w ≡ 0) where
   abbrev p : Plan
   p = planOfLists h links events
 
-  found-some : some (cuts p v w) (examined p) ≡ true
+  found-some : some (cuts intact p v w) (examined p) ≡ true
   unfolding witnessRefusal
   found-some = not-false _ (refuse-none _ 13 (first-none _ _ (first-none _ _ (first-none _ _ accepted .1) .1) .0))
 
   -- the answer is the set of failing events of the first examined scenario that disconnects the pair
-  pub witness-found : witnessOf h links events v w ≡ witnessed.Found (failingOf (firstCut p v w))
-  witness-found = ap (λ (n : ℕ). witnessAnswer n (failingOf (firstCut p v w))) accepted
+  pub witness-found : witnessOf intact h links events v w ≡ witnessed.Found (failingOf (firstCut intact p v w))
+  witness-found = ap (λ (n : ℕ). witnessAnswer n (failingOf (firstCut intact p v w))) accepted
 
-  pub witness-first : First (cuts p v w) (examined p) (firstCut p v w)
-  witness-first = first-found (cuts p v w) (examined p) found-some
+  pub witness-first : First (cuts intact p v w) (examined p) (firstCut intact p v w)
+  witness-first = first-found (cuts intact p v w) (examined p) found-some
 
   -- no examined scenario that comes before it in the walk disconnects the pair
-  pub none-before : (s : Scenario) → isExamined p s ≡ true → earlier s (firstCut p v w) ≡ true → cuts p v w s ≡ false
+  pub none-before : (s : Scenario) → isExamined p s ≡ true → earlier s (firstCut intact p v w) ≡ true → cuts intact p v w s ≡ false
   none-before s x =
-      none-earlier (cuts p v w) (examined p) (firstCut p v w) (examined-ordered p) witness-first s (among-member s (examined p) x)
+      none-earlier (cuts intact p v w) (examined p) (firstCut intact p v w) (examined-ordered p) witness-first s (among-member s (examined p) x)
 
   -- it is examined and disconnects the pair, as document 01 asks
-  pub witness-shows : Shows p v w (examined p) (failingIn (witnessOf h links events v w))
+  pub witness-shows : Shows intact p v w (examined p) (failingIn (witnessOf intact h links events v w))
   witness-shows =
-      subst (λ (r : Witnessed). Shows p v w (examined p) (failingIn r)) (sym witness-found)
+      subst (λ (r : Witnessed). Shows intact p v w (examined p) (failingIn r)) (sym witness-found)
       (record {
-        scenario = firstCut p v w;
-        failing = div-add-mod' (number (firstCut p v w)) (2 ^ 64);
+        scenario = firstCut intact p v w;
+        failing = div-add-mod' (number (firstCut intact p v w)) (2 ^ 64);
         member =
             member-among _ _
-            (subst (List·Memᴰ (firstCut p v w)) (sym (witness-first .parts)) (Memᴰ·append-right (witness-first .before) (List·Memᴰ·head refl)));
+            (subst (List·Memᴰ (firstCut intact p v w)) (sym (witness-first .parts)) (Memᴰ·append-right (witness-first .before) (List·Memᴰ·head refl)));
         disconnects = witness-first .holds;
       })

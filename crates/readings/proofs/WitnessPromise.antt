@@ -18,6 +18,7 @@ use Rattle.walk.specs.Walk.{examined}
 use Rattle.walk.proofs.Resume.{Alone, begun-stack, begun-whole, root-entry}
 use Rattle.pairs.specs.Pairs.{pairTest}
 use Rattle.plan.specs.Held.{Held}
+use Rattle.network.specs.Outage.{intact}
 use Rattle.readings.specs.Witness.{noneTest, witnessRefusal, witnessNumber, firstCut, failingOf, witnessAnswer, witnessOf}
 use Rattle.readings.specs.Search.{reached, searched, Seeking}
 use Rattle.readings.specs.declared.Witnessed.{Witnessed}
@@ -35,9 +36,9 @@ module _ (h : Header) (links words : List ℕ) (at : ℕ) (stack : List ℕ) (v 
   unfolding planOfLists
   firsts = ap (λ (l : List End). scenarios (take (h .limit) l)) (begun-whole at stack b (h .events) (h .threshold) words)
 
-  pub answers-whole : searched (planOfLists h links words) v w (reached h words at stack (h .limit))
-      ≡ searched (planOfLists h links words) v w (examined (planOfLists h links words))
-  answers-whole = ap (searched (planOfLists h links words) v w) firsts
+  pub answers-whole : searched intact (planOfLists h links words) v w (reached h words at stack (h .limit))
+      ≡ searched intact (planOfLists h links words) v w (examined (planOfLists h links words))
+  answers-whole = ap (searched intact (planOfLists h links words) v w) firsts
 
 -- ---- through the tests
 
@@ -46,27 +47,27 @@ module _ (h : Header) (links events : List ℕ) (v w : ℕ) where
   p = planOfLists h links events
 
   abbrev number : ℕ
-  number = witnessNumber h links events v w
+  number = witnessNumber intact h links events v w
 
-  refused : (n : ℕ) → n ≡ number → (n ≡ 0 → ⊥) → witnessed.Refused n ≡ witnessOf h links events v w
+  refused : (n : ℕ) → n ≡ number → (n ≡ 0 → ⊥) → witnessed.Refused n ≡ witnessOf intact h links events v w
   refused n e some = refuses witnessAnswer witnessed.Refused (λ k x. refl) n number _ e some
 
-  pub lists-refused : (n : ℕ) → n ≡ listsNumber h links events → (n ≡ 0 → ⊥) → witnessed.Refused n ≡ witnessOf h links events v w
+  pub lists-refused : (n : ℕ) → n ≡ listsNumber h links events → (n ≡ 0 → ⊥) → witnessed.Refused n ≡ witnessOf intact h links events v w
   unfolding witnessRefusal
   lists-refused n e some = refused n (stop _ e some) some
 
   pub pair-refused : (lists n : ℕ) → lists ≡ listsNumber h links events → lists ≡ 0 → n ≡ pairTest (h .nodes) v w → (n ≡ 0 → ⊥)
-      → witnessed.Refused n ≡ witnessOf h links events v w
+      → witnessed.Refused n ≡ witnessOf intact h links events v w
   unfolding witnessRefusal
   pair-refused lists n e z f some = refused n (skip _ e z (stop _ f some)) some
 
   -- the search in the arrays that accepted lists were taken into
   pub searched-all : (bytes words : List ℕ) → Taken h links events bytes words → listsNumber h links events ≡ 0 → pairTest (h .nodes) v w ≡ 0
-      → (r : Witnessed) → r ≡ searched (planOfLists h bytes words) v w (examined (planOfLists h bytes words))
-      → r ≡ witnessOf h links events v w
+      → (r : Witnessed) → r ≡ searched intact (planOfLists h bytes words) v w (examined (planOfLists h bytes words))
+      → r ≡ witnessOf intact h links events v w
   unfolding witnessRefusal
   searched-all bytes words t e f r a =
-      let is : number ≡ noneTest p v w (examined p) = first-skip _ _ e ∙ first-skip _ _ f ∙ first-last _ in
+      let is : number ≡ noneTest intact p v w (examined p) = first-skip _ _ e ∙ first-skip _ _ f ∙ first-last _ in
       a
-      ∙ ap (λ (q : Plan). searched q v w (examined q)) (t .denoted)
-      ∙ ap (λ (n : ℕ). witnessAnswer n (failingOf (firstCut p v w))) (sym is)
+      ∙ ap (λ (q : Plan). searched intact q v w (examined q)) (t .denoted)
+      ∙ ap (λ (n : ℕ). witnessAnswer n (failingOf (firstCut intact p v w))) (sym is)

@@ -1,4 +1,5 @@
 -- Downtime: document 01, section "Further readings of a plan", with the rounding of document 02, request U1.
+-- `out` is what is out before the first event (document 02, request U7).
 -- Assumes nothing.
 use mathlib.Core.Path.{_≡_, refl}
 use mathlib.Core.List.{[], _∷_}
@@ -8,6 +9,7 @@ use Rattle.mass.specs.Refusal.{first}
 use Rattle.mass.specs.Split.{whole, massTest}
 use Rattle.plan.specs.Plan.{Plan}
 use Rattle.plan.specs.LentLists.{planRefusal}
+use Rattle.network.specs.Outage.{Outage}
 use Rattle.sums.specs.Exact.{scale, exactCut}
 use Rattle.bounds.specs.Bounds.{cuts, lowerOf, upperOf}
 use Rattle.readings.specs.declared.Seconds.{Seconds}
@@ -51,10 +53,10 @@ pub record DowntimeWithin (n d : ℕ) (seconds : Seconds) : Type 0 where
 
 -- "Where the two masses are the bounds of a pair, its exact downtime must lie between the two": for every plan that meets no refusal, and
 -- every pair of it whose lower and upper bound they are
-abbrev pub EnclosesDowntime : ℕ → ℕ → Seconds → Type 0
-EnclosesDowntime lower upper seconds =
-    (p : Plan) → planRefusal p ≡ 0 → (v w : ℕ) → v < w → w < p .nodes → lowerOf p v w ≡ lower → upperOf p v w ≡ upper
-    → DowntimeWithin (length (p .events)) (exactCut p (cuts p v w)) seconds
+abbrev pub EnclosesDowntime : Outage → ℕ → ℕ → Seconds → Type 0
+EnclosesDowntime out lower upper seconds =
+    (p : Plan) → planRefusal p ≡ 0 → (v w : ℕ) → v < w → w < p .nodes → lowerOf out p v w ≡ lower → upperOf out p v w ≡ upper
+    → DowntimeWithin (length (p .events)) (exactCut p (cuts out p v w)) seconds
 
 -- examples: nothing; the whole year; 62,500,000,000,000 units, which make 1,971 seconds and are not raised
 example-exact : (secondsOf 0 0 ≡ record { lower = 0; upper = 0 }) × (secondsOf whole whole ≡ record { lower = year; upper = year })

@@ -8,7 +8,7 @@ use Rattle.sets.specs.Sets.{bit, anyBelow}
 use Rattle.mass.specs.Refusal.{first}
 use Rattle.plan.specs.Plan.{Plan}
 use Rattle.plan.specs.LentLists.{planRefusal, linkListRefusal, eventListRefusal}
-use Rattle.network.specs.Outage.{unionOf}
+use Rattle.network.specs.Outage.{intact, unionOf}
 use Rattle.network.specs.Topology.{nodeWorks, linkWorks, joins, adjacent}
 use Rattle.topology.specs.Paths.{via, disconnected}
 use Rattle.walk.specs.Ends.{ends}
@@ -34,7 +34,7 @@ line q t limit =
     }
 
 abbrev noWitness : Plan → ℕ
-noWitness p = noneTest p 0 1 (examined p)
+noWitness p = noneTest intact p 0 1 (examined p)
 
 -- marked plan 2 has a witness; 14 is given for 3 (dropped), 4 (past the cap) and 9 (nothing examined)
 example-none : (noWitness (line 100000000 100000000000000000 100) ≡ 0) × (noWitness (line 100000000 100000000000000001 100) ≡ 14)
@@ -43,7 +43,7 @@ unfolding ends disconnected via nodeWorks linkWorks joins adjacent anyBelow unio
 example-none = (refl, refl, refl, refl)
 
 -- the witness of marked plan 2 is event 0 alone, the set of value 1
-example-shown : failingOf (firstCut (line 100000000 100000000000000000 100) 0 1) ≡ record { low = 1; high = 0 }
+example-shown : failingOf (firstCut intact (line 100000000 100000000000000000 100) 0 1) ≡ record { low = 1; high = 0 }
 unfolding ends disconnected via nodeWorks linkWorks joins adjacent anyBelow unionOf bit firstWhere
 example-shown = refl
 
@@ -60,14 +60,14 @@ twice t =
     }
 
 -- its witness is the first, event 1 alone, and not the likeliest, event 0 alone; where a threshold of 1/10 drops the first, it is the next
-example-first : (firstCut (twice 1) 0 1 ≡ false ∷ true ∷ []) × (firstCut (twice 100000000000000000) 0 1 ≡ true ∷ false ∷ [])
+example-first : (firstCut intact (twice 1) 0 1 ≡ false ∷ true ∷ []) × (firstCut intact (twice 100000000000000000) 0 1 ≡ true ∷ false ∷ [])
 unfolding ends disconnected via nodeWorks linkWorks joins adjacent anyBelow unionOf bit firstWhere
 example-first = (refl, refl)
 
 -- marked plan 9 has no figure; marked plan 2 has that of 10^17 and 10^18, and none where the call is refused
-example-figure : (figureOf 0 (line 500000000 1000000000000000000 100) 0 1 ≡ figured.NoFigure)
-    × (figureOf 0 (line 100000000 100000000000000000 100) 0 1 ≡ figured.Given (sharesOf 100000000000000000 1000000000000000000))
-    × (figureOf 13 (line 500000000 1000000000000000000 100) 1 1 ≡ figured.Refused 13)
+example-figure : (figureOf intact 0 (line 500000000 1000000000000000000 100) 0 1 ≡ figured.NoFigure)
+    × (figureOf intact 0 (line 100000000 100000000000000000 100) 0 1 ≡ figured.Given (sharesOf 100000000000000000 1000000000000000000))
+    × (figureOf intact 13 (line 500000000 1000000000000000000 100) 1 1 ≡ figured.Refused 13)
 unfolding ends disconnected via nodeWorks linkWorks joins adjacent anyBelow unionOf bit
 example-figure = (refl, refl, refl)
 
@@ -84,8 +84,8 @@ example-least = (refl, refl)
 -- a link that fails with 10^-9 is a risk of 0.03 seconds a year: its plan meets no refusal, D is 1 and counts units of 10^-9, and the exact
 -- downtime lies between 0 and 1 seconds (0 × 10^9 ≤ 31,536,000 ≤ 1 × 10^9)
 example-live : (planRefusal (line 1 1 100) ≡ 0)
-    × (secondsOf (lowerOf (line 1 1 100) 0 1) (upperOf (line 1 1 100) 0 1) ≡ record { lower = 0; upper = 1 })
-    × (exactCut (line 1 1 100) (cuts (line 1 1 100) 0 1) * year ≡ 31536000) × (scale 1 ≡ 1000000000)
+    × (secondsOf (lowerOf intact (line 1 1 100) 0 1) (upperOf intact (line 1 1 100) 0 1) ≡ record { lower = 0; upper = 1 })
+    × (exactCut (line 1 1 100) (cuts intact (line 1 1 100) 0 1) * year ≡ 31536000) × (scale 1 ≡ 1000000000)
 unfolding planRefusal linkListRefusal eventListRefusal first
     ends disconnected via nodeWorks linkWorks joins adjacent anyBelow unionOf bit exactSum scale
 example-live = (refl, refl, refl, refl)

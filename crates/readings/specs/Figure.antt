@@ -1,6 +1,7 @@
 -- Conditional figure: document 01, section "Further readings of a plan" (document 001, equation 6). It is no bound: the scenarios that
 -- were not examined are left out of it. Floats are those of the logic's account of IEEE 754: a value of binary64 is one bit pattern, but
 -- for NaN.
+-- `out` is what is out before the first event (document 02, request U7).
 -- Assumes nothing.
 use mathlib.Core.Bool.{not}
 use mathlib.Core.List.{List, [], _∷_}
@@ -10,6 +11,7 @@ use lib.IntN.{pos}
 use lib.Ieee.{Float, binary64, add, mul, div, ofInt, isNan}
 use Rattle.mass.specs.Split.{certain, whole}
 use Rattle.plan.specs.Plan.{Plan}
+use Rattle.network.specs.Outage.{Outage}
 use Rattle.walk.specs.Walk.{massExamined}
 use Rattle.bounds.specs.Bounds.{lowerOf}
 use Rattle.readings.specs.declared.Shares.{Shares}
@@ -45,8 +47,8 @@ floatsIn figured.NoFigure = []
 floatsIn (figured.Given shares) = shares .disconnected ∷ shares .examined ∷ []
 
 -- the figure of the pair (v, w) of a plan, as the answer to a call that is refused with a number, 0 if it is not
-abbrev pub figureOf : ℕ → Plan → ℕ → ℕ → Figured
-figureOf number p v w = figureAnswer number (massExamined p) (sharesOf (lowerOf p v w) (massExamined p))
+abbrev pub figureOf : Outage → ℕ → Plan → ℕ → ℕ → Figured
+figureOf out number p v w = figureAnswer number (massExamined p) (sharesOf (lowerOf out p v w) (massExamined p))
 
 -- no float of a list is a NaN
 abbrev pub Numbers : List Float → Type 0

@@ -1,4 +1,5 @@
 -- The search for a witness: what its loop asks and promises, from any state.
+-- `out` is what is out before the first event (document 02, request U7).
 -- Assumes nothing.
 use mathlib.Core.List.{List}
 use Prim.Native.Nat.{ℕ, _<_}
@@ -9,13 +10,14 @@ use Rattle.walk.specs.Scenario.{Scenario}
 use Rattle.walk.specs.Ends.{scenarios}
 use Rattle.walk.specs.Stack.{toCome, Stack}
 use Rattle.plan.specs.Held.{Held}
+use Rattle.network.specs.Outage.{Outage}
 use Rattle.bounds.specs.Bounds.{cuts}
 use Rattle.readings.specs.declared.Witnessed.{Witnessed}
 use Rattle.readings.specs.Witness.{firstWhere, noneTest, failingOf, witnessAnswer}
 
 -- what a search among the scenarios of a list answers, where nothing else is tested: 14, or the first that disconnects the pair
-abbrev pub searched : Plan → ℕ → ℕ → List Scenario → Witnessed
-searched p v w list = witnessAnswer (noneTest p v w list) (failingOf (firstWhere (cuts p v w) list))
+abbrev pub searched : Outage → Plan → ℕ → ℕ → List Scenario → Witnessed
+searched out p v w list = witnessAnswer (noneTest out p v w list) (failingOf (firstWhere (cuts out p v w) list))
 
 -- the relevant scenarios among the next k ends of a walk
 abbrev pub reached : Header → List ℕ → ℕ → List ℕ → ℕ → List Scenario

@@ -1,4 +1,5 @@
 -- Witness: document 01, section "Further readings of a plan", as document 02, request U5, has it: the first one.
+-- `out` is what is out before the first event (document 02, request U7).
 -- Assumes nothing.
 use mathlib.Core.Bool.{Bool, true, false, not, _||_}
 use mathlib.Core.List.{List, [], _∷_}
@@ -8,6 +9,7 @@ use Rattle.mass.specs.Refusal.{refuse, first}
 use Rattle.plan.specs.Plan.{Plan}
 use Rattle.plan.specs.LentLists.{listsRefusal, planOfLists}
 use Rattle.plan.specs.declared.Header.{Header}
+use Rattle.network.specs.Outage.{Outage}
 use Rattle.walk.specs.Scenario.{Scenario, number}
 use Rattle.walk.specs.Walk.{examined}
 use Rattle.walk.specs.declared.Failing.{Failing}
@@ -27,25 +29,25 @@ firstWhere test [] = []
 firstWhere test (s ∷ list) = elim (test s) [ true ↦ s | false ↦ firstWhere test list ]
 
 -- 14: none of the scenarios of a list disconnects the pair (v, w)
-abbrev pub noneTest : Plan → ℕ → ℕ → List Scenario → ℕ
-noneTest p v w list = refuse (not (some (cuts p v w) list)) 14
+abbrev pub noneTest : Outage → Plan → ℕ → ℕ → List Scenario → ℕ
+noneTest out p v w list = refuse (not (some (cuts out p v w) list)) 14
 
 -- the witness of a pair: the lists' tests, then 13, then 14 where no examined scenario disconnects the pair
-unfoldable pub witnessRefusal : Header → ℕ → ℕ → List ℕ → List ℕ → ℕ → ℕ → ℕ
-witnessRefusal h linkRoom eventRoom links words v w =
+unfoldable pub witnessRefusal : Outage → Header → ℕ → ℕ → List ℕ → List ℕ → ℕ → ℕ → ℕ
+witnessRefusal out h linkRoom eventRoom links words v w =
     first
     (listsRefusal h linkRoom eventRoom links words
     ∷ pairTest (h .nodes) v w
-    ∷ noneTest (planOfLists h links words) v w (examined (planOfLists h links words))
+    ∷ noneTest out (planOfLists h links words) v w (examined (planOfLists h links words))
     ∷ [])
 
 -- the number with which a witness on lent lists is refused
-abbrev pub witnessNumber : Header → List ℕ → List ℕ → ℕ → ℕ → ℕ
-witnessNumber h links events v w = witnessRefusal h (length links) (length events / 4) links events v w
+abbrev pub witnessNumber : Outage → Header → List ℕ → List ℕ → ℕ → ℕ → ℕ
+witnessNumber out h links events v w = witnessRefusal out h (length links) (length events / 4) links events v w
 
 -- "the first examined scenario, in walk order, that disconnects the pair" (v, w)
-abbrev pub firstCut : Plan → ℕ → ℕ → Scenario
-firstCut p v w = firstWhere (cuts p v w) (examined p)
+abbrev pub firstCut : Outage → Plan → ℕ → ℕ → Scenario
+firstCut out p v w = firstWhere (cuts out p v w) (examined p)
 
 -- "the 128-bit set of its failing events": events 0 to 63 in the low word, 64 to 127 in the high one
 abbrev pub failingOf : Scenario → Failing
@@ -63,6 +65,6 @@ failingIn (witnessed.Found set) = set
 
 -- THE WITNESS of the pair (v, w) on lent lists, the whole answer: the number of the first refusal met, or the failing events of the first
 -- examined scenario that disconnects the pair
-abbrev pub witnessOf : Header → List ℕ → List ℕ → ℕ → ℕ → Witnessed
-witnessOf h links events v w =
-    witnessAnswer (witnessNumber h links events v w) (failingOf (firstCut (planOfLists h links events) v w))
+abbrev pub witnessOf : Outage → Header → List ℕ → List ℕ → ℕ → ℕ → Witnessed
+witnessOf out h links events v w =
+    witnessAnswer (witnessNumber out h links events v w) (failingOf (firstCut out (planOfLists h links events) v w))

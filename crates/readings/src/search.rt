@@ -12,6 +12,7 @@ ghost use Rattle.walk.specs.Walk.{examined};
 ghost use Rattle.network.specs.Table.{LinksAt};
 ghost use Rattle.bounds.specs.Bounds.{cuts};
 ghost use Rattle.plan.specs.Held.{Held};
+ghost use Rattle.network.specs.Outage.{intact};
 ghost use Rattle.readings.specs.Witness.{witnessOf};
 ghost use Rattle.readings.specs.Search.{reached, searched, Seeking};
 
@@ -29,14 +30,9 @@ fn cut_by(
     requires { ⌜ Held h (now links) (now words) ⌝ }
     requires { ⌜ LinksAt (now links) (h .links) (now table) ⌝ }
     requires { ⌜ (joined low high < 2 ^ (h .events)) × (v < 64) × (w < 64) ⌝ }
-    ensures { λ r. ⌜ r ≡ cuts (planOfLists h (now (links .entry)) (now (words .entry))) v w (scenarioOf (h .events) (joined low high)) ⌝ }
+    ensures { λ r. ⌜ r ≡ cuts intact (planOfLists h (now (links .entry)) (now (words .entry))) v w (scenarioOf (h .events) (joined low high)) ⌝ }
 {
-    let intact = Failed {
-        nodes: 0,
-        low: 0,
-        high: 0,
-    };
-    let failed = network::failed_by(words, h.events as usize, low, high, intact);
+    let failed = network::failed_by(words, h.events as usize, low, high, Failed::NONE);
     topology::is_disconnected(
         h.nodes as usize,
         failed,
@@ -62,7 +58,7 @@ fn search_on(
 ) -> Witnessed
     requires { ⌜ LinksAt (now links) (h .links) (now table) ⌝ }
     requires { ⌜ Seeking h (now links) (now words) start (now stack) v w ⌝ }
-    ensures { λ r. ⌜ r ≡ searched (planOfLists h (now (links .entry)) (now (words .entry))) v w
+    ensures { λ r. ⌜ r ≡ searched intact (planOfLists h (now (links .entry)) (now (words .entry))) v w
         (reached h (now (words .entry)) start (now (stack .entry)) k) ⌝ }
 {
     let mut at = start;
@@ -89,7 +85,7 @@ fn search_on(
 fn search_all(h: Header, links: &[u8; 256], words: &[u64; 512], v: usize, w: usize) -> Witnessed
     requires { ⌜ Held h (now links) (now words) ⌝ }
     requires { ⌜ (v < 64) × (w < 64) ⌝ }
-    ensures { λ r. ⌜ r ≡ searched (planOfLists h (now (links .entry)) (now (words .entry))) v w
+    ensures { λ r. ⌜ r ≡ searched intact (planOfLists h (now (links .entry)) (now (words .entry))) v w
         (examined (planOfLists h (now (links .entry)) (now (words .entry)))) ⌝ }
 {
     let table = network::links_at(h.nodes as usize, links, h.links as usize);
@@ -101,7 +97,7 @@ fn search_all(h: Header, links: &[u8; 256], words: &[u64; 512], v: usize, w: usi
 // The witness: the first examined scenario, in the walk's order, that disconnects the pair, as the set of its failing events; 14 where there
 // is none.
 pub fn witness(h: Header, links: &[u8], events: &[u64], v: u64, w: u64) -> Witnessed
-    ensures answer { λ r. ⌜ r ≡ witnessOf h (now (links .entry)) (now (events .entry)) v w ⌝ }
+    ensures answer { λ r. ⌜ r ≡ witnessOf intact h (now (links .entry)) (now (events .entry)) v w ⌝ }
 {
     let mut bytes = [0u8; 256];
     let mut words = [0u64; 512];

@@ -4,6 +4,7 @@ use crate::Timed;
 ghost use mathlib.Core.Path.{_≡_};
 ghost use Prim.Native.Nat.{_+_, _*_, _/_, _≤_};
 ghost use Rattle.mass.specs.Split.{whole};
+ghost use Rattle.network.specs.Outage.{intact};
 ghost use Rattle.readings.specs.Downtime.{downtimeRefusal, downtimeAnswer, secondsOf, secondsIn, EnclosesDowntime};
 
 // 31,536,000 seconds over 10^18 is 1971 over this number.
@@ -33,7 +34,7 @@ pub fn seconds_of(lower: u64, upper: u64) -> Seconds
 // Where the two are the bounds of a pair, its exact downtime lies between the two answers.
 pub fn downtime(lower: u64, upper: u64) -> Timed
     ensures answer { λ r. ⌜ r ≡ downtimeAnswer (downtimeRefusal lower upper) (secondsOf lower upper) ⌝ }
-    ensures enclosed { λ r. ⌜ EnclosesDowntime lower upper (secondsIn r) ⌝ }
+    ensures enclosed { λ r. ⌜ EnclosesDowntime intact lower upper (secondsIn r) ⌝ }
 {
     let low = mass::mass_test(lower);
     if low != 0 {

@@ -14,6 +14,7 @@ use Rattle.plan.specs.LentLists.{listsRefusal}
 use Rattle.plan.specs.Calls.{filled, headerOf, headerIn, readRefusal, readAnswer}
 use Rattle.plan.specs.declared.Header.{Header}
 use Rattle.plan.specs.declared.Reading.{Reading}
+use Rattle.network.specs.Outage.{intact}
 use Rattle.bounds.specs.Bounds.{lowerList, upperList, EnclosesAll}
 use Rattle.bounds.specs.Calls.{runRefusal, runNumber, ranAnswer, totalsOf, totalsIn}
 use Rattle.bounds.specs.declared.Ran.{Ran}
@@ -29,9 +30,9 @@ use Rattle.record_runs.proofs.RunLaws.{Outcome}
 abbrev pub FilePromised : ℕ → Plan → List ℕ → List ℕ → Ran → List ℕ → List ℕ → Type 0
 FilePromised n p lo up t lo′ up′ =
     (t ≡ ranAnswer n (totalsOf p))
-    × ((lo′ ≡ filled n (lowerList p) lo)
-    × ((up′ ≡ filled n (upperList p) up)
-    × (n ≡ 0 → EnclosesAll p lo′ up′ (totalsIn t .count))))
+    × ((lo′ ≡ filled n (lowerList intact p) lo)
+    × ((up′ ≡ filled n (upperList intact p) up)
+    × (n ≡ 0 → EnclosesAll intact p lo′ up′ (totalsIn t .count))))
 
 -- the header of a refusal has no node: the run refuses it, and leaves the lists as they were
 none-run : (links lo up words : List ℕ) (t : Ran) (lo′ up′ : List ℕ)

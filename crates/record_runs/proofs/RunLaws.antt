@@ -11,6 +11,7 @@ use Rattle.refusals.specs.Tests.{roomTest}
 use Rattle.plan.specs.LentLists.{planOfLists, listsNumber}
 use Rattle.plan.specs.Calls.{filled}
 use Rattle.plan.specs.declared.Header.{Header}
+use Rattle.network.specs.Outage.{intact}
 use Rattle.pairs.specs.Pairs.{pairCount}
 use Rattle.bounds.specs.Bounds.{lowerList, upperList, EnclosesAll}
 use Rattle.bounds.specs.Calls.{runRefusal, runNumber, ranAnswer, totalsOf, totalsIn}
@@ -24,9 +25,9 @@ use Rattle.records.proofs.PlanLaws.{lists-same, plan-same, told-all}
 abbrev pub Outcome : Header → List ℕ → List ℕ → List ℕ → List ℕ → Ran → List ℕ → List ℕ → Type 0
 Outcome h ks lo up ws r lo′ up′ =
     (r ≡ ranAnswer (runNumber h ks ws lo up) (totalsOf (planOfLists h ks ws)))
-    × ((lo′ ≡ filled (runNumber h ks ws lo up) (lowerList (planOfLists h ks ws)) lo)
-    × ((up′ ≡ filled (runNumber h ks ws lo up) (upperList (planOfLists h ks ws)) up)
-    × (runNumber h ks ws lo up ≡ 0 → EnclosesAll (planOfLists h ks ws) lo′ up′ (totalsIn r .count))))
+    × ((lo′ ≡ filled (runNumber h ks ws lo up) (lowerList intact (planOfLists h ks ws)) lo)
+    × ((up′ ≡ filled (runNumber h ks ws lo up) (upperList intact (planOfLists h ks ws)) up)
+    × (runNumber h ks ws lo up ≡ 0 → EnclosesAll intact (planOfLists h ks ws) lo′ up′ (totalsIn r .count))))
 
 module _ (h : Header) (ks : List ℕ) (es : List Event) (lo up : List ℕ) where
   abbrev few : List ℕ
@@ -55,9 +56,9 @@ module _ (h : Header) (ks : List ℕ) (es : List Event) (lo up : List ℕ) where
   run-concluded r lo′ up′ (a, (l, (u, d))) = (
     a ∙ told-all h ks es (length all / 4) room (λ n p. ranAnswer (after n) (totalsOf p)) (λ n p q. refl),
     (
-      l ∙ told-all h ks es (length all / 4) room (λ n p. filled (after n) (lowerList p) lo) (λ n p q. refl),
+      l ∙ told-all h ks es (length all / 4) room (λ n p. filled (after n) (lowerList intact p) lo) (λ n p q. refl),
       (
-        u ∙ told-all h ks es (length all / 4) room (λ n p. filled (after n) (upperList p) up) (λ n p q. refl),
+        u ∙ told-all h ks es (length all / 4) room (λ n p. filled (after n) (upperList intact p) up) (λ n p q. refl),
         λ z. rw (← plan-same h ks es (length all / 4) room (lists-fine z)) (d (run-same ∙ z)),
       ),
     ),

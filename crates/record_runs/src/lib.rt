@@ -12,6 +12,7 @@ ghost use mathlib.Core.Path.{_≡_};
 ghost use Prim.Native.Nat.{_*_};
 ghost use Rattle.plan.specs.LentLists.{planOfLists};
 ghost use Rattle.plan.specs.Calls.{filled};
+ghost use Rattle.network.specs.Outage.{intact};
 ghost use Rattle.bounds.specs.Bounds.{lowerList, upperList, EnclosesAll};
 ghost use Rattle.bounds.specs.Calls.{runNumber, ranAnswer, totalsOf, totalsIn};
 ghost use Rattle.records.specs.Events.{wordsOf, wordsUsed};
@@ -30,13 +31,13 @@ pub fn run_words(
         (totalsOf (planOfLists h (now (links .entry)) (wordsUsed count (now (words .entry))))) ⌝ }
     ensures lowers { λ r. ⌜ now (lower .exit) ≡ filled
         (runNumber h (now (links .entry)) (wordsUsed count (now (words .entry))) (now (lower .entry)) (now (upper .entry)))
-        (lowerList (planOfLists h (now (links .entry)) (wordsUsed count (now (words .entry))))) (now (lower .entry)) ⌝ }
+        (lowerList intact (planOfLists h (now (links .entry)) (wordsUsed count (now (words .entry))))) (now (lower .entry)) ⌝ }
     ensures uppers { λ r. ⌜ now (upper .exit) ≡ filled
         (runNumber h (now (links .entry)) (wordsUsed count (now (words .entry))) (now (lower .entry)) (now (upper .entry)))
-        (upperList (planOfLists h (now (links .entry)) (wordsUsed count (now (words .entry))))) (now (upper .entry)) ⌝ }
+        (upperList intact (planOfLists h (now (links .entry)) (wordsUsed count (now (words .entry))))) (now (upper .entry)) ⌝ }
     ensures demand3 { λ r. ⌜
         (runNumber h (now (links .entry)) (wordsUsed count (now (words .entry))) (now (lower .entry)) (now (upper .entry)) ≡ 0
-        → EnclosesAll (planOfLists h (now (links .entry)) (wordsUsed count (now (words .entry))))
+        → EnclosesAll intact (planOfLists h (now (links .entry)) (wordsUsed count (now (words .entry))))
         (now (lower .exit)) (now (upper .exit)) (totalsIn r .count)) ⌝ }
 {
     let used = 4 * lent::smaller(count, 128);
@@ -57,12 +58,12 @@ pub fn run_records(
         (totalsOf (planOfLists h (now (links .entry)) (wordsOf (now (events .entry))))) ⌝ }
     ensures lowers { λ r. ⌜ now (lower .exit) ≡ filled
         (runNumber h (now (links .entry)) (wordsOf (now (events .entry))) (now (lower .entry)) (now (upper .entry)))
-        (lowerList (planOfLists h (now (links .entry)) (wordsOf (now (events .entry))))) (now (lower .entry)) ⌝ }
+        (lowerList intact (planOfLists h (now (links .entry)) (wordsOf (now (events .entry))))) (now (lower .entry)) ⌝ }
     ensures uppers { λ r. ⌜ now (upper .exit) ≡ filled
         (runNumber h (now (links .entry)) (wordsOf (now (events .entry))) (now (lower .entry)) (now (upper .entry)))
-        (upperList (planOfLists h (now (links .entry)) (wordsOf (now (events .entry))))) (now (upper .entry)) ⌝ }
+        (upperList intact (planOfLists h (now (links .entry)) (wordsOf (now (events .entry))))) (now (upper .entry)) ⌝ }
     ensures demand3 { λ r. ⌜ (runNumber h (now (links .entry)) (wordsOf (now (events .entry))) (now (lower .entry)) (now (upper .entry)) ≡ 0
-        → EnclosesAll (planOfLists h (now (links .entry)) (wordsOf (now (events .entry))))
+        → EnclosesAll intact (planOfLists h (now (links .entry)) (wordsOf (now (events .entry))))
         (now (lower .exit)) (now (upper .exit)) (totalsIn r .count)) ⌝ }
 {
     let mut words = [0u64; 512];

@@ -7,6 +7,7 @@ use records::Event;
 ghost use mathlib.Core.Path.{_≡_};
 ghost use Rattle.plan.specs.File.{planOf};
 ghost use Rattle.plan.specs.Calls.{filled};
+ghost use Rattle.network.specs.Outage.{intact};
 ghost use Rattle.bounds.specs.Bounds.{lowerList, upperList, EnclosesAll};
 ghost use Rattle.bounds.specs.Calls.{ranAnswer, totalsOf, totalsIn};
 ghost use Rattle.record_runs.specs.Running.{fileNumber, fileAnswer};
@@ -27,11 +28,11 @@ pub fn run_plan(s: &[u8], lower: &mut [u64], upper: &mut [u64]) -> Ran
     ensures answer { λ r. ⌜ r ≡ ranAnswer (fileNumber (now (s .entry)) (now (lower .entry)) (now (upper .entry)))
         (totalsOf (planOf (now (s .entry)))) ⌝ }
     ensures lowers { λ r. ⌜ now (lower .exit) ≡ filled (fileNumber (now (s .entry)) (now (lower .entry)) (now (upper .entry)))
-        (lowerList (planOf (now (s .entry)))) (now (lower .entry)) ⌝ }
+        (lowerList intact (planOf (now (s .entry)))) (now (lower .entry)) ⌝ }
     ensures uppers { λ r. ⌜ now (upper .exit) ≡ filled (fileNumber (now (s .entry)) (now (lower .entry)) (now (upper .entry)))
-        (upperList (planOf (now (s .entry)))) (now (upper .entry)) ⌝ }
+        (upperList intact (planOf (now (s .entry)))) (now (upper .entry)) ⌝ }
     ensures demand3 { λ r. ⌜ (fileNumber (now (s .entry)) (now (lower .entry)) (now (upper .entry)) ≡ 0
-        → EnclosesAll (planOf (now (s .entry))) (now (lower .exit)) (now (upper .exit)) (totalsIn r .count)) ⌝ }
+        → EnclosesAll intact (planOf (now (s .entry))) (now (lower .exit)) (now (upper .exit)) (totalsIn r .count)) ⌝ }
 {
     let mut links = [0u8; 256];
     let mut events = [Event {

@@ -10,7 +10,7 @@ use Rattle.plan.specs.Layout.{value}
 use Rattle.plan.specs.Lists.{linksOf}
 use Rattle.plan.specs.File.{headerRefusal, linksRefusal, memberRefusal, membersRefusal, eventRefusal, eventsRefusal, refusal, setOf}
 use Rattle.plan.specs.File.{eventsAt, planOf}
-use Rattle.network.specs.Outage.{unionOf}
+use Rattle.network.specs.Outage.{intact, unionOf}
 use Rattle.network.specs.Topology.{nodeWorks, linkWorks, joins, adjacent}
 use Rattle.topology.specs.Paths.{via, disconnected}
 use Rattle.walk.specs.Ends.{ends}
@@ -35,11 +35,11 @@ mass-decimal : decimal 999999999999999996 ≡ 57 ∷ 57 ∷ 57 ∷ 57 ∷ 57 ∷
 unfolding digits
 mass-decimal = sym (decimal-enough 17 999999999999999996 (omega arith))
 
-triangle-listed : listing triangle ≡ triangleText
+triangle-listed : listing intact triangle ≡ triangleText
 unfolding triangle triangleText listing answerText planText pairLine pairsText rowsText rowText line field refusal headerRefusal linksRefusal eventsRefusal eventRefusal membersRefusal memberRefusal first planOf linksOf eventsAt setOf value ends disconnected via nodeWorks linkWorks joins adjacent anyBelow unionOf bit
 triangle-listed = rw (mass-decimal, decimal-small 0 (omega arith), decimal-small 1 (omega arith), decimal-small 2 (omega arith), decimal-small 3 (omega arith), decimal-small 4 (omega arith))
 
 -- no bytes at all: `refused 1`
-nothing-listed : listing [] ≡ 114 ∷ 101 ∷ 102 ∷ 117 ∷ 115 ∷ 101 ∷ 100 ∷ 32 ∷ 49 ∷ 10 ∷ []
+nothing-listed : listing intact [] ≡ 114 ∷ 101 ∷ 102 ∷ 117 ∷ 115 ∷ 101 ∷ 100 ∷ 32 ∷ 49 ∷ 10 ∷ []
 unfolding listing answerText refusedText line field decimal digits refusal headerRefusal first
 nothing-listed = refl

@@ -20,6 +20,7 @@ use Rattle.plan.specs.LentLists.{planRefusal}
 use Rattle.refusals.proofs.TestLaws.{counts-none, Ranges, or-none}
 use Rattle.layout.proofs.LayoutFile.{valid-none}
 use Rattle.sets.specs.Sets.{digit}
+use Rattle.network.specs.Outage.{intact}
 use Rattle.walk.specs.Walk.{count, complete, massExamined, planEnds}
 use Rattle.walk.proofs.Theorems.{massExamined-le, count-le}
 use Rattle.walk.proofs.Valid.{plan-probable}
@@ -128,9 +129,9 @@ refusal-most b =
 
 -- ---- refused files
 
-pub refused-same : (b c : List ℕ) (n : ℕ) → refusal b ≡ suc n → refusal c ≡ suc n → listing c ≡ listing b
+pub refused-same : (b c : List ℕ) (n : ℕ) → refusal b ≡ suc n → refusal c ≡ suc n → listing intact c ≡ listing intact b
 unfolding listing answerText
-refused-same b c n e f = ap (λ (k : ℕ). answerText k (planOf c)) f ∙ sym (ap (λ (k : ℕ). answerText k (planOf b)) e)
+refused-same b c n e f = ap (λ (k : ℕ). answerText intact k (planOf c)) f ∙ sym (ap (λ (k : ℕ). answerText intact k (planOf b)) e)
 
 -- ---- the lines of a plan
 
@@ -194,15 +195,15 @@ module _ (p : Plan) (valid : planRefusal p ≡ 0) where
   number-most : count p ≤ whole
   number-most = times (count p) (p .threshold) whole (some-threshold (p .threshold) (valid-none p valid .threshold)) (count-le p (plan-probable p valid))
 
-  pair-most : (v w : ℕ) → v < w → w < p .nodes → length (pairLine p v w) ≤ 46
+  pair-most : (v w : ℕ) → v < w → w < p .nodes → length (pairLine intact p v w) ≤ 46
   unfolding pairLine
   pair-most v w h k =
       let few = ranges .nodes-fit in
-      let high : upperOf p v w ≤ whole = upper-le p (plan-probable p valid) (cuts p v w) in
-      let low : lowerOf p v w ≤ upperOf p v w = lower-upper p (plan-probable p valid) (cuts p v w) in
-      line-most v w (lowerOf p v w) (upperOf p v w) (omega arith) (omega arith) (omega arith) high
+      let high : upperOf intact p v w ≤ whole = upper-le p (plan-probable p valid) (cuts intact p v w) in
+      let low : lowerOf intact p v w ≤ upperOf intact p v w = lower-upper p (plan-probable p valid) (cuts intact p v w) in
+      line-most v w (lowerOf intact p v w) (upperOf intact p v w) (omega arith) (omega arith) (omega arith) high
 
-  pub plan-most : length (planText p) ≤ 92789
+  pub plan-most : length (planText intact p) ≤ 92789
   unfolding planText
   plan-most =
       let head = head-most (p .nodes) (length (p .links)) (length (p .events)) (count p) (complete p) (massExamined p)
@@ -212,6 +213,6 @@ module _ (p : Plan) (valid : planRefusal p ≡ 0) where
       number-most
       (digit-most (leb (length (planEnds p)) (p .limit)))
       (massExamined-le p (plan-probable p valid)) in
-      let rows = pairs-most-long (pairLine p) (p .nodes) pair-most (ranges .nodes-fit) in
-      rw (length-append (line (p .nodes ∷ length (p .links) ∷ length (p .events) ∷ count p ∷ complete p ∷ massExamined p ∷ [])) (pairsText (pairLine p) (p .nodes)))
+      let rows = pairs-most-long (pairLine intact p) (p .nodes) pair-most (ranges .nodes-fit) in
+      rw (length-append (line (p .nodes ∷ length (p .links) ∷ length (p .events) ∷ count p ∷ complete p ∷ massExamined p ∷ [])) (pairsText (pairLine intact p) (p .nodes)))
       (omega (arith, head, rows))

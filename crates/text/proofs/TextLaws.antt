@@ -17,6 +17,7 @@ use Rattle.plan.specs.declared.Header.{Header}
 use Rattle.plan.specs.declared.Reading.the-variants as reading
 use Rattle.layout.proofs.ListLaws.{length-links-of, length-events-of}
 use Rattle.files.proofs.ReaderLawsAnswer.{take-sets}
+use Rattle.network.specs.Outage.{intact}
 use Rattle.walk.specs.Walk.{count, complete, massExamined}
 use Rattle.pairs.specs.Pairs.{place}
 use Rattle.bounds.specs.Bounds.{lowerOf}
@@ -72,27 +73,27 @@ module _ (f g : ℕ → ℕ → List ℕ) (n : ℕ) (same : (v w : ℕ) → v < 
 
 -- ---- from the sums to the plan
 
-module _ (p : Plan) (valid : planRefusal p ≡ 0) (sums : List ℕ) (s : Summed p (p .nodes) sums) where
-  line-same : (v w : ℕ) → v < w → w < p .nodes → sumLine (p .nodes) (whole - massExamined p) sums v w ≡ pairLine p v w
+module _ (p : Plan) (valid : planRefusal p ≡ 0) (sums : List ℕ) (s : Summed intact p (p .nodes) sums) where
+  line-same : (v w : ℕ) → v < w → w < p .nodes → sumLine (p .nodes) (whole - massExamined p) sums v w ≡ pairLine intact p v w
   unfolding pairLine
   line-same v w h k =
-      let low : getD sums (place (p .nodes) v w) 0 ≡ lowerOf p v w = s .each v w h k in
-      ap₂ (λ (a b : ℕ). line (v ∷ w ∷ a ∷ b ∷ [])) low (ap (λ (x : ℕ). (whole - massExamined p) + x) low ∙ raised p valid v w)
+      let low : getD sums (place (p .nodes) v w) 0 ≡ lowerOf intact p v w = s .each v w h k in
+      ap₂ (λ (a b : ℕ). line (v ∷ w ∷ a ∷ b ∷ [])) low (ap (λ (x : ℕ). (whole - massExamined p) + x) low ∙ raised intact p valid v w)
 
   -- the listing of a plan with the counts of its header
   plan-text : (links events : ℕ) → links ≡ length (p .links) → events ≡ length (p .events)
       → line (p .nodes ∷ links ∷ events ∷ count p ∷ complete p ∷ massExamined p ∷ [])
       ++ pairsText (sumLine (p .nodes) (whole - massExamined p) sums) (p .nodes)
-      ≡ planText p
+      ≡ planText intact p
   unfolding planText
   plan-text links events e f =
       ap₂ (λ (a b : List ℕ). a ++ b)
       (ap₂ (λ (a b : ℕ). line (p .nodes ∷ a ∷ b ∷ count p ∷ complete p ∷ massExamined p ∷ [])) e f)
-      (pairs-same (sumLine (p .nodes) (whole - massExamined p) sums) (pairLine p) (p .nodes) line-same)
+      (pairs-same (sumLine (p .nodes) (whole - massExamined p) sums) (pairLine intact p) (p .nodes) line-same)
 
 pub sums-text : (h : Header) (links words sums : List ℕ) (t : Totals) → planRefusal (planOfLists h links words) ≡ 0
-    → t ≡ totalsOf (planOfLists h links words) → Summed (planOfLists h links words) (h .nodes) sums
-    → sumsText h t sums ≡ planText (planOfLists h links words)
+    → t ≡ totalsOf (planOfLists h links words) → Summed intact (planOfLists h links words) (h .nodes) sums
+    → sumsText h t sums ≡ planText intact (planOfLists h links words)
 unfolding sumsText planOfLists
 sums-text h links words sums t valid e s =
     ap (λ (x : Totals). headLine h x ++ pairsText (sumLine (h .nodes) (whole - x .mass) sums) (h .nodes)) e
@@ -102,11 +103,11 @@ sums-text h links words sums t valid e s =
 
 -- ---- from the plan to the file
 
-pub refused-listing : (b : List ℕ) (n : ℕ) (h : Header) → reading.Refused n ≡ readAnswer (refusal b) h → refusedText n ≡ listing b
+pub refused-listing : (b : List ℕ) (n : ℕ) (h : Header) → reading.Refused n ≡ readAnswer (refusal b) h → refusedText n ≡ listing intact b
 unfolding listing answerText
 refused-listing b n h e = go (refusal b) e
   where
-    go : (k : ℕ) → reading.Refused n ≡ readAnswer k h → refusedText n ≡ answerText k (planOf b)
+    go : (k : ℕ) → reading.Refused n ≡ readAnswer k h → refusedText n ≡ answerText intact k (planOf b)
     go zero z = absurd (let never : _≡_ {A = ℕ} 0 1 = cc in omega arith)
     go (suc k) z = let is : n ≡ suc k = cc in ap refusedText is
 
@@ -125,12 +126,12 @@ module _ (b links words : List ℕ) (h : Header) (e : reading.Accepted h ≡ rea
   pub loaded-accepted : listsRefusal h 256 128 links words ≡ 0
   loaded-accepted = subst (λ (x : Header). listsRefusal x 256 128 links words ≡ 0) (sym loaded-header) (loaded-lists .accepted)
 
-  pub accepted-listing : planText (planOfLists h links words) ≡ listing b
+  pub accepted-listing : planText intact (planOfLists h links words) ≡ listing intact b
   unfolding listing answerText
   accepted-listing =
-      ap (λ (x : Header). planText (planOfLists x links words)) loaded-header
-      ∙ ap planText (loaded-lists .denoted)
-      ∙ ap (λ (k : ℕ). answerText k (planOf b)) (sym (accepted-is (refusal b) h (headerOf b) e .0))
+      ap (λ (x : Header). planText intact (planOfLists x links words)) loaded-header
+      ∙ ap (planText intact) (loaded-lists .denoted)
+      ∙ ap (λ (k : ℕ). answerText intact k (planOf b)) (sym (accepted-is (refusal b) h (headerOf b) e .0))
 
 -- ---- the answer
 

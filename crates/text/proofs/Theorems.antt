@@ -11,6 +11,7 @@ use Rattle.plan.specs.Layout.{Bytes}
 use Rattle.refusals.specs.Tests.{roomTest}
 use Rattle.plan.specs.File.{refusal, planOf}
 use Rattle.layout.proofs.Theorems.{read-writes-again, longest, prefix-decides}
+use Rattle.network.specs.Outage.{intact}
 use Rattle.input.proofs.LoadedLaws.{bytes-each}
 use Rattle.text.specs.Listing.{answerText, listing}
 use Rattle.text.specs.Calls.{formattedAnswer}
@@ -19,29 +20,29 @@ use Rattle.text.proofs.FieldLaws.{refused-long}
 use Rattle.text.proofs.MostLaws.{refusal-most, refused-same, field-most, plan-most}
 
 -- THE LONGEST LISTING: the program's buffer has this length
-pub listing-most : (b : List ℕ) → Bytes b → length (listing b) ≤ 92789
+pub listing-most : (b : List ℕ) → Bytes b → length (listing intact b) ≤ 92789
 unfolding listing answerText
 listing-most b bytes = go (refusal b) refl
   where
-    go : (n : ℕ) → refusal b ≡ n → length (answerText n (planOf b)) ≤ 92789
+    go : (n : ℕ) → refusal b ≡ n → length (answerText intact n (planOf b)) ≤ 92789
     go zero e = plan-most (planOf b) (read-writes-again b bytes e .0)
     go (suc n) e =
         let small : suc n ≤ 11 = subst (λ (x : ℕ). x ≤ 11) e (refusal-most b) in
         omega (arith, refused-long (suc n), field-most 1 (suc n) 10 (omega arith))
 
 -- an array of that length has room for every listing
-pub array-room : (b : List ℕ) → ((i : ℕ) → getD b i 0 < 256) → length (listing b) ≤ length (replicate {A = ℕ} 92789 0)
+pub array-room : (b : List ℕ) → ((i : ℕ) → getD b i 0 < 256) → length (listing intact b) ≤ length (replicate {A = ℕ} 92789 0)
 array-room b bytes =
-    subst (λ (k : ℕ). length (listing b) ≤ k) (sym (length-replicate {A = ℕ} 92789 0)) (listing-most b (bytes-each b bytes))
+    subst (λ (k : ℕ). length (listing intact b) ≤ k) (sym (length-replicate {A = ℕ} 92789 0)) (listing-most b (bytes-each b bytes))
 
 -- a buffer of that length is never refused
-pub program-holds : (b : List ℕ) → Bytes b → formattedAnswer (roomTest 92789 (length (listing b))) (length (listing b)) ≡ formatted.Text (length (listing b))
-program-holds b bytes = rw (le-ltb 92789 (length (listing b)) (listing-most b bytes))
+pub program-holds : (b : List ℕ) → Bytes b → formattedAnswer (roomTest 92789 (length (listing intact b))) (length (listing intact b)) ≡ formatted.Text (length (listing intact b))
+program-holds b bytes = rw (le-ltb 92789 (length (listing intact b)) (listing-most b bytes))
 
 -- the listing of any list of bytes is that of its first 50,070: they decide a refusal, and an accepted list has no more
-pub listing-prefix : (b : List ℕ) → listing (take 50070 b) ≡ listing b
+pub listing-prefix : (b : List ℕ) → listing intact (take 50070 b) ≡ listing intact b
 listing-prefix b = go (refusal b) refl
   where
-    go : (n : ℕ) → refusal b ≡ n → listing (take 50070 b) ≡ listing b
-    go zero e = ap listing (take-all 50070 b (omega (arith, longest b e)))
+    go : (n : ℕ) → refusal b ≡ n → listing intact (take 50070 b) ≡ listing intact b
+    go zero e = ap (listing intact) (take-all 50070 b (omega (arith, longest b e)))
     go (suc n) e = refused-same b (take 50070 b) n e (prefix-decides b ∙ e)

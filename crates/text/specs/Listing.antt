@@ -1,10 +1,12 @@
 -- The listing of a plan file: document 01, section "Listing", to the byte. 32 is a space, 10 a line feed.
+-- `out` is what is out before the first event (document 02, request U7).
 -- Assumes nothing.
 use mathlib.Core.List.{List, [], _∷_, _++_}
 use Prim.Native.Nat.{ℕ, zero, suc, _-_}
 use lib.ListN.{length}
 use Rattle.plan.specs.Plan.{Plan}
 use Rattle.plan.specs.File.{refusal, planOf}
+use Rattle.network.specs.Outage.{Outage}
 use Rattle.walk.specs.Walk.{count, complete, massExamined}
 use Rattle.bounds.specs.Bounds.{lowerOf, upperOf}
 use Rattle.text.specs.Decimal.{decimal}
@@ -34,23 +36,23 @@ unfoldable pub pairsText : (ℕ → ℕ → List ℕ) → ℕ → List ℕ
 pairsText f n = rowsText f n 0 n
 
 -- the line of a pair: "v, w, lower, upper"
-unfoldable pub pairLine : Plan → ℕ → ℕ → List ℕ
-pairLine p v w = line (v ∷ w ∷ lowerOf p v w ∷ upperOf p v w ∷ [])
+unfoldable pub pairLine : Outage → Plan → ℕ → ℕ → List ℕ
+pairLine out p v w = line (v ∷ w ∷ lowerOf out p v w ∷ upperOf out p v w ∷ [])
 
 -- the listing of a plan. "Line 1: nodes, links, events, examined count, complete, E. Then for each pair: v, w, lower, upper."
-unfoldable pub planText : Plan → List ℕ
-planText p =
+unfoldable pub planText : Outage → Plan → List ℕ
+planText out p =
     line (p .nodes ∷ length (p .links) ∷ length (p .events) ∷ count p ∷ complete p ∷ massExamined p ∷ [])
-    ++ pairsText (pairLine p) (p .nodes)
+    ++ pairsText (pairLine out p) (p .nodes)
 
 -- "A refused plan prints only one line: `refused`, a space and its number."
 unfoldable pub refusedText : ℕ → List ℕ
 refusedText number = 114 ∷ 101 ∷ 102 ∷ 117 ∷ 115 ∷ 101 ∷ 100 ∷ 32 ∷ line (number ∷ [])
 
-unfoldable pub answerText : ℕ → Plan → List ℕ
-answerText zero p = planText p
-answerText (suc number) p = refusedText (suc number)
+unfoldable pub answerText : Outage → ℕ → Plan → List ℕ
+answerText out zero p = planText out p
+answerText out (suc number) p = refusedText (suc number)
 
 -- the listing of a list of bytes
-unfoldable pub listing : List ℕ → List ℕ
-listing b = answerText (refusal b) (planOf b)
+unfoldable pub listing : Outage → List ℕ → List ℕ
+listing out b = answerText out (refusal b) (planOf b)

@@ -11,25 +11,26 @@ ghost use lib.Seq.{sets};
 ghost use Rattle.refusals.specs.Tests.{roomTest};
 ghost use Rattle.plan.specs.LentLists.{planOfLists, listsRefusal};
 ghost use Rattle.plan.specs.Calls.{filled};
+ghost use Rattle.network.specs.Outage.{intact};
 ghost use Rattle.text.specs.Listing.{planText, listing};
 ghost use Rattle.text.specs.Calls.{formattedAnswer, sizeIn};
 
 // The listing of a plan that stands in arrays and is accepted.
 fn put_accepted(out: &mut [u8], h: Header, links: &[u8; 256], words: &[u64; 512]) -> usize
     requires { ⌜ listsRefusal h 256 128 (now links) (now words) ≡ 0 ⌝ }
-    requires { ⌜ length (planText (planOfLists h (now links) (now words))) ≤ length (now out) ⌝ }
-    ensures { λ r. ⌜ (now (out .exit) ≡ sets (now (out .entry)) 0 (planText (planOfLists h (now (links .entry)) (now (words .entry)))))
-        × (r ≡ length (planText (planOfLists h (now (links .entry)) (now (words .entry))))) ⌝ }
+    requires { ⌜ length (planText intact (planOfLists h (now links) (now words))) ≤ length (now out) ⌝ }
+    ensures { λ r. ⌜ (now (out .exit) ≡ sets (now (out .entry)) 0 (planText intact (planOfLists h (now (links .entry)) (now (words .entry)))))
+        × (r ≡ length (planText intact (planOfLists h (now (links .entry)) (now (words .entry))))) ⌝ }
 {
     let mut sums = [0u64; 2016];
-    let totals = bounds::walk_all(h, links, words, &mut sums);
+    let totals = bounds::walk_all(h, links, words, network::Failed::NONE, &mut sums);
     put_plan(out, h, totals, &sums)
 }
 
 // The listing of a plan file, where there is room for it.
 fn put_listing(s: &[u8], out: &mut [u8]) -> usize
-    requires { ⌜ length (listing (now s)) ≤ length (now out) ⌝ }
-    ensures { λ r. ⌜ (now (out .exit) ≡ sets (now (out .entry)) 0 (listing (now (s .entry)))) × (r ≡ length (listing (now (s .entry)))) ⌝ }
+    requires { ⌜ length (listing intact (now s)) ≤ length (now out) ⌝ }
+    ensures { λ r. ⌜ (now (out .exit) ≡ sets (now (out .entry)) 0 (listing intact (now (s .entry)))) × (r ≡ length (listing intact (now (s .entry)))) ⌝ }
 {
     let mut links = [0u8; 256];
     let mut words = [0u64; 512];
@@ -44,11 +45,11 @@ fn put_listing(s: &[u8], out: &mut [u8]) -> usize
 // text is made in an array that holds the longest listing.
 pub fn listing_text(plan: &[u8], out: &mut [u8]) -> Formatted
     ensures answer { λ r. ⌜ r ≡ formattedAnswer
-        (roomTest (length (now (out .entry))) (length (listing (now (plan .entry)))))
-        (length (listing (now (plan .entry)))) ⌝ }
+        (roomTest (length (now (out .entry))) (length (listing intact (now (plan .entry)))))
+        (length (listing intact (now (plan .entry)))) ⌝ }
     ensures bytes { λ r. ⌜ now (out .exit) ≡ filled
-        (roomTest (length (now (out .entry))) (length (listing (now (plan .entry)))))
-        (listing (now (plan .entry))) (now (out .entry)) ⌝ }
+        (roomTest (length (now (out .entry))) (length (listing intact (now (plan .entry)))))
+        (listing intact (now (plan .entry))) (now (out .entry)) ⌝ }
     ensures within { λ r. ⌜ sizeIn r ≤ length (now (out .exit)) ⌝ }
 {
     let mut text = [0u8; 92789];

@@ -13,6 +13,7 @@ use Rattle.plan.specs.declared.Header.{Header}
 use Rattle.plan.proofs.FilledLaws.{filled-none}
 use Rattle.refusals.proofs.OrderLaws.{stop, skip}
 use Rattle.lent.specs.Taken.{Taken}
+use Rattle.network.specs.Outage.{intact}
 use Rattle.entries.specs.Entries.{TopologyList, entryWords}
 use Rattle.topology_list.specs.TopologyList.{topologyListOf}
 use Rattle.entries.specs.Words.{HoldsList}
@@ -46,13 +47,13 @@ module _ (h : Header) (links events list : List ℕ) where
   -- an answer, with what it leaves in the lent list
   abbrev pub ListPromised : Listed → List ℕ → Type 0
   ListPromised r list′ =
-      (r ≡ listedAnswer (topologiesNumber h links events list) (length (topologyListIn h links events list .entries)))
-      × (list′ ≡ listAfter h (length links) (length events / 4) links events list)
+      (r ≡ listedAnswer (topologiesNumber intact h links events list) (length (topologyListIn intact h links events list .entries)))
+      × (list′ ≡ listAfter intact h (length links) (length events / 4) links events list)
 
-  refused : (number : ℕ) (list′ : List ℕ) → number ≡ topologiesNumber h links events list → (number ≡ 0 → ⊥)
-      → list′ ≡ listAfter h (length links) (length events / 4) links events list → ListPromised (listed.Refused number) list′
+  refused : (number : ℕ) (list′ : List ℕ) → number ≡ topologiesNumber intact h links events list → (number ≡ 0 → ⊥)
+      → list′ ≡ listAfter intact h (length links) (length events / 4) links events list → ListPromised (listed.Refused number) list′
   refused number list′ is n e =
-      (refused-is number _ n ∙ ap (λ (x : ℕ). listedAnswer x (length (topologyListIn h links events list .entries))) is, e)
+      (refused-is number _ n ∙ ap (λ (x : ℕ). listedAnswer x (length (topologyListIn intact h links events list .entries))) is, e)
 
   -- the lists are refused: nothing changes
   pub lists-refused : (number : ℕ) → number ≡ listsNumber h links events → (number ≡ 0 → ⊥) → ListPromised (listed.Refused number) list
@@ -61,11 +62,11 @@ module _ (h : Header) (links events list : List ℕ) where
 
   -- the walk of the arrays that accepted lists were taken into gave the list
   module _ (number : ℕ) (e : number ≡ listsNumber h links events) (z : number ≡ 0) (bytes words : List ℕ) (t : Taken h links events bytes words)
-      (list′ : List ℕ) (q : Placed) (gave : HoldsList (topologyListOf (length list / 4) (planOfLists h bytes words)) 0 list list′ q) where
-    g : HoldsList (topologyListIn h links events list) 0 list list′ q
-    g = subst (λ (p : Plan). HoldsList (topologyListOf (length list / 4) p) 0 list list′ q) (t .denoted) gave
+      (list′ : List ℕ) (q : Placed) (gave : HoldsList (topologyListOf intact (length list / 4) (planOfLists h bytes words)) 0 list list′ q) where
+    g : HoldsList (topologyListIn intact h links events list) 0 list list′ q
+    g = subst (λ (p : Plan). HoldsList (topologyListOf intact (length list / 4) p) 0 list list′ q) (t .denoted) gave
 
-    left-in : list′ ≡ listAfter h (length links) (length events / 4) links events list
+    left-in : list′ ≡ listAfter intact h (length links) (length events / 4) links events list
     left-in = rw (sym e ∙ z) (laid-down _ list list′ q g)
 
     -- a topology found no entry left
@@ -76,6 +77,6 @@ module _ (h : Header) (links events list : List ℕ) where
     pub list-done : q .number ≡ 0 → ListPromised (listed.Entries (q .count)) list′
     unfolding topologiesRefusal first
     list-done f =
-        let none : topologyListIn h links events list .number ≡ 0 = sym (g .number) ∙ f in
-        let many : q .count ≡ length (topologyListIn h links events list .entries) = sym (entries-length (q .count) list′) ∙ ap length (g .entries) in
+        let none : topologyListIn intact h links events list .number ≡ 0 = sym (g .number) ∙ f in
+        let many : q .count ≡ length (topologyListIn intact h links events list .entries) = sym (entries-length (q .count) list′) ∙ ap length (g .entries) in
         (rw (sym e ∙ z, none) (ap listed.Entries many), left-in)

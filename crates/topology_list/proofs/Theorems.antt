@@ -32,19 +32,20 @@ use native.Mathlib.Decide.{decLe}
 use Rattle.topology_list.proofs.RoomLaws.{room-for-all, no-room-for-all}
 use mathlib.Core.Bool.{Bool}
 use Rattle.sets.specs.Sets.{digit}
+use Rattle.network.specs.Outage.{intact}
 use Rattle.walk.specs.Ends.{sumEnds}
 use Rattle.sums.proofs.BoundsLaws.{upper-lower}
 use Rattle.entries.specs.declared.Topology.{Topology}
 use Rattle.topology_list.proofs.ListBounds.{same-cut, same-sum}
 
-module _ (p : Plan) (room : ℕ) (placed-all : topologyListOf room p .number ≡ 0) where
+module _ (p : Plan) (room : ℕ) (placed-all : topologyListOf intact room p .number ≡ 0) where
   abbrev entries : List Entry
-  entries = topologyListOf room p .entries
+  entries = topologyListOf intact room p .entries
 
   -- where 15 is not met, a sum of mass × weight over the entries is that over the examined scenarios, whatever the weight of a topology
-  pub sum-is : (weight : Topology → ℕ) → sumEntries weight entries ≡ sumEnds (λ s m. m * weight (topologyAfter p s)) (firstEnds p)
+  pub sum-is : (weight : Topology → ℕ) → sumEntries weight entries ≡ sumEnds (λ s m. m * weight (topologyAfter intact p s)) (firstEnds p)
   unfolding topologyListOf
-  sum-is weight = sum-placed room (topologyAfter p) weight [] (firstEnds p) placed-all ∙ zero-add _
+  sum-is weight = sum-placed room (topologyAfter intact p) weight [] (firstEnds p) placed-all ∙ zero-add _
 
   -- the list's masses sum to E
   pub list-sums : massesIn entries ≡ massExamined p
@@ -55,37 +56,37 @@ module _ (p : Plan) (room : ℕ) (placed-all : topologyListOf room p .number ≡
 
   module _ (few : p .nodes ≤ 64) (fewLinks : length (p .links) ≤ 128) (v w : ℕ) where
     -- and the lower bound of every pair taken from it is the run's
-    pub list-lower : lowerFrom p entries v w ≡ lowerOf p v w
+    pub list-lower : lowerFrom p entries v w ≡ lowerOf intact p v w
     list-lower =
         sum-is (λ t. digit (cutIn p v w t))
         ∙ same-sum _ _
-        (λ s m. ap (λ (b : Bool). m * digit b) (same-cut (p .nodes) (p .links) (topologyOf p s .out) few fewLinks v w))
+        (λ s m. ap (λ (b : Bool). m * digit b) (same-cut (p .nodes) (p .links) (topologyOf intact p s .out) few fewLinks v w))
         (firstEnds p)
 
     -- and so is the upper bound, 10^18 less the list's masses and the lower bound added
-    pub list-upper : Probabilities (p .events) → upperOf p v w + massesIn entries ≡ lowerFrom p entries v w + whole
-    list-upper q = omega (arith, list-sums, list-lower, upper-lower p q (cuts p v w))
+    pub list-upper : Probabilities (p .events) → upperOf intact p v w + massesIn entries ≡ lowerFrom p entries v w + whole
+    list-upper q = omega (arith, list-sums, list-lower, upper-lower p q (cuts intact p v w))
 
 module _ (room : ℕ) (p : Plan) where
   -- with an entry for each different topology the list has them all, and with fewer entries 15 is met
-  pub never-early : length (differentOf p) ≤ room → topologyListOf room p ≡ topologyList (differentOf p) 0
+  pub never-early : length (differentOf intact p) ≤ room → topologyListOf intact room p ≡ topologyList (differentOf intact p) 0
   unfolding topologyListOf
-  never-early h = room-for-all (topologyAfter p) room [] (firstEnds p) h
+  never-early h = room-for-all (topologyAfter intact p) room [] (firstEnds p) h
 
-  pub never-late : room < length (differentOf p) → topologyListOf room p .number ≡ 15
+  pub never-late : room < length (differentOf intact p) → topologyListOf intact room p .number ≡ 15
   unfolding topologyListOf
-  never-late h = no-room-for-all (topologyAfter p) room [] (firstEnds p) (omega arith) h
+  never-late h = no-room-for-all (topologyAfter intact p) room [] (firstEnds p) (omega arith) h
 
   -- 15 is met exactly where there are more of them than entries
-  pub full-iff : (topologyListOf room p .number ≡ 15) ↔ (room < length (differentOf p))
+  pub full-iff : (topologyListOf intact room p .number ≡ 15) ↔ (room < length (differentOf intact p))
   full-iff = (there, never-late)
     where
-      fits : Dec (length (differentOf p) ≤ room) → topologyListOf room p .number ≡ 15 → room < length (differentOf p)
+      fits : Dec (length (differentOf intact p) ≤ room) → topologyListOf intact room p .number ≡ 15 → room < length (differentOf intact p)
       fits (yes h) e = absurd (omega (arith, e, ap (λ (l : TopologyList). l .number) (never-early h)))
       fits (no n) e = omega arith
 
-      there : topologyListOf room p .number ≡ 15 → room < length (differentOf p)
-      there = fits (decLe (length (differentOf p)) room)
+      there : topologyListOf intact room p .number ≡ 15 → room < length (differentOf intact p)
+      there = fits (decLe (length (differentOf intact p)) room)
 
 -- the entries are found again in their words
 entries-of-words : (es : List Entry) (r : List ℕ) → entriesOf (length es) (entryWords es ++ r) ≡ es
@@ -94,30 +95,30 @@ entries-of-words [] r = refl
 entries-of-words (e ∷ es) r = rw (entries-of-words es r)
 
 -- a list never has more entries than room, and no two of them are equal
-pub list-room : (room : ℕ) (p : Plan) → length (topologyListOf room p .entries) ≤ room
+pub list-room : (room : ℕ) (p : Plan) → length (topologyListOf intact room p .entries) ≤ room
 unfolding topologyListOf
-list-room room p = never-over room (topologyAfter p) [] (firstEnds p) (omega arith)
+list-room room p = never-over room (topologyAfter intact p) [] (firstEnds p) (omega arith)
 
-pub list-different : (room : ℕ) (p : Plan) → Different (topologyListOf room p .entries)
+pub list-different : (room : ℕ) (p : Plan) → Different (topologyListOf intact room p .entries)
 unfolding topologyListOf
-list-different room p = different-placed room (topologyAfter p) [] (firstEnds p) tt
+list-different room p = different-placed room (topologyAfter intact p) [] (firstEnds p) tt
 
 -- what lists that are not refused leave in the lent list, also at 15: the entries' words, and after them the words that stood there
 pub left-behind : (h : Header) (links events list : List ℕ) → listsRefusal h (length links) (length events / 4) links events ≡ 0
-    → listAfter h (length links) (length events / 4) links events list
-    ≡ entryWords (topologyListIn h links events list .entries) ++ drop (4 * length (topologyListIn h links events list .entries)) list
+    → listAfter intact h (length links) (length events / 4) links events list
+    ≡ entryWords (topologyListIn intact h links events list .entries) ++ drop (4 * length (topologyListIn intact h links events list .entries)) list
 left-behind h links events list fine =
     rw fine
     (sets-eq (entryWords entries) list 0 (omega (arith, words, list-room (length list / 4) (planOfLists h links events)))
     ∙ ap (λ (n : ℕ). entryWords entries ++ drop n list) (zero-add (length (entryWords entries)) ∙ words))
   where
     entries : List Entry
-    entries = topologyListIn h links events list .entries
+    entries = topologyListIn intact h links events list .entries
 
-    words : length (entryWords (topologyListIn h links events list .entries)) ≡ 4 * length (topologyListIn h links events list .entries)
-    words = entry-words-length (topologyListIn h links events list .entries)
+    words : length (entryWords (topologyListIn intact h links events list .entries)) ≡ 4 * length (topologyListIn intact h links events list .entries)
+    words = entry-words-length (topologyListIn intact h links events list .entries)
 
-module _ (h : Header) (links events list : List ℕ) (accepted : topologiesNumber h links events list ≡ 0) where
+module _ (h : Header) (links events list : List ℕ) (accepted : topologiesNumber intact h links events list ≡ 0) where
   abbrev p : Plan
   p = planOfLists h links events
 
@@ -125,23 +126,23 @@ module _ (h : Header) (links events list : List ℕ) (accepted : topologiesNumbe
   abbrev written : List Entry
   written =
       entriesOf
-      (countIn (listedAnswer (topologiesNumber h links events list) (length (topologyListIn h links events list .entries))))
-      (listAfter h (length links) (length events / 4) links events list)
+      (countIn (listedAnswer (topologiesNumber intact h links events list) (length (topologyListIn intact h links events list .entries))))
+      (listAfter intact h (length links) (length events / 4) links events list)
 
   lists-fine : listsRefusal h (length links) (length events / 4) links events ≡ 0
   unfolding topologiesRefusal
   lists-fine = first-none _ _ accepted .0
 
-  all-placed : topologyListIn h links events list .number ≡ 0
+  all-placed : topologyListIn intact h links events list .number ≡ 0
   unfolding topologiesRefusal
   all-placed = first-none _ _ (first-none _ _ accepted .1) .0
 
   -- they are the topology list
-  pub written-is : written ≡ topologyListIn h links events list .entries
+  pub written-is : written ≡ topologyListIn intact h links events list .entries
   written-is =
       rw accepted
-      (ap (entriesOf (length (topologyListIn h links events list .entries))) (left-behind h links events list lists-fine)
-      ∙ entries-of-words (topologyListIn h links events list .entries) _)
+      (ap (entriesOf (length (topologyListIn intact h links events list .entries))) (left-behind h links events list lists-fine)
+      ∙ entries-of-words (topologyListIn intact h links events list .entries) _)
 
   few : p .nodes ≤ 64
   unfolding planOfLists
@@ -160,9 +161,9 @@ module _ (h : Header) (links events list : List ℕ) (accepted : topologiesNumbe
   written-sums = ap massesIn written-is ∙ list-sums p (length list / 4) all-placed
 
   -- the bounds of every pair taken from them are those of the run
-  pub written-lower : (v w : ℕ) → lowerFrom p written v w ≡ lowerOf p v w
+  pub written-lower : (v w : ℕ) → lowerFrom p written v w ≡ lowerOf intact p v w
   written-lower v w =
       ap (λ (es : List Entry). lowerFrom p es v w) written-is ∙ list-lower p (length list / 4) all-placed few few-links v w
 
-  pub written-upper : (v w : ℕ) → upperOf p v w + massesIn written ≡ lowerFrom p written v w + whole
+  pub written-upper : (v w : ℕ) → upperOf intact p v w + massesIn written ≡ lowerFrom p written v w + whole
   written-upper v w = rw written-is (list-upper p (length list / 4) all-placed few few-links v w probable)

@@ -13,6 +13,7 @@ use Rattle.plan.specs.Lists.{eventsOf}
 use Rattle.plan.specs.LentLists.{planOfLists}
 use Rattle.plan.specs.Held.{Held}
 use Rattle.plan.specs.declared.Header.{Header}
+use Rattle.network.specs.Outage.{intact}
 use Rattle.walk.specs.Scenario.{Scenario, scenarioOf}
 use Rattle.walk.specs.Ends.{End, relevant, sumEnds}
 use Rattle.walk.proofs.Laws.{masses-le}
@@ -85,11 +86,11 @@ pub record Turn (h : Header) (links words : List ℕ) (at₀ : ℕ) (stack₀ li
     (stack list : List ℕ) (at left count : ℕ) : Type 0 where
   pub gives : (list′ : List ℕ) (q : Placed)
       → HoldsList
-      (placedAll (length list / 4) (topologyAfter (planOfLists h links words)) (topologyList (entriesOf count list) 0)
+      (placedAll (length list / 4) (topologyAfter intact (planOfLists h links words)) (topologyList (entriesOf count list) 0)
       (nextEnds h words at stack left))
       count list list′ q
       → HoldsList
-      (placedAll (length list₀ / 4) (topologyAfter (planOfLists h links words)) (topologyList [] 0) (nextEnds h words at₀ stack₀ k))
+      (placedAll (length list₀ / 4) (topologyAfter intact (planOfLists h links words)) (topologyList [] 0) (nextEnds h words at₀ stack₀ k))
       0 list₀ list′ q
   pub room : 4 * count ≤ length list
   pub sized : length list ≡ length list₀
@@ -114,7 +115,7 @@ module _ (h : Header) (links words : List ℕ) (at₀ : ℕ) (stack₀ list₀ :
     (g : Turn h links words at₀ stack₀ list₀ k stack list at left count)
     (stack′ : List ℕ) (r : Step) (s : Handed (h .events) (h .threshold) words at stack left stack′ r) where
   abbrev T : Scenario → Topology
-  T = topologyAfter (planOfLists h links words)
+  T = topologyAfter intact (planOfLists h links words)
 
   abbrev aim : TopologyList
   aim = placedAll (length list₀ / 4) T (topologyList [] 0) (nextEnds h words at₀ stack₀ k)
@@ -198,10 +199,10 @@ module _ (h : Header) (links words : List ℕ) (at : ℕ) (stack : List ℕ) (b 
       }
 
   pub whole-listing : (room : ℕ)
-      → placedAll room (topologyAfter (planOfLists h links words)) (topologyList [] 0) (nextEnds h words at stack (h .limit))
-      ≡ topologyListOf room (planOfLists h links words)
+      → placedAll room (topologyAfter intact (planOfLists h links words)) (topologyList [] 0) (nextEnds h words at stack (h .limit))
+      ≡ topologyListOf intact room (planOfLists h links words)
   unfolding planOfLists topologyListOf
   whole-listing room =
       ap
-      (λ (l : List End). placedAll room (topologyAfter (planOfLists h links words)) (topologyList [] 0) (take (h .limit) l))
+      (λ (l : List End). placedAll room (topologyAfter intact (planOfLists h links words)) (topologyList [] 0) (take (h .limit) l))
       (begun-whole at stack b (h .events) (h .threshold) words)

@@ -10,13 +10,12 @@ use Rattle.sets.proofs.Laws.{bit-joined-low, bit-joined-high}
 use Rattle.plan.specs.Lists.{linksOf, eventsOf}
 use Rattle.plan.specs.LentLists.{planOfLists}
 use Rattle.plan.specs.declared.Header.{Header}
-use Rattle.network.specs.Outage.{Outage, outageOf}
+use Rattle.network.specs.Outage.{Outage, intact, outageOf}
 use Rattle.network.specs.Topology.{Network, networkOf, nodeWorks, linkWorks}
 use Rattle.network.specs.Code.{outage, networkIn}
 use Rattle.network.specs.declared.Failed.{Failed}
 use Rattle.walk.specs.Scenario.{scenarioOf}
 use Rattle.walk.proofs.ScenarioLaws.{number-scenario}
-use Rattle.bounds.specs.Bounds.{intact}
 use Rattle.topology_list.specs.TopologyList.{topologyIn, topologyAfter}
 use Rattle.sets.proofs.WhereLaws.{set-is}
 
@@ -41,7 +40,7 @@ module _ (h : Header) (links words : List ℕ) (lowEvents highEvents : ℕ) (dec
   works v = working-nodes v
 
   pub topology-after : (record { nodes = nodes; low = low; high = high })
-      ≡ topologyAfter (planOfLists h links words) (scenarioOf (h .events) (joined lowEvents highEvents))
+      ≡ topologyAfter intact (planOfLists h links words) (scenarioOf (h .events) (joined lowEvents highEvents))
   unfolding planOfLists
   topology-after =
       topology-is (networkIn (h .nodes) failed links (h .links)) nodes low high a b c works working-links

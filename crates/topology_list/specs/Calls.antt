@@ -1,5 +1,6 @@
 -- What the call `topologies` answers, and what it leaves in the lent list, for every input. For each case of the answer, `listedAnswer`
 -- says which number and value it stands for.
+-- `out` is what is out before the first event (document 02, request U7).
 -- Assumes nothing.
 use mathlib.Core.List.{List, [], _∷_}
 use Prim.Native.Nat.{ℕ, zero, suc, _/_}
@@ -8,23 +9,24 @@ use Rattle.mass.specs.Refusal.{first}
 use Rattle.plan.specs.LentLists.{listsRefusal, planOfLists}
 use Rattle.plan.specs.Calls.{filled}
 use Rattle.plan.specs.declared.Header.{Header}
+use Rattle.network.specs.Outage.{Outage}
 use Rattle.entries.specs.Entries.{TopologyList, entryWords}
 use Rattle.topology_list.specs.TopologyList.{topologyListOf}
 use Rattle.topology_list.specs.declared.Listed.{Listed}
 use Rattle.topology_list.specs.declared.Listed.the-variants as listed
 
 -- the topology list of a header and lent lists, in a lent list of words: up to three words at its tail make no whole entry
-abbrev pub topologyListIn : Header → List ℕ → List ℕ → List ℕ → TopologyList
-topologyListIn h links events list = topologyListOf (length list / 4) (planOfLists h links events)
+abbrev pub topologyListIn : Outage → Header → List ℕ → List ℕ → List ℕ → TopologyList
+topologyListIn out h links events list = topologyListOf out (length list / 4) (planOfLists h links events)
 
 -- the lists' tests, then 15
-unfoldable pub topologiesRefusal : Header → ℕ → ℕ → List ℕ → List ℕ → List ℕ → ℕ
-topologiesRefusal h linkRoom eventRoom links words list =
-    first (listsRefusal h linkRoom eventRoom links words ∷ topologyListIn h links words list .number ∷ [])
+unfoldable pub topologiesRefusal : Outage → Header → ℕ → ℕ → List ℕ → List ℕ → List ℕ → ℕ
+topologiesRefusal out h linkRoom eventRoom links words list =
+    first (listsRefusal h linkRoom eventRoom links words ∷ topologyListIn out h links words list .number ∷ [])
 
 -- the number with which the call is refused
-abbrev pub topologiesNumber : Header → List ℕ → List ℕ → List ℕ → ℕ
-topologiesNumber h links events list = topologiesRefusal h (length links) (length events / 4) links events list
+abbrev pub topologiesNumber : Outage → Header → List ℕ → List ℕ → List ℕ → ℕ
+topologiesNumber out h links events list = topologiesRefusal out h (length links) (length events / 4) links events list
 
 abbrev pub listedAnswer : ℕ → ℕ → Listed
 listedAnswer zero count = listed.Entries count
@@ -37,6 +39,6 @@ countIn (listed.Entries count) = count
 
 -- what the call leaves in the lent list: a refusal of the lists changes nothing; else, also at 15, the entries stand from the start, and
 -- the words past the last entry stay as they were
-abbrev pub listAfter : Header → ℕ → ℕ → List ℕ → List ℕ → List ℕ → List ℕ
-listAfter h linkRoom eventRoom links words list =
-    filled (listsRefusal h linkRoom eventRoom links words) (entryWords (topologyListIn h links words list .entries)) list
+abbrev pub listAfter : Outage → Header → ℕ → ℕ → List ℕ → List ℕ → List ℕ → List ℕ
+listAfter out h linkRoom eventRoom links words list =
+    filled (listsRefusal h linkRoom eventRoom links words) (entryWords (topologyListIn out h links words list .entries)) list

@@ -1,10 +1,12 @@
 -- The different topologies of the examined scenarios: document 01, section "Further readings of a plan".
+-- `out` is what is out before the first event (document 02, request U7).
 -- Assumes nothing.
 use mathlib.Core.Path.{_≡_}
 use mathlib.Core.List.{List, [], _∷_}
 use Rattle.entries.specs.Entries.{Entry, added}
 use Rattle.entries.specs.declared.Topology.{Topology}
 use Rattle.plan.specs.Plan.{Plan}
+use Rattle.network.specs.Outage.{Outage}
 use Rattle.walk.specs.Scenario.{Scenario}
 use Rattle.walk.specs.Ends.{End, dropped, relevant}
 use Rattle.walk.specs.Walk.{firstEnds}
@@ -27,5 +29,5 @@ addedAll topology entries (dropped ∷ list) = addedAll topology entries list
 addedAll topology entries (relevant s m ∷ list) = addedAll topology (added (topology s) m entries) list
 
 -- the different topologies of the examined scenarios
-abbrev pub differentOf : Plan → List Entry
-differentOf p = addedAll (topologyAfter p) [] (firstEnds p)
+abbrev pub differentOf : Outage → Plan → List Entry
+differentOf out p = addedAll (topologyAfter out p) [] (firstEnds p)

@@ -5,7 +5,7 @@ use mathlib.Core.List.{[], _∷_}
 use Prim.Native.Nat.{ℕ}
 use Rattle.sets.specs.Sets.{bit, setWhere, anyBelow}
 use Rattle.plan.specs.Plan.{Plan, Event}
-use Rattle.network.specs.Outage.{unionOf}
+use Rattle.network.specs.Outage.{intact, unionOf}
 use Rattle.network.specs.Topology.{nodeWorks, linkWorks, joins, adjacent}
 use Rattle.topology.specs.Paths.{via, disconnected}
 use Rattle.walk.specs.Ends.{ends}
@@ -35,16 +35,16 @@ abbrev down : Topology
 down = record { nodes = 3; low = 0; high = 0 }
 
 -- four scenarios, of which three have the same topology; room for one entry is too little, and what the first gave stays
-example-added : topologyListOf 2 (example 1) ≡ topologyList (entry up 250000000000000000 ∷ entry down 750000000000000000 ∷ []) 0
+example-added : topologyListOf intact 2 (example 1) ≡ topologyList (entry up 250000000000000000 ∷ entry down 750000000000000000 ∷ []) 0
 unfolding topologyListOf ends topologyIn setWhere nodeWorks linkWorks unionOf bit sameTopology
 example-added = refl
 
-example-full : topologyListOf 1 (example 1) ≡ topologyList (entry up 250000000000000000 ∷ []) 15
+example-full : topologyListOf intact 1 (example 1) ≡ topologyList (entry up 250000000000000000 ∷ []) 15
 unfolding topologyListOf ends topologyIn setWhere nodeWorks linkWorks unionOf bit sameTopology
 example-full = refl
 
 -- nothing examined: no entry, in no room
-example-none : topologyListOf 0 (example 250000000000000001) ≡ topologyList [] 0
+example-none : topologyListOf intact 0 (example 250000000000000001) ≡ topologyList [] 0
 unfolding topologyListOf ends
 example-none = refl
 

@@ -1,4 +1,5 @@
 -- The topology list: document 01, section "Further readings of a plan".
+-- `out` is what is out before the first event (document 02, request U7).
 -- Assumes nothing.
 use mathlib.Core.List.{List, [], _∷_}
 use Prim.Native.Nat.{ℕ, zero, suc, _+_}
@@ -6,6 +7,7 @@ use Rattle.plan.specs.Plan.{Plan}
 use Rattle.network.specs.Topology.{Network, nodeWorks, linkWorks}
 use Rattle.walk.specs.Scenario.{Scenario}
 use Rattle.sets.specs.Sets.{setWhere}
+use Rattle.network.specs.Outage.{Outage}
 use Rattle.walk.specs.Ends.{End, dropped, relevant}
 use Rattle.walk.specs.Walk.{firstEnds}
 use Rattle.bounds.specs.Bounds.{topologyOf}
@@ -36,9 +38,9 @@ placedAll room topology list [] = list
 placedAll room topology list (end ∷ ends) = placedAll room topology (placed room topology list end) ends
 
 -- the topology of a scenario
-abbrev pub topologyAfter : Plan → Scenario → Topology
-topologyAfter p s = topologyIn (topologyOf p s)
+abbrev pub topologyAfter : Outage → Plan → Scenario → Topology
+topologyAfter out p s = topologyIn (topologyOf out p s)
 
 -- the topology list of a plan, in a list with room for `room` entries: over the examined scenarios, in the walk's order
-unfoldable pub topologyListOf : ℕ → Plan → TopologyList
-topologyListOf room p = placedAll room (topologyAfter p) (topologyList [] 0) (firstEnds p)
+unfoldable pub topologyListOf : Outage → ℕ → Plan → TopologyList
+topologyListOf out room p = placedAll room (topologyAfter out p) (topologyList [] 0) (firstEnds p)

@@ -6,13 +6,14 @@ ghost use mathlib.Core.Path.{_≡_};
 ghost use Prim.Native.Nat.{_/_};
 ghost use lib.ListN.{length};
 ghost use Rattle.topology_list.specs.Calls.{topologyListIn, topologiesNumber, listedAnswer, listAfter};
+ghost use Rattle.network.specs.Outage.{intact};
 
 // The topology list of a plan: fills the list with the entries, four words each, and answers how many there are.
 pub fn topologies(h: Header, links: &[u8], events: &[u64], list: &mut [u64]) -> Listed
     ensures answer { λ r. ⌜ r ≡ listedAnswer
-        (topologiesNumber h (now (links .entry)) (now (events .entry)) (now (list .entry)))
-        (length (topologyListIn h (now (links .entry)) (now (events .entry)) (now (list .entry)) .entries)) ⌝ }
-    ensures list { λ r. ⌜ now (list .exit) ≡ listAfter h
+        (topologiesNumber intact h (now (links .entry)) (now (events .entry)) (now (list .entry)))
+        (length (topologyListIn intact h (now (links .entry)) (now (events .entry)) (now (list .entry)) .entries)) ⌝ }
+    ensures list { λ r. ⌜ now (list .exit) ≡ listAfter intact h
         (length (now (links .entry))) (length (now (events .entry)) / 4) (now (links .entry)) (now (events .entry)) (now (list .entry)) ⌝ }
 {
     let mut bytes = [0u8; 256];

@@ -13,6 +13,7 @@ ghost use Rattle.plan.specs.LentLists.{planOfLists};
 ghost use Rattle.network.specs.Table.{LinksAt};
 ghost use Rattle.walk.specs.Scenario.{scenarioOf};
 ghost use Rattle.plan.specs.Held.{Held};
+ghost use Rattle.network.specs.Outage.{intact};
 ghost use Rattle.entries.specs.Entries.{topologyList};
 ghost use Rattle.topology_list.specs.TopologyList.{placedAll, topologyAfter, topologyListOf};
 ghost use Rattle.entries.specs.Words.{HoldsList};
@@ -30,16 +31,11 @@ fn topology_of(
     requires { ⌜ Held h (now links) (now words) ⌝ }
     requires { ⌜ LinksAt (now links) (h .links) (now table) ⌝ }
     requires { ⌜ joined low high < 2 ^ (h .events) ⌝ }
-    ensures { λ r. ⌜ r ≡ topologyAfter (planOfLists h (now (links .entry)) (now (words .entry)))
+    ensures { λ r. ⌜ r ≡ topologyAfter intact (planOfLists h (now (links .entry)) (now (words .entry)))
         (scenarioOf (h .events) (joined low high)) ⌝ }
 {
-    let intact = Failed {
-        nodes: 0,
-        low: 0,
-        high: 0,
-    };
     let n = h.nodes as usize;
-    let failed = network::failed_by(words, h.events as usize, low, high, intact);
+    let failed = network::failed_by(words, h.events as usize, low, high, Failed::NONE);
     let nodes = network::working_nodes(n, failed.nodes);
     let up = network::working_links(failed, h.links as usize, table);
     Topology {
@@ -62,7 +58,7 @@ fn list_ends(
     requires { ⌜ LinksAt (now links) (h .links) (now table) ⌝ }
     requires { ⌜ MassesFit h (now links) (now words) start (now stack) ⌝ }
     ensures { λ r. ⌜ HoldsList
-        (placedAll (length (now (list .entry)) / 4) (topologyAfter (planOfLists h (now (links .entry)) (now (words .entry))))
+        (placedAll (length (now (list .entry)) / 4) (topologyAfter intact (planOfLists h (now (links .entry)) (now (words .entry))))
         (topologyList [] 0) (nextEnds h (now (words .entry)) start (now (stack .entry)) (h .limit)))
         0 (now (list .entry)) (now (list .exit)) r ⌝ }
 {
@@ -90,7 +86,7 @@ fn list_ends(
 // The topology list of an accepted plan, from the root of the walk.
 pub fn list_all(h: Header, links: &[u8; 256], words: &[u64; 512], list: &mut [u64]) -> Placed
     requires { ⌜ Held h (now links) (now words) ⌝ }
-    ensures { λ r. ⌜ HoldsList (topologyListOf (length (now (list .entry)) / 4) (planOfLists h (now (links .entry)) (now (words .entry))))
+    ensures { λ r. ⌜ HoldsList (topologyListOf intact (length (now (list .entry)) / 4) (planOfLists h (now (links .entry)) (now (words .entry))))
         0 (now (list .entry)) (now (list .exit)) r ⌝ }
 {
     let table = network::links_at(h.nodes as usize, links, h.links as usize);

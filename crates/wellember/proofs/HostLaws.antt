@@ -28,6 +28,7 @@ use Rattle.bounds.specs.declared.PairBounds.{PairBounds}
 use Rattle.bounds.specs.declared.Paired.{Paired}
 use Rattle.bounds.specs.declared.Paired.the-variants as paired
 use Rattle.plan.proofs.FilledLaws.{filled-none, filled-all}
+use Rattle.network.specs.Outage.{intact}
 use Rattle.bounds.proofs.Answers.{pair-refuses, pair-refused-is, pair-done-is, enclosed}
 use Rattle.input.specs.Loaded.{Loaded}
 use Rattle.wellember.specs.Host.{hostRefusal, sixteen, lowerIn, upperIn}
@@ -52,8 +53,8 @@ module _ (b : List ℕ) (room v w : ℕ) where
   -- what the bounds of the pair promise
   abbrev pub HostPromised : Paired → Type 0
   HostPromised r =
-      (r ≡ pairAnswer (hostRefusal b room v w) (boundsOf (planOf b) v w))
-      × (hostRefusal b room v w ≡ 0 → Encloses (planOf b) v w (boundsIn r .lower) (boundsIn r .upper) (count (planOf b)))
+      (r ≡ pairAnswer (hostRefusal b room v w) (boundsOf intact (planOf b) v w))
+      × (hostRefusal b room v w ≡ 0 → Encloses intact (planOf b) v w (boundsIn r .lower) (boundsIn r .upper) (count (planOf b)))
 
   -- a file that is refused
   pub file-refused : (n : ℕ) (h : Header) → reading.Refused n ≡ readAnswer (refusal b) h → HostPromised (paired.Refused n)
@@ -61,7 +62,7 @@ module _ (b : List ℕ) (room v w : ℕ) where
   file-refused n h e =
       let r = reading-refused (refusal b) n h e in
       let is : n ≡ hostRefusal b room v w = stop _ (r .0) (r .1) in
-      (pair-refuses n (hostRefusal b room v w) (boundsOf (planOf b) v w) is (r .1), λ z. absurd (r .1 (is ∙ z)))
+      (pair-refuses n (hostRefusal b room v w) (boundsOf intact (planOf b) v w) is (r .1), λ z. absurd (r .1 (is ∙ z)))
 
   module _ (links words : List ℕ) (z : refusal b ≡ 0) (l : Loaded b links words) where
     same-number : first (roomTest room 16 ∷ pairRefusal (headerOf b) 256 128 links words v w ∷ []) ≡ hostRefusal b room v w
@@ -75,29 +76,29 @@ module _ (b : List ℕ) (room v w : ℕ) where
 
     -- a file that is accepted
     pub file-told : (h : Header) → h ≡ headerOf b → (r : Paired)
-        → r ≡ pairAnswer (first (roomTest room 16 ∷ pairRefusal h 256 128 links words v w ∷ [])) (boundsOf (planOfLists h links words) v w)
+        → r ≡ pairAnswer (first (roomTest room 16 ∷ pairRefusal h 256 128 links words v w ∷ [])) (boundsOf intact (planOfLists h links words) v w)
         → HostPromised r
     file-told h x r f =
         let e =
         subst
-        (λ (y : Header). r ≡ pairAnswer (first (roomTest room 16 ∷ pairRefusal y 256 128 links words v w ∷ [])) (boundsOf (planOfLists y links words) v w))
+        (λ (y : Header). r ≡ pairAnswer (first (roomTest room 16 ∷ pairRefusal y 256 128 links words v w ∷ [])) (boundsOf intact (planOfLists y links words) v w))
         x
         f in
-        let is : r ≡ pairAnswer (hostRefusal b room v w) (boundsOf (planOf b) v w) =
-        e ∙ ap₂ (λ (n : ℕ) (p : Plan). pairAnswer n (boundsOf p v w)) same-number (l .denoted) in (
+        let is : r ≡ pairAnswer (hostRefusal b room v w) (boundsOf intact (planOf b) v w) =
+        e ∙ ap₂ (λ (n : ℕ) (p : Plan). pairAnswer n (boundsOf intact p v w)) same-number (l .denoted) in (
           is,
           λ y.
-              let found : boundsIn r ≡ boundsOf (planOf b) v w = ap boundsIn (is ∙ ap (λ (n : ℕ). pairAnswer n (boundsOf (planOf b) v w)) y) in
-              subst (λ (q : PairBounds). Encloses (planOf b) v w (q .lower) (q .upper) (count (planOf b))) (sym found) (enclosed (planOf b) valid v w),
+              let found : boundsIn r ≡ boundsOf intact (planOf b) v w = ap boundsIn (is ∙ ap (λ (n : ℕ). pairAnswer n (boundsOf intact (planOf b) v w)) y) in
+              subst (λ (q : PairBounds). Encloses intact (planOf b) v w (q .lower) (q .upper) (count (planOf b))) (sym found) (enclosed intact (planOf b) valid v w),
         )
 
   -- a refusal changes nothing
   pub host-refused : (out news : List ℕ) (n : ℕ) (r : Paired) → r ≡ paired.Refused n → HostPromised r
       → (n ≡ hostRefusal b room v w)
       × ((out ≡ filled (hostRefusal b room v w) news out)
-      × (hostRefusal b room v w ≡ 0 → Encloses (planOf b) v w (lowerIn out) (upperIn out) (count (planOf b))))
+      × (hostRefusal b room v w ≡ 0 → Encloses intact (planOf b) v w (lowerIn out) (upperIn out) (count (planOf b))))
   host-refused out news n r k t =
-      let is = pair-refused-is (hostRefusal b room v w) n (boundsOf (planOf b) v w) (sym k ∙ t .0) in
+      let is = pair-refused-is (hostRefusal b room v w) n (boundsOf intact (planOf b) v w) (sym k ∙ t .0) in
       (is .0, (filled-none (hostRefusal b room v w) news out (is .1), λ z. absurd (is .1 z)))
 
   pub host-room : hostRefusal b room v w ≡ 0 → 16 ≤ room
@@ -135,18 +136,18 @@ pub host-done : (b out out′ : List ℕ) (v w : ℕ) (found : PairBounds) (r : 
     → r ≡ paired.Done found → HostPromised b (length out) v w r → out′ ≡ sets out 0 (sixteen (found .lower) (found .upper))
     → found .lower < 2 ^ 64 → found .upper < 2 ^ 64
     → (0 ≡ hostRefusal b (length out) v w)
-    × ((out′ ≡ filled (hostRefusal b (length out) v w) (sixteen (lowerOf (planOf b) v w) (upperOf (planOf b) v w)) out)
-    × (hostRefusal b (length out) v w ≡ 0 → Encloses (planOf b) v w (lowerIn out′) (upperIn out′) (count (planOf b))))
+    × ((out′ ≡ filled (hostRefusal b (length out) v w) (sixteen (lowerOf intact (planOf b) v w) (upperOf intact (planOf b) v w)) out)
+    × (hostRefusal b (length out) v w ≡ 0 → Encloses intact (planOf b) v w (lowerIn out′) (upperIn out′) (count (planOf b))))
 host-done b out out′ v w found r k t e low high =
-    let is = pair-done-is (hostRefusal b (length out) v w) found (boundsOf (planOf b) v w) (sym k ∙ t .0) in
+    let is = pair-done-is (hostRefusal b (length out) v w) found (boundsOf intact (planOf b) v w) (sym k ∙ t .0) in
     let room = host-room b (length out) v w (is .0) in
-    let laid : out′ ≡ sets out 0 (sixteen (lowerOf (planOf b) v w) (upperOf (planOf b) v w)) =
+    let laid : out′ ≡ sets out 0 (sixteen (lowerOf intact (planOf b) v w) (upperOf intact (planOf b) v w)) =
     e ∙ ap (λ (x : PairBounds). sets out 0 (sixteen (x .lower) (x .upper))) (is .1) in
     let lower : boundsIn r .lower ≡ lowerIn out′ = ap (λ (x : Paired). boundsIn x .lower) k ∙ sym (ap lowerIn e ∙ lower-back out (found .lower) (found .upper) room low) in
     let upper : boundsIn r .upper ≡ upperIn out′ = ap (λ (x : Paired). boundsIn x .upper) k ∙ sym (ap upperIn e ∙ upper-back out (found .lower) (found .upper) room high) in (
       sym (is .0),
       (
         laid ∙ filled-all (hostRefusal b (length out) v w) _ out (is .0),
-        λ z. subst₂ (λ (x y : ℕ). Encloses (planOf b) v w x y (count (planOf b))) lower upper (t .1 z),
+        λ z. subst₂ (λ (x y : ℕ). Encloses intact (planOf b) v w x y (count (planOf b))) lower upper (t .1 z),
       ),
     )

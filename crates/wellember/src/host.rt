@@ -13,6 +13,7 @@ ghost use Rattle.refusals.specs.Tests.{roomTest};
 ghost use Rattle.plan.specs.File.{refusal, planOf};
 ghost use Rattle.plan.specs.LentLists.{planOfLists};
 ghost use Rattle.plan.specs.Calls.{filled};
+ghost use Rattle.network.specs.Outage.{intact};
 ghost use Rattle.walk.specs.Walk.{count};
 ghost use Rattle.bounds.specs.Bounds.{lowerOf, upperOf, Encloses};
 ghost use Rattle.bounds.specs.Calls.{pairRefusal, pairAnswer, boundsOf, boundsIn};
@@ -22,7 +23,7 @@ ghost use Rattle.wellember.specs.Host.{hostRefusal, sixteen, lowerIn, up
 fn pair_in(h: Header, room: usize, links: &[u8; 256], words: &[u64; 512], v: u64, w: u64) -> Paired
     ensures { λ r. ⌜ r ≡ pairAnswer
         (first (roomTest room 16 ∷ pairRefusal h 256 128 (now (links .entry)) (now (words .entry)) v w ∷ []))
-        (boundsOf (planOfLists h (now (links .entry)) (now (words .entry))) v w) ⌝ }
+        (boundsOf intact (planOfLists h (now (links .entry)) (now (words .entry))) v w) ⌝ }
 {
     let short = refusals::room_test(room, 16);
     if short != 0 {
@@ -33,9 +34,9 @@ fn pair_in(h: Header, room: usize, links: &[u8; 256], words: &[u64; 512], v: u64
 
 // The bounds of one pair of a plan file, where the buffer has `room` bytes.
 fn pair_of(s: &[u8], room: usize, v: u64, w: u64) -> Paired
-    ensures answer { λ r. ⌜ r ≡ pairAnswer (hostRefusal (now (s .entry)) room v w) (boundsOf (planOf (now (s .entry))) v w) ⌝ }
+    ensures answer { λ r. ⌜ r ≡ pairAnswer (hostRefusal (now (s .entry)) room v w) (boundsOf intact (planOf (now (s .entry))) v w) ⌝ }
     ensures demand3 { λ r. ⌜ (hostRefusal (now (s .entry)) room v w ≡ 0
-        → Encloses (planOf (now (s .entry))) v w (boundsIn r .lower) (boundsIn r .upper) (count (planOf (now (s .entry))))) ⌝ }
+        → Encloses intact (planOf (now (s .entry))) v w (boundsIn r .lower) (boundsIn r .upper) (count (planOf (now (s .entry))))) ⌝ }
 {
     let mut links = [0u8; 256];
     let mut words = [0u64; 512];
@@ -69,9 +70,9 @@ pub extern "C" fn wellember_pair(plan: &[u8], v: u32, w: u32, out: &mut [u8]) ->
     ensures number { λ r. ⌜ r ≡ hostRefusal (now (plan .entry)) (length (now (out .entry))) v w ⌝ }
     ensures bytes { λ r. ⌜ now (out .exit) ≡ filled
         (hostRefusal (now (plan .entry)) (length (now (out .entry))) v w)
-        (sixteen (lowerOf (planOf (now (plan .entry))) v w) (upperOf (planOf (now (plan .entry))) v w)) (now (out .entry)) ⌝ }
+        (sixteen (lowerOf intact (planOf (now (plan .entry))) v w) (upperOf intact (planOf (now (plan .entry))) v w)) (now (out .entry)) ⌝ }
     ensures demand3 { λ r. ⌜ (hostRefusal (now (plan .entry)) (length (now (out .entry))) v w ≡ 0
-        → Encloses (planOf (now (plan .entry))) v w (lowerIn (now (out .exit))) (upperIn (now (out .exit)))
+        → Encloses intact (planOf (now (plan .entry))) v w (lowerIn (now (out .exit))) (upperIn (now (out .exit)))
         (count (planOf (now (plan .entry))))) ⌝ }
 {
     match pair_of(plan, out.len(), v as u64, w as u64) {

@@ -3,6 +3,7 @@ use borrow.Author.Needs.{needs}
 use mathlib.Core.Path.{_≡_, sym, ap, subst, _∙_}
 use Rattle.plan.specs.LentLists.{planOfLists, listsNumber}
 use Rattle.plan.proofs.FilledLaws.{filled-none}
+use Rattle.network.specs.Outage.{intact}
 use Rattle.panel.specs.Walks.{WalkAt, rootWalk}
 use Rattle.walk_state.specs.declared.WalkAnswer.{WalkAnswer}
 use Rattle.panel_calls.proofs.WordLaws.{answer-number, answer-walk, lists-refuse, room-decides}
@@ -45,7 +46,7 @@ returns-2 c =
       room-decides (a .h) (a .links .now) (a .events .now) (a .state .now) _ (lists b) (one .if1 .left) (packed .0),
       (
         rw root at (packed .1 .0),
-        λ z. subst (WalkAt (planOfLists (a .h) (a .links .now) (a .events .now)) 0) (sym (packed .1 .1 z)) (b .begin .ensures .1 none),
+        λ z. subst (WalkAt intact (planOfLists (a .h) (a .links .now) (a .events .now)) 0) (sym (packed .1 .1 z)) (b .begin .ensures .1 none),
       ),
     )
 

@@ -52,6 +52,7 @@ use Rattle.plan.specs.Calls.{filled}
 use Rattle.plan.specs.declared.Header.{Header}
 use Rattle.plan.proofs.Header as T
 use Rattle.plan.proofs.Header.Laws as T′
+use Rattle.network.specs.Outage.{intact}
 use Rattle.bounds.specs.Bounds.{lowerList, upperList, EnclosesAll}
 use Rattle.bounds.specs.Calls.{runNumber, ranAnswer, totalsOf, totalsIn}
 use Rattle.bounds.specs.declared.Ran.{Ran}
@@ -141,13 +142,13 @@ module _ {M : Type 1} (𝓤 : URA M) (H : Heap 𝓤) (A : Atoms 𝓤) (W : Given
   answered ws = ranAnswer (number ws) (totalsOf (planOfLists h (k .now) ws))
 
   abbrev lower-left : List ℕ → List ℕ
-  lower-left ws = filled (number ws) (lowerList (planOfLists h (k .now) ws)) lo
+  lower-left ws = filled (number ws) (lowerList intact (planOfLists h (k .now) ws)) lo
 
   abbrev upper-left : List ℕ → List ℕ
-  upper-left ws = filled (number ws) (upperList (planOfLists h (k .now) ws)) up
+  upper-left ws = filled (number ws) (upperList intact (planOfLists h (k .now) ws)) up
 
   abbrev enclosed : List ℕ → Ran → List ℕ → List ℕ → Type 0
-  enclosed ws r lo′ up′ = number ws ≡ 0 → EnclosesAll (planOfLists h (k .now) ws) lo′ up′ (totalsIn r .count)
+  enclosed ws r lo′ up′ = number ws ≡ 0 → EnclosesAll intact (planOfLists h (k .now) ws) lo′ up′ (totalsIn r .count)
 
   concluded : (ws : List ℕ) (r : Ran) (lo′ up′ : List ℕ) → ws ≡ flattened → Outcome h (k .now) lo up (taken ws) r lo′ up′ → Outcome h (k .now) lo up (wordsOf es) r lo′ up′
   concluded ws r lo′ up′ e said =

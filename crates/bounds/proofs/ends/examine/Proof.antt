@@ -23,7 +23,7 @@ add-cut-requires c κs =
 returns : tie.Need-returns
 returns c =
     let e = c .before .before .before .before .before in
-    examined _ _ _ _ _ _ _ (c .before .before .before .working-nodes .ensures) (c .before .before .neighbours .ensures) _ _ (c .add-cut .ensures) (e .pre .1 .1 .0)
+    examined _ _ _ _ _ _ _ (c .before .before .before .working-nodes .ensures) (c .before .before .neighbours .ensures) _ _ (c .add-cut .ensures) _ (e .pre .1 .1 .0)
     (c .before .before .before .before .failed-by .ensures)
 
 pub examine-spec : {M : Type 1} → statement M

@@ -1,13 +1,15 @@
 -- `bounds::ends::go_on` meets its contract: the invariant is `Turn`, the measure the ends left. Assumes nothing.
 use native.Mathlib.Omega.{arith}
 use borrow.Author.Tests.{not-true, not-false}
+use Rattle.network.specs.Code.{outage}
 use Rattle.bounds.proofs.Turn.{Turn, stopped, mass-fits, number-fits, room, less, turned}
 use Rattle.bounds.proofs.ends.go_on.Statement.{statement}
 use Rattle.bounds.proofs.ends.go_on.Tie as tie
 
 abbrev Inv-loop : tie.InvT-loop
-Inv-loop h links words table stack₀ lower₀ at₀ left₀ number₀ mass₀ stack lower at left number mass =
+Inv-loop h links words table out stack₀ lower₀ at₀ left₀ number₀ mass₀ stack lower at left number mass =
     Turn
+    (outage out)
     h
     links
     words
@@ -19,7 +21,7 @@ Inv-loop h links words table stack₀ lower₀ at₀ left₀ number₀ mass₀ s
     (record { at = at; left = left; number = number; mass = mass })
 
 abbrev μ-loop : tie.MeasureT-loop
-μ-loop h links words table stack₀ lower₀ at₀ left₀ number₀ mass₀ stack lower at left number mass = left
+μ-loop h links words table out stack₀ lower₀ at₀ left₀ number₀ mass₀ stack lower at left number mass = left
 
 loop-holds : tie.Need-loop-holds Inv-loop μ-loop
 loop-holds c = record { ready = c .pre .1; goes = λ stack lower r t. t }
@@ -32,7 +34,7 @@ next-relevant-requires c κs =
 returns : tie.Need-returns Inv-loop μ-loop
 returns c =
     let t = c .before .before .before .before .loop .inv in
-    t .goes _ _ _ (stopped _ _ _ _ _ _ (t .ready) _ _ (c .before .before .next-relevant .ensures) (not-true _ (c .if1 .taken)))
+    t .goes _ _ _ (stopped _ _ _ _ _ _ (t .ready) _ _ (c .before .before .next-relevant .ensures) _ (not-true _ (c .if1 .taken)))
 
 examine-requires : tie.Need-examine-requires Inv-loop μ-loop
 examine-requires c κs =
@@ -54,7 +56,7 @@ loop-less c = less _ _ _ _ _ _ (c .before .before .before .before .before .befor
 loop-again : tie.Need-loop-again Inv-loop μ-loop
 loop-again c =
     let t = c .before .before .before .before .before .before .before .loop .inv in
-    turned _ _ _ _ _ _ (t .ready) _ _ (c .before .before .before .before .before .next-relevant .ensures) (not-false _ (c .before .before .before .if1 .left)) _ (c .before .examine .ensures) _ _ _ (t .goes)
+    turned _ _ _ _ _ _ (t .ready) _ _ (c .before .before .before .before .before .next-relevant .ensures) (not-false _ (c .before .before .before .if1 .left)) _ _ (c .before .examine .ensures) _ _ _ (t .goes)
 
 pub go-on-spec : {M : Type 1} → statement M
 go-on-spec =

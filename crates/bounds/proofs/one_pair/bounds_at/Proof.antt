@@ -1,12 +1,12 @@
--- `bounds::calls::bounds_at` meets its contract. Assumes nothing.
+-- `bounds::one_pair::bounds_at` meets its contract. Assumes nothing.
 use borrow.Author.Needs.{needs}
 use mathlib.Core.Path.{ap}
 use Prim.Native.Nat.{ℕ, _+_, _-_}
 use native.Mathlib.Omega.{arith}
 use lib.ListN.{getD}
 use Rattle.mass.specs.Split.{whole}
-use Rattle.bounds.proofs.calls.bounds_at.Statement.{statement}
-use Rattle.bounds.proofs.calls.bounds_at.Tie as tie
+use Rattle.bounds.proofs.one_pair.bounds_at.Statement.{statement}
+use Rattle.bounds.proofs.one_pair.bounds_at.Tie as tie
 
 place-of-requires : tie.Need-place-of-requires
 place-of-requires c κs = (c .pre .0 .few, c .pre .1 .0, c .pre .1 .1)

@@ -1,4 +1,4 @@
--- `bounds::calls::pair` meets its contract: at each `return` the tests that led there decide the answer. Assumes nothing.
+-- `bounds::one_pair::pair` meets its contract: at each `return` the tests that led there decide the answer. Assumes nothing.
 use mathlib.Core.Path.{_≡_, sym, _∙_}
 use mathlib.Core.List.{List}
 use Prim.Native.Nat.{ℕ}
@@ -8,8 +8,8 @@ use Rattle.bounds.proofs.Zeros.{cleared}
 use Rattle.bounds.proofs.Answers.{pair-inside}
 use Rattle.bounds.proofs.Outcome.{lists-refuse-pair, pair-wrong, may-give-own, pair-done}
 use borrow.Author.Needs.{needs}
-use Rattle.bounds.proofs.calls.pair.Statement.{statement}
-use Rattle.bounds.proofs.calls.pair.Tie as tie
+use Rattle.bounds.proofs.one_pair.pair.Statement.{statement}
+use Rattle.bounds.proofs.one_pair.pair.Tie as tie
 
 -- the entry, seen from the first branch; that branch from the second; the second from the walk
 abbrev entry : tie.Else1 → tie.Start

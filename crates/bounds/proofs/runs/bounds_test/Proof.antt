@@ -1,11 +1,11 @@
--- `bounds::calls::bounds_test` meets its contract. Assumes nothing.
+-- `bounds::runs::bounds_test` meets its contract. Assumes nothing.
 use borrow.Author.Needs.{needs}
 use mathlib.Core.Path.{ap, _∙_}
 use native.Mathlib.Omega.{arith}
 use Rattle.refusals.specs.Tests.{roomTest}
 use Rattle.refusals.proofs.OrderLaws.{stop, skip, last}
-use Rattle.bounds.proofs.calls.bounds_test.Statement.{statement}
-use Rattle.bounds.proofs.calls.bounds_test.Tie as tie
+use Rattle.bounds.proofs.runs.bounds_test.Statement.{statement}
+use Rattle.bounds.proofs.runs.bounds_test.Tie as tie
 
 start-of-requires : tie.Need-start-of-requires
 start-of-requires c κs = (c .pre, omega arith)

@@ -62,6 +62,7 @@ use Rattle.files.proofs.header_in as head
 use Rattle.files.proofs.header_in.Symbol as head-def
 use Rattle.files.proofs.header_in.Symbol.{name as #head}
 use Rattle.files.proofs.header_in.Met as head-thm
+use Rattle.network.specs.Outage.{intact}
 use Rattle.bounds.specs.Bounds.{lowerList, upperList, EnclosesAll}
 use Rattle.bounds.specs.Calls.{runNumber, ranAnswer, totalsOf, totalsIn}
 use Rattle.bounds.specs.declared.Ran.{Ran}
@@ -156,13 +157,13 @@ module _ {M : Type 1} (𝓤 : URA M) (H : Heap 𝓤) (A : Atoms 𝓤) (W : Given
   ran h ks es = ranAnswer (number h ks es) (totalsOf (planOfLists h ks (wordsOf es)))
 
   abbrev lower-left : Header → List ℕ → List Event → List ℕ
-  lower-left h ks es = filled (number h ks es) (lowerList (planOfLists h ks (wordsOf es))) lo
+  lower-left h ks es = filled (number h ks es) (lowerList intact (planOfLists h ks (wordsOf es))) lo
 
   abbrev upper-left : Header → List ℕ → List Event → List ℕ
-  upper-left h ks es = filled (number h ks es) (upperList (planOfLists h ks (wordsOf es))) up
+  upper-left h ks es = filled (number h ks es) (upperList intact (planOfLists h ks (wordsOf es))) up
 
   abbrev enclosed : Header → List ℕ → List Event → Ran → List ℕ → List ℕ → Type 0
-  enclosed h ks es r lo′ up′ = number h ks es ≡ 0 → EnclosesAll (planOfLists h ks (wordsOf es)) lo′ up′ (totalsIn r .count)
+  enclosed h ks es r lo′ up′ = number h ks es ≡ 0 → EnclosesAll intact (planOfLists h ks (wordsOf es)) lo′ up′ (totalsIn r .count)
 
   -- the call of `read_records`
   abbrev to-read : ℕ → ℕ → ℕ → ℕ → GName → GName → Reads 𝓤 H A mem″ run .Ghost

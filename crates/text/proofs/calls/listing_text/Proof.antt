@@ -9,6 +9,7 @@ use Rattle.text.proofs.TextLaws.{short-answer, text-answer, size-kept}
 use Rattle.text.proofs.Theorems.{array-room}
 use Rattle.text.proofs.calls.listing_text.Statement.{statement}
 use Rattle.text.proofs.calls.listing_text.Tie as tie
+use Rattle.network.specs.Outage.{intact}
 
 slice-aggregate-put-listing : tie.Need-slice-aggregate-put-listing
 slice-aggregate-put-listing c = search needs
@@ -28,7 +29,7 @@ copy-bytes-requires : tie.Need-copy-bytes-requires
 copy-bytes-requires c κs =
     let b = c .before .before .before .before .before .before .before .before .args .plan .now in
     let put = c .before .before .before .before .put-listing .ensures in
-    (size-kept (replicate {A = ℕ} 92789 0) _ (listing b) _ (put .0) (put .1) (array-room b (λ i. omega (arith, c .before .before .before .before .before .before .before .shared-slice-known .given i))), c .before .before .if1 .left)
+    (size-kept (replicate {A = ℕ} 92789 0) _ (listing intact b) _ (put .0) (put .1) (array-room b (λ i. omega (arith, c .before .before .before .before .before .before .before .shared-slice-known .given i))), c .before .before .if1 .left)
 
 same-length : tie.Need-same-length
 same-length c = search needs
@@ -37,7 +38,7 @@ returns-2 : tie.Need-returns-2
 returns-2 c =
     let a = c .before .before .before .before .before .before .before .before .before .before .before .args in
     let put = c .before .before .before .before .before .before .before .put-listing .ensures in
-    text-answer _ _ _ (listing (a .plan .now)) (a .out .now) _ (array-room (a .plan .now) (λ i. omega (arith, c .before .before .before .before .before .before .before .before .before .before .shared-slice-known .given i))) (put .0) (put .1) (c .before .before .before .before .before .if1 .left) (c .before .before .copy-bytes .ensures)
+    text-answer _ _ _ (listing intact (a .plan .now)) (a .out .now) _ (array-room (a .plan .now) (λ i. omega (arith, c .before .before .before .before .before .before .before .before .before .before .shared-slice-known .given i))) (put .0) (put .1) (c .before .before .before .before .before .if1 .left) (c .before .before .copy-bytes .ensures)
 
 pub listing-text-spec : {M : Type 1} → statement M
 listing-text-spec =

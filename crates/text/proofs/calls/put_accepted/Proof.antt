@@ -21,7 +21,7 @@ put-plan-requires c κs =
     let a = c .before .before .before .before .before .args in
     let t = c .before .before .walk-all .ensures in
     let few = lists-held _ _ _ _ _ z .links-held .nodes-fit in (
-      giving _ (lists-denote _ _ _ _ _ z) _ _ _ _ _ (t .1) (ap (λ (x : Totals). x .mass) (t .0)) few
+      giving _ _ (lists-denote _ _ _ _ _ z) _ _ _ _ _ (t .1) (ap (λ (x : Totals). x .mass) (t .0)) few
           (omega (arith, pairs-most _ few, t .1 .sized))
           (omega (arith, pairs-most _ few, t .1 .sized)),
       fits-as _ _ (a .out .now) (sums-text (a .h) (a .links .now) (a .words .now) _ _ (lists-denote _ _ _ _ _ z) (t .0) (t .1)) (c .before .before .before .before .before .pre .1),

@@ -4,6 +4,7 @@ use Prim.Native.Nat.{ℕ, _/_}
 use lib.ListN.{length}
 use Rattle.plan.specs.LentLists.{planOfLists}
 use Rattle.refusals.proofs.OrderLaws.{stop}
+use Rattle.network.specs.Outage.{intact}
 use Rattle.bounds.specs.Calls.{pairRefusal, pairAnswer, boundsOf}
 use Rattle.bounds.proofs.Answers.{pair-refuses}
 use Rattle.wellember.proofs.HostLaws.{room-passed}
@@ -26,8 +27,8 @@ returns-2 c =
     let z = sym (c .before .before .before .before .room-test .ensures) ∙ c .before .before .before .if1 .left in
     let rooms : (length (a .links .now) ≡ 256) × (length (a .words .now) / 4 ≡ 128) = search needs in
     c .pair .ensures .0
-    ∙ ap₂ (λ (l e : ℕ). pairAnswer (pairRefusal (a .h) l e (a .links .now) (a .words .now) (a .v) (a .w)) (boundsOf (planOfLists (a .h) (a .links .now) (a .words .now)) (a .v) (a .w))) (rooms .0) (rooms .1)
-    ∙ ap (λ (n : ℕ). pairAnswer n (boundsOf (planOfLists (a .h) (a .links .now) (a .words .now)) (a .v) (a .w))) (room-passed (a .room) _ z)
+    ∙ ap₂ (λ (l e : ℕ). pairAnswer (pairRefusal (a .h) l e (a .links .now) (a .words .now) (a .v) (a .w)) (boundsOf intact (planOfLists (a .h) (a .links .now) (a .words .now)) (a .v) (a .w))) (rooms .0) (rooms .1)
+    ∙ ap (λ (n : ℕ). pairAnswer n (boundsOf intact (planOfLists (a .h) (a .links .now) (a .words .now)) (a .v) (a .w))) (room-passed (a .room) _ z)
 
 pub pair-in-spec : {M : Type 1} → statement M
 pair-in-spec = tie.close (tie.spec room-test-requires returns pair-requires returns-2)

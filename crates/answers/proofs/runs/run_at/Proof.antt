@@ -1,0 +1,33 @@
+-- `answers::runs::run_at` meets its contract: the answer of the call is handed out. Assumes nothing.
+use mathlib.Core.Path.{refl}
+use borrow.Author.Needs.{needs}
+use Rattle.answers.proofs.NumberLaws.{run-back}
+use Rattle.answers.proofs.runs.run_at.Statement.{statement}
+use Rattle.answers.proofs.runs.run_at.Tie as tie
+
+run-at-requires : tie.Need-run-at-requires
+run-at-requires c κs = search needs
+
+give-totals-requires : tie.Need-give-totals-requires
+give-totals-requires c κs = search needs
+
+same-length : tie.Need-same-length
+same-length c = search needs
+
+same-length-2 : tie.Need-same-length-2
+same-length-2 c = search needs
+
+same-length-3 : tie.Need-same-length-3
+same-length-3 c = search needs
+
+returns : tie.Need-returns
+returns c =
+    let f = c .before .before .give-totals .ensures in
+    let k = c .before .before .before .before .before .before .before .before in
+    let e = k .run-at .ensures .0 in
+    let n = rw (e, run-back) at (f .0) in
+    rw n (refl, (k .run-at .ensures .1 .0, (k .run-at .ensures .1 .1 .0, rw e at (f .1))))
+
+pub run-at-spec : {M : Type 1} → statement M
+run-at-spec =
+    tie.close (tie.spec run-at-requires give-totals-requires same-length same-length-2 same-length-3 returns)

@@ -1,0 +1,34 @@
+-- `bounds::runs::accept_run` meets its contract: the test that refuses first decides. Assumes nothing.
+use mathlib.Core.Path.{sym, _∙_}
+use borrow.Author.Needs.{needs}
+use Rattle.bounds.proofs.Outcome.{lists-refuse, rooms-decide, rooms-fit}
+use Rattle.bounds.proofs.runs.accept_run.Statement.{statement}
+use Rattle.bounds.proofs.runs.accept_run.Tie as tie
+
+accept-requires : tie.Need-accept-requires
+accept-requires c κs = search needs
+
+returns : tie.Need-returns
+returns c =
+    let a = c .before .before .before .before .before .before .args in (
+      lists-refuse (a .h) (a .links .now) (a .events .now) (a .lower-room) (a .upper-room) _ (c .before .accept .ensures .0) (c .if1 .taken),
+      λ z. absurd (c .if1 .taken z),
+    )
+
+bounds-test-requires : tie.Need-bounds-test-requires
+bounds-test-requires c κs = c .before .accept .ensures .1 .0 (c .if1 .left) .held .links-held .nodes-fit
+
+returns-2 : tie.Need-returns-2
+returns-2 c =
+    let f = c .before in
+    let a = f .before .before .before .before .before .before .args in
+    let lists = f .before .accept .ensures in (
+      rooms-decide (a .h) (a .links .now) (a .events .now) (a .lower-room) (a .upper-room) _ _ (lists .0) (f .if1 .left) (c .bounds-test .ensures),
+      λ z. (
+        lists .1 .0 (f .if1 .left),
+        rooms-fit (a .h) (a .links .now) (a .events .now) (a .lower-room) (a .upper-room) (sym (c .bounds-test .ensures) ∙ z),
+      ),
+    )
+
+pub accept-run-spec : {M : Type 1} → statement M
+accept-run-spec = tie.close (tie.spec accept-requires returns bounds-test-requires returns-2)
