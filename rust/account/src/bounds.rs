@@ -1,7 +1,7 @@
 //! The bounds of every pair.
 
 use crate::plan::Plan;
-use crate::topology::components;
+use crate::topology::{components, Out};
 use crate::walk::{walk, Scenario, Walk};
 use crate::WHOLE;
 
@@ -29,16 +29,21 @@ pub fn outcome(walk: &Walk) -> Outcome {
     }
 }
 
-/// The bounds of the given pairs over examined scenarios. Lower adds the masses that disconnect the pair; upper is
-/// one whole less the masses that do not.
-pub fn bounds_over(plan: &Plan, examined: &[Scenario], pairs: &[(usize, usize)]) -> Vec<Bounds> {
+/// The bounds of the given pairs over examined scenarios, with this out in each of them. Lower adds the masses that
+/// disconnect the pair; upper is one whole less the masses that do not.
+pub fn bounds_over(
+    plan: &Plan,
+    out: Out,
+    examined: &[Scenario],
+    pairs: &[(usize, usize)],
+) -> Vec<Bounds> {
     let free = Bounds {
         lower: 0,
         upper: WHOLE,
     };
     let mut bounds = vec![free; pairs.len()];
     for scenario in examined {
-        let components = components(plan, scenario.failing);
+        let components = components(plan, out, scenario.failing);
         for (bound, &(v, w)) in bounds.iter_mut().zip(pairs) {
             if components.disconnects(v, w) {
                 bound.lower += scenario.mass;
@@ -50,14 +55,14 @@ pub fn bounds_over(plan: &Plan, examined: &[Scenario], pairs: &[(usize, usize)])
     bounds
 }
 
-/// The run over all pairs of a plan.
-pub fn run(plan: &Plan) -> (Outcome, Vec<Bounds>) {
+/// The run over all pairs of a plan, with this out in every scenario. The walk knows nothing of it.
+pub fn run(plan: &Plan, out: Out) -> (Outcome, Vec<Bounds>) {
     let walk = walk(plan);
-    let bounds = bounds_over(plan, &walk.examined, &plan.pairs());
+    let bounds = bounds_over(plan, out, &walk.examined, &plan.pairs());
     (outcome(&walk), bounds)
 }
 
 /// The bounds of one pair of a plan.
 pub fn pair(plan: &Plan, v: usize, w: usize) -> Bounds {
-    bounds_over(plan, &walk(plan).examined, &[(v, w)])[0]
+    bounds_over(plan, Out::NOTHING, &walk(plan).examined, &[(v, w)])[0]
 }

@@ -2,9 +2,10 @@
 
 use crate::bounds::{self, Bounds, Outcome};
 use crate::file;
-use crate::plan::{Header, Lent};
+use crate::plan::{Header, Lent, Plan};
 use crate::refusal::{demand, number, Refusal};
 use crate::sheet;
+use crate::topology::Out;
 use crate::EVENT_WORDS;
 
 /// The check of a file: the refusal's number, or 0.
@@ -51,17 +52,27 @@ pub fn write(lent: &Lent, out: &mut [u8]) -> Result<usize, Refusal> {
     Ok(bytes.len())
 }
 
-/// The run: the tests of the lists, then 12 for the two lists of bounds.
-pub fn run(lent: &Lent, lower: &mut [u64], upper: &mut [u64]) -> Result<Outcome, Refusal> {
-    let plan = lent.plan()?;
+/// The test of the two lists of bounds: 12.
+pub fn test_room(plan: &Plan, lower: &[u64], upper: &[u64]) -> Result<(), Refusal> {
     let pairs = plan.nodes * (plan.nodes - 1) / 2;
-    demand(lower.len() >= pairs && upper.len() >= pairs, Refusal::Short)?;
-    let (outcome, bounds) = bounds::run(&plan);
+    demand(lower.len() >= pairs && upper.len() >= pairs, Refusal::Short)
+}
+
+/// The run over all pairs into two lists that have room for them, with this out in every scenario.
+pub fn run_into(plan: &Plan, out: Out, lower: &mut [u64], upper: &mut [u64]) -> Outcome {
+    let (outcome, bounds) = bounds::run(plan, out);
     for (i, bound) in bounds.iter().enumerate() {
         lower[i] = bound.lower;
         upper[i] = bound.upper;
     }
-    Ok(outcome)
+    outcome
+}
+
+/// The run: the tests of the lists, then 12 for the two lists of bounds.
+pub fn run(lent: &Lent, lower: &mut [u64], upper: &mut [u64]) -> Result<Outcome, Refusal> {
+    let plan = lent.plan()?;
+    test_room(&plan, lower, upper)?;
+    Ok(run_into(&plan, Out::NOTHING, lower, upper))
 }
 
 /// The test of a pair: 13.

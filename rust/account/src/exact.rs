@@ -7,7 +7,7 @@ use crate::bounds::Bounds;
 use crate::credit::{Contract, MINUTE_SECONDS};
 use crate::plan::Plan;
 use crate::readings::YEAR_SECONDS;
-use crate::topology::components;
+use crate::topology::{components, Out};
 use crate::walk::walk;
 use crate::wide::Wide;
 use crate::{CERTAIN, WHOLE};
@@ -36,8 +36,8 @@ pub fn probability(plan: &Plan, failing: u128) -> Wide {
     factors.fold(Wide::from(1), Wide::times)
 }
 
-/// The exact sums of a plan with few events.
-pub fn exact_sums(plan: &Plan) -> ExactSums {
+/// The exact sums of a plan with few events, D over the network without what is out.
+pub fn exact_sums(plan: &Plan, out: Out) -> ExactSums {
     let examined: HashSet<u128> = walk(plan).examined.iter().map(|s| s.failing).collect();
     let pairs = plan.pairs();
     let mut sums = ExactSums {
@@ -49,7 +49,7 @@ pub fn exact_sums(plan: &Plan) -> ExactSums {
     };
     for failing in 0..1u128 << plan.events.len() {
         let probability = probability(plan, failing);
-        let components = components(plan, failing);
+        let components = components(plan, out, failing);
         for (sum, &(v, w)) in sums.disconnected.iter_mut().zip(&pairs) {
             if components.disconnects(v, w) {
                 *sum = *sum + probability;

@@ -3,6 +3,7 @@
 use crate::bounds::{run, Bounds, Outcome};
 use crate::file::parse;
 use crate::plan::{pairs, Header};
+use crate::topology::Out;
 
 /// A line of decimal numbers.
 fn line(numbers: &[u64]) -> String {
@@ -30,7 +31,7 @@ pub fn text(header: &Header, outcome: &Outcome, bounds: &[Bounds]) -> String {
 pub fn listing(bytes: &[u8]) -> String {
     match parse(bytes) {
         Ok(plan) => {
-            let (outcome, bounds) = run(&plan);
+            let (outcome, bounds) = run(&plan, Out::NOTHING);
             text(&plan.header(), &outcome, &bounds)
         }
         Err(refusal) => format!("refused {}\n", refusal.number()),

@@ -7,6 +7,7 @@ use crate::bounds::{self, Bounds, Outcome};
 use crate::calls::test_pair;
 use crate::plan::{Lent, Plan};
 use crate::refusal::{demand, Refusal};
+use crate::topology::Out;
 use crate::walk::walk;
 use crate::WHOLE;
 
@@ -75,7 +76,7 @@ impl Begun {
     /// Count, complete and E, and the bounds of every pair.
     pub fn look_all(&self) -> (Outcome, Vec<Bounds>) {
         match self.so_far() {
-            Some(plan) => bounds::run(&plan),
+            Some(plan) => bounds::run(&plan, Out::NOTHING),
             None => (NOTHING, vec![UNKNOWN; self.plan.pairs().len()]),
         }
     }

@@ -70,13 +70,6 @@ impl Event {
             (self.links >> 64) as u64,
         ]
     }
-
-    /// Whether every bit of both sets is below the counts.
-    fn within(&self, nodes: usize, links: usize) -> bool {
-        let node_past = (nodes..64).any(|node| self.nodes >> node & 1 == 1);
-        let link_past = (links..128).any(|link| self.links >> link & 1 == 1);
-        !node_past && !link_past
-    }
 }
 
 impl Lent<'_> {
@@ -96,7 +89,7 @@ impl Lent<'_> {
         for words in self.events.chunks_exact(EVENT_WORDS).take(events) {
             let event = Event::of_words(words);
             plan.test_probability(event.probability)?;
-            demand(event.within(plan.nodes, links), Refusal::Member)?;
+            demand(plan.has(event.nodes, event.links), Refusal::Member)?;
             plan.events.push(event);
         }
         Ok(plan)
@@ -130,6 +123,13 @@ impl Plan {
             Some(before) => demand(probability <= before.probability, Refusal::Rise),
             None => Ok(()),
         }
+    }
+
+    /// Whether every bit of both sets is below the counts.
+    pub fn has(&self, nodes: u64, links: u128) -> bool {
+        let node_past = (self.nodes..64).any(|node| nodes >> node & 1 == 1);
+        let link_past = (self.links.len()..128).any(|link| links >> link & 1 == 1);
+        !node_past && !link_past
     }
 
     /// The numbers of the plan.

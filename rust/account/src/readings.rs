@@ -4,7 +4,7 @@ use crate::bounds::bounds_over;
 use crate::calls::test_pair;
 use crate::plan::Lent;
 use crate::refusal::{demand, Refusal};
-use crate::topology::{components, effective, Topology};
+use crate::topology::{components, effective, Out, Topology};
 use crate::walk::{walk, Scenario};
 use crate::{CERTAIN, WHOLE};
 
@@ -30,7 +30,7 @@ pub fn topologies(lent: &Lent, list: &mut [u64]) -> Result<u64, Refusal> {
     let room = list.len() / ENTRY_WORDS;
     let mut used = 0;
     for scenario in walk(&plan).examined {
-        let words = topology_words(&effective(&plan, scenario.failing));
+        let words = topology_words(&effective(&plan, Out::NOTHING, scenario.failing));
         let known = (0..used).find(|i| list[i * ENTRY_WORDS..][..3] == words);
         if let Some(i) = known {
             list[i * ENTRY_WORDS + 3] += scenario.mass;
@@ -65,7 +65,7 @@ pub fn figure(lent: &Lent, v: u64, w: u64) -> Result<Option<Figure>, Refusal> {
     if mass == 0 {
         return Ok(None);
     }
-    let lower = bounds_over(&plan, &walk.examined, &[pair])[0].lower;
+    let lower = bounds_over(&plan, Out::NOTHING, &walk.examined, &[pair])[0].lower;
     Ok(Some(Figure {
         disconnected: float_of(lower) / float_of(mass),
         examined: float_of(mass) / WHOLE as f64,
@@ -77,7 +77,10 @@ pub fn figure(lent: &Lent, v: u64, w: u64) -> Result<Option<Figure>, Refusal> {
 pub fn witness(lent: &Lent, v: u64, w: u64) -> Result<u128, Refusal> {
     let plan = lent.plan()?;
     let (v, w) = test_pair(plan.nodes, v, w)?;
-    let cuts = |scenario: &Scenario| components(&plan, scenario.failing).disconnects(v, w);
+    let cuts = |scenario: &Scenario| {
+        let components = components(&plan, Out::NOTHING, scenario.failing);
+        components.disconnects(v, w)
+    };
     let first = walk(&plan).examined.into_iter().find(cuts);
     let set = first.map(|scenario| scenario.failing);
     set.ok_or(Refusal::NoWitness)

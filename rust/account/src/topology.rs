@@ -9,6 +9,26 @@ pub struct Topology {
     pub links: u128,
 }
 
+/// The nodes and links that are down before the first event, in every scenario. Element i is bit i.
+#[derive(Clone, Copy, Debug, PartialEq, Eq)]
+pub struct Out {
+    pub nodes: u64,
+    pub links: u128,
+}
+
+impl Out {
+    /// What every call takes but a run with windows.
+    pub const NOTHING: Out = Out { nodes: 0, links: 0 };
+
+    /// The union of both.
+    pub fn with(self, more: Out) -> Out {
+        Out {
+            nodes: self.nodes | more.nodes,
+            links: self.links | more.links,
+        }
+    }
+}
+
 /// What works where these nodes and links have failed: a node that has not, and a link that has not and whose two end
 /// nodes work. Bits at or past the plan's counts are not used.
 pub fn working(plan: &Plan, failed_nodes: u64, failed_links: u128) -> Topology {
@@ -25,16 +45,17 @@ pub fn working(plan: &Plan, failed_nodes: u64, failed_links: u128) -> Topology {
     topology
 }
 
-/// The effective topology of a set of failing events: what works where all that they name has failed.
-pub fn effective(plan: &Plan, failing: u128) -> Topology {
-    let (mut named_nodes, mut named_links) = (0u64, 0u128);
+/// The effective topology of a set of failing events: what works where all that is out before the first event and all that
+/// they name has failed.
+pub fn effective(plan: &Plan, out: Out, failing: u128) -> Topology {
+    let mut down = out;
     for (i, event) in plan.events.iter().enumerate() {
         if failing >> i & 1 == 1 {
-            named_nodes |= event.nodes;
-            named_links |= event.links;
+            down.nodes |= event.nodes;
+            down.links |= event.links;
         }
     }
-    working(plan, named_nodes, named_links)
+    working(plan, down.nodes, down.links)
 }
 
 /// The component of each node, named by one of its nodes; none for a node that is down.
@@ -78,7 +99,7 @@ fn find(parents: &mut [usize], node: usize) -> usize {
     at
 }
 
-/// The components under a set of failing events.
-pub fn components(plan: &Plan, failing: u128) -> Components {
-    Components::of(plan, &effective(plan, failing))
+/// The components under what is out and a set of failing events.
+pub fn components(plan: &Plan, out: Out, failing: u128) -> Components {
+    Components::of(plan, &effective(plan, out, failing))
 }

@@ -2,6 +2,7 @@
 
 use account::credit::{credit, Contract};
 use account::exact::exact_sums;
+use account::topology::Out;
 use account::{number, Header, Lent};
 use plans::credits::{by_hand, cable, refused};
 use plans::Lists;
@@ -19,7 +20,7 @@ fn credits_and_headroom_are_those_by_hand() {
 fn the_credit_of_the_exact_downtime_is_that_by_hand() {
     for case in by_hand() {
         let (name, contract) = (case.name, case.contract);
-        let exact = exact_sums(&case.plan).credit(0, &contract);
+        let exact = exact_sums(&case.plan, Out::NOTHING).credit(0, &contract);
         assert_eq!(exact, case.exact, "{name}: {contract:?}");
     }
 }

@@ -2,6 +2,7 @@
 
 use account::bounds::{run, Bounds, Outcome};
 use account::readings::figure;
+use account::topology::Out;
 use account::walk::{split, Parts};
 use account::{file, listing, Event, Lent, Plan, WHOLE};
 
@@ -48,7 +49,7 @@ fn triangle() -> Plan {
 /// Holds a plan of one pair to its count, complete and bounds.
 #[track_caller]
 fn expect(plan: &Plan, count: u64, complete: u64, lower: u64, upper: u64) {
-    let (outcome, bounds) = run(plan);
+    let (outcome, bounds) = run(plan, Out::NOTHING);
     assert_eq!((outcome.count, outcome.complete), (count, complete));
     assert_eq!(bounds, [Bounds { lower, upper }]);
     assert_eq!(upper - lower, WHOLE - outcome.mass);
@@ -147,7 +148,7 @@ fn plan_10_no_pairs() {
         complete: 1,
         mass: WHOLE,
     };
-    assert_eq!(run(&plan), (one, vec![]));
+    assert_eq!(run(&plan, Out::NOTHING), (one, vec![]));
 }
 
 #[test]

@@ -2,6 +2,7 @@
 
 use account::bounds::{self, Bounds, Outcome};
 use account::panel::{begin, Begun, Quota};
+use account::topology::Out;
 use account::{number, Plan};
 use plans::valid::{plan_of_size, TINY};
 use plans::walks::{by_hand, lists_of_calls, row, still};
@@ -90,6 +91,7 @@ fn all_at_once_is_the_run() {
         let reached = walk.go_on(&mut quota, plan.cap).expect("a full quota");
         assert_eq!(quota.left, 10_000_000 - reached);
         assert_eq!(walk.left(), 0, "{plan:?}");
-        assert_eq!(walk.look_all(), bounds::run(&plan), "{plan:?}");
+        let run = bounds::run(&plan, Out::NOTHING);
+        assert_eq!(walk.look_all(), run, "{plan:?}");
     }
 }

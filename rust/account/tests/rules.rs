@@ -2,6 +2,7 @@
 
 use account::exact::exact_sums;
 use account::readings::{downtime, float_of, topologies, witness};
+use account::topology::Out;
 use account::walk::{final_mass, split, walk};
 use account::{bounds, calls, file, number, Event, Lent, Plan, Refusal, CERTAIN, WHOLE};
 
@@ -126,12 +127,12 @@ fn the_witness_is_the_first_of_the_walk() {
 #[test]
 fn exact_sums_enclose_the_bounds_and_only_those() {
     let plan = row();
-    let sums = exact_sums(&plan);
+    let sums = exact_sums(&plan, Out::NOTHING);
     assert_eq!(
         sums.total,
         account::wide::Wide::from(1).times_power(CERTAIN, 3)
     );
-    for (pair, bound) in bounds::run(&plan).1.into_iter().enumerate() {
+    for (pair, bound) in bounds::run(&plan, Out::NOTHING).1.into_iter().enumerate() {
         assert!(sums.enclose(pair, bound));
         let lower = bound.upper + 1;
         assert!(!sums.lower_holds(pair, bounds::Bounds { lower, ..bound }));

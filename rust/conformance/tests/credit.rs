@@ -7,6 +7,7 @@ use account::credit::{credit as own_credit, Contract, Credits};
 use account::exact::{exact_sums, ExactSums};
 use account::number;
 use account::readings::YEAR_SECONDS;
+use account::topology::Out;
 use conformance::compare::{laid_down, mostly_valid_lists, random_pair, words};
 use conformance::{probe, readings, Tally};
 use plans::contracts::{damaged_contract, random_contract};
@@ -220,7 +221,7 @@ fn exact_credits_lie_between() {
     let mut met = Met::default();
     for _ in 0..2_000 {
         let plan = plan_of_size(&mut rng, size);
-        let (lists, sums) = (Lists::of(&plan), exact_sums(&plan));
+        let (lists, sums) = (Lists::of(&plan), exact_sums(&plan, Out::NOTHING));
         for (place, pair) in plan.pairs().into_iter().enumerate() {
             let enclosed = Enclosed::of(&lists, &sums, place, pair);
             let [lower, upper] = enclosed.seconds;

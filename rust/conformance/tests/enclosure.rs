@@ -2,6 +2,7 @@
 
 use account::bounds::Bounds;
 use account::exact::exact_sums;
+use account::topology::Out;
 use account::Plan;
 use conformance::{probe, readings};
 use plans::valid::{plan_of_size, Size};
@@ -13,7 +14,7 @@ fn expect_enclosed(plan: &Plan) {
     let (mut lower, mut upper) = (vec![0; pairs], vec![0; pairs]);
     let (refusal, result) = probe::run(&Lists::of(plan).lent(), &mut lower, &mut upper);
     assert_eq!(refusal, 0);
-    let sums = exact_sums(plan);
+    let sums = exact_sums(plan, Out::NOTHING);
     assert_eq!(result[0], sums.count, "count of {plan:?}");
     for (pair, (&lower, &upper)) in lower.iter().zip(&upper).enumerate() {
         let bounds = Bounds { lower, upper };

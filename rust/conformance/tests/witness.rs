@@ -1,6 +1,6 @@
 //! The first witness: vectors worked out by hand, and every pair of small plans, where the first scenario is found without a walk.
 
-use account::topology::components;
+use account::topology::{components, Out};
 use account::walk::final_mass;
 use account::{Event, Plan};
 use conformance::readings;
@@ -124,7 +124,8 @@ fn the_first_of_all_sets() {
         let lists = Lists::of(&plan);
         let sets =
             (0..1u128 << plan.events.len()).filter(|&s| final_mass(&plan, s) >= plan.threshold);
-        let topologies: Vec<_> = sets.map(|set| (set, components(&plan, set))).collect();
+        let topology = |set| (set, components(&plan, Out::NOTHING, set));
+        let topologies: Vec<_> = sets.map(topology).collect();
         for (v, w) in plan.pairs() {
             let cuts = topologies
                 .iter()

@@ -1,6 +1,7 @@
 //! The numbers of docs/ANSWER.md: the table of its worked example, from the proved run and the exact sums.
 
 use account::exact::{exact_sums, ExactSums};
+use account::topology::Out;
 use account::wide::Wide;
 use account::{Plan, CERTAIN, LARGEST_CAP, WHOLE};
 use conformance::{proved, readings};
@@ -44,7 +45,7 @@ fn row(threshold: (u64, &str), cap: u64, left_out: u64) -> String {
         ..ring()
     };
     let (outcome, bounds) = proved::run(&Lists::of(&plan));
-    let sums = exact_sums(&plan);
+    let sums = exact_sums(&plan, Out::NOTHING);
     let bounds = bounds[PAIR];
     assert!(sums.enclose(PAIR, bounds));
     assert!(is_units(&sums, sums.disconnected[PAIR], TRUTH));
@@ -102,7 +103,8 @@ fn the_seconds() {
     assert_eq!(refusal, 0);
     let sentence = format!("between {lower} and {upper} seconds a year");
     assert!(answer().contains(&sentence), "{sentence}");
-    assert!(exact_sums(&ring()).downtime_holds(PAIR, lower, upper));
+    let sums = exact_sums(&ring(), Out::NOTHING);
+    assert!(sums.downtime_holds(PAIR, lower, upper));
 }
 
 #[test]

@@ -1,6 +1,6 @@
 //! The random plans meet the corners that the tests are meant to reach.
 
-use account::topology::effective;
+use account::topology::{effective, Out, Topology};
 use account::walk::{walk, Walk};
 use account::{Plan, CERTAIN, LARGEST_CAP, WHOLE};
 use plans::valid::random_plan;
@@ -61,15 +61,20 @@ const CORNERS: [Corner; 20] = [
         some_scenario(walk, |failing| failing >> 127 == 1)
     }),
     ("node 63 down", |plan, walk| {
-        plan.nodes == 64 && some_scenario(walk, |failing| effective(plan, failing).nodes >> 63 == 0)
+        plan.nodes == 64 && some_scenario(walk, |failing| topology(plan, failing).nodes >> 63 == 0)
     }),
     ("link 127 down, its ends up", |plan, walk| {
         plan.links.len() == 128 && some_scenario(walk, |failing| lone_link_down(plan, failing))
     }),
 ];
 
+/// The effective topology of a scenario with nothing out before the first event.
+fn topology(plan: &Plan, failing: u128) -> Topology {
+    effective(plan, Out::NOTHING, failing)
+}
+
 fn lone_link_down(plan: &Plan, failing: u128) -> bool {
-    let topology = effective(plan, failing);
+    let topology = topology(plan, failing);
     let (first, second) = plan.links[127];
     let ends_up = topology.nodes >> first & topology.nodes >> second & 1 == 1;
     ends_up && topology.links >> 127 == 0

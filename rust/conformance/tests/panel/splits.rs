@@ -1,5 +1,6 @@
 //! Every split of a small plan's walk into two and into three parts, beside one go-on for all of it.
 
+use account::topology::Out;
 use account::walk::walk;
 use account::{bounds, Event, Plan, LARGEST_CAP};
 use plans::valid::{plan_of_size, SMALL};
@@ -46,7 +47,7 @@ fn in_parts(plan: &Plan, parts: &[u64]) -> Both {
 fn expect_the_run(plan: &Plan, mut both: Both) {
     let mut quotas = Quotas::of(10_000_000);
     both.go_on(&mut quotas, plan.cap);
-    assert_eq!(both.own.look_all(), bounds::run(plan));
+    assert_eq!(both.own.look_all(), bounds::run(plan, Out::NOTHING));
 }
 
 /// Every split of a walk into two parts and into three. A part may be 0, and the last end need not be reached.
