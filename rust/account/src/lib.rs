@@ -20,6 +20,7 @@ mod source;
 pub mod topology;
 pub mod walk;
 pub mod wide;
+pub mod windows;
 
 pub use plan::{Event, Header, Lent, Plan};
 pub use refusal::{number, Refusal};

@@ -44,6 +44,10 @@ pub enum Refusal {
     Quota = 19,
     /// The fee or the rate of a contract is above 10^12 cents, or its limit above 31,536,000 seconds.
     Terms = 20,
+    /// A window is not start < end ≤ 10,080, or it names a node or a link that the plan does not have.
+    Window = 21,
+    /// A minute of the week is above 10,079.
+    Minute = 22,
 }
 
 impl Refusal {
