@@ -2,9 +2,10 @@
 
 use account::credit::{credit, Contract};
 use account::exact::exact_sums;
+use account::number;
 use account::topology::Out;
-use account::{number, Header, Lent};
 use plans::credits::{by_hand, cable, refused};
+use plans::faults::faulty_lists;
 use plans::Lists;
 
 #[test]
@@ -43,37 +44,9 @@ fn the_lists_are_tested_before_pair_and_terms() {
         limit: u64::MAX,
         rate: u64::MAX,
     };
-    let lists = Lists::of(&cable());
-    let (right, own) = (lists.lent(), lists.header);
-    let refusal = |lent: Lent| number(&credit(&lent, 1, 1, &past));
-    assert_eq!(refusal(right), 13);
-    let threshold = 0;
-    let headers = [
-        (Header { nodes: 0, ..own }, 4),
-        (Header { threshold, ..own }, 5),
-        (Header { cap: 0, ..own }, 6),
-        (Header { events: 2, ..own }, 12),
-    ];
-    for (header, number) in headers {
-        assert_eq!(refusal(Lent { header, ..right }), number);
-    }
-    let links = &[1, 1];
-    assert_eq!(refusal(Lent { links, ..right }), 7);
-    let events: [(&[u64], u32); 3] = [
-        (&[1_000_000_001, 0, 1, 0], 8),
-        (&[1, 0, 1, 0, 2, 0, 1, 0], 9),
-        (&[62_500, 4, 1, 0], 10),
-    ];
-    for (events, number) in events {
-        let header = Header {
-            events: events.len() as u64 / 4,
-            ..own
-        };
-        let lent = Lent {
-            header,
-            events,
-            ..right
-        };
-        assert_eq!(refusal(lent), number);
+    let refusal = |lists: &Lists| number(&credit(&lists.lent(), 1, 1, &past));
+    assert_eq!(refusal(&Lists::of(&cable())), 13);
+    for (lists, number) in faulty_lists() {
+        assert_eq!(refusal(&lists), number, "{lists:?}");
     }
 }

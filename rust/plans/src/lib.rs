@@ -5,6 +5,7 @@ pub mod contracts;
 pub mod credits;
 pub mod damage;
 pub mod examples;
+pub mod faults;
 pub mod lists;
 pub mod networks;
 pub mod reach;
