@@ -1,5 +1,5 @@
-//! Plans, equipment sheets, networks and contracts for the tests and the benchmark: random ones, valid and damaged, some
-//! that are written down by hand, and the example files.
+//! Plans, equipment sheets, networks, contracts and windows for the tests and the benchmark: random ones, valid and damaged,
+//! some that are written down by hand, and the example files.
 
 pub mod contracts;
 pub mod credits;
@@ -15,6 +15,8 @@ pub mod sheet_damage;
 pub mod sheets;
 pub mod valid;
 pub mod walks;
+pub mod weeks;
+pub mod windows;
 
 pub use lists::Lists;
 pub use rng::Rng;
