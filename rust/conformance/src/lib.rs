@@ -3,6 +3,7 @@
 pub mod compare;
 pub mod distances;
 pub mod listing;
+pub mod met;
 pub mod panel;
 pub mod probe;
 pub mod proved;
@@ -11,4 +12,5 @@ pub mod rounds;
 pub mod sheets;
 pub mod tally;
 
+pub use met::Met;
 pub use tally::Tally;

@@ -1,15 +1,13 @@
 //! Credits of contracts: answers worked out by hand, many beside the account's, and beside the credit for the exact downtime
 //! of every pair of small plans.
 
-use std::collections::BTreeMap;
-
 use account::credit::{credit as own_credit, Contract, Credits};
 use account::exact::{exact_sums, ExactSums};
 use account::number;
 use account::readings::YEAR_SECONDS;
 use account::topology::Out;
 use conformance::compare::{laid_down, mostly_valid_lists, random_pair, words};
-use conformance::{probe, readings, Tally};
+use conformance::{probe, readings, Met, Tally};
 use plans::contracts::{damaged_contract, random_contract};
 use plans::credits::{by_hand, cable, refused};
 use plans::valid::{plan_of_size, Size};
@@ -64,46 +62,26 @@ fn a_list_gets_as_many_words_as_it_has_room_for() {
     }
 }
 
-/// How often each case was met.
-#[derive(Default)]
-struct Met(BTreeMap<&'static str, u32>);
-
-impl Met {
-    /// Counts those cases that hold.
-    fn count(&mut self, cases: &[(&'static str, bool)]) {
-        for &(case, holds) in cases {
-            *self.0.entry(case).or_default() += u32::from(holds);
-        }
-    }
-
-    /// Asserts that each case was met at least so many times.
-    #[track_caller]
-    fn expect_each(&self, least: u32) {
-        let often = self.0.values().all(|&count| count >= least);
-        assert!(often && !self.0.is_empty(), "{:?}", self.0);
-    }
-
-    /// Counts what the credits of a contract show.
-    fn count_accepted(&mut self, contract: &Contract, credits: &Credits) {
-        let Credits {
-            lower,
-            upper,
-            headroom,
-        } = *credits;
-        self.count(&[
-            ("no credit", upper == 0),
-            ("some of the fee", 0 < upper && upper < contract.fee),
-            ("the whole fee", 0 < upper && upper == contract.fee),
-            ("lower credit below upper", lower < upper),
-            ("lower credit above 0", lower > 0),
-            ("upper downtime below the limit", headroom > 0),
-            ("upper downtime at the limit", headroom == 0),
-            ("1 second above", headroom == -1),
-            ("60 seconds above", headroom == -60),
-            ("61 seconds above", headroom == -61),
-            ("more than an hour above", headroom < -3_600),
-        ]);
-    }
+/// Counts what the credits of a contract show.
+fn count_accepted(met: &mut Met, contract: &Contract, credits: &Credits) {
+    let Credits {
+        lower,
+        upper,
+        headroom,
+    } = *credits;
+    met.count(&[
+        ("no credit", upper == 0),
+        ("some of the fee", 0 < upper && upper < contract.fee),
+        ("the whole fee", 0 < upper && upper == contract.fee),
+        ("lower credit below upper", lower < upper),
+        ("lower credit above 0", lower > 0),
+        ("upper downtime below the limit", headroom > 0),
+        ("upper downtime at the limit", headroom == 0),
+        ("1 second above", headroom == -1),
+        ("60 seconds above", headroom == -60),
+        ("61 seconds above", headroom == -61),
+        ("more than an hour above", headroom < -3_600),
+    ]);
 }
 
 /// Seconds near which a contract is made: the lower or the upper downtime of a pair, or any number.
@@ -136,7 +114,7 @@ fn compare(rng: &mut Rng, lists: &Lists, met: &mut Met) -> u32 {
         "{v} {w}, {contract:?} of {lists:?}"
     );
     match expected {
-        Ok(credits) => met.count_accepted(&contract, &credits),
+        Ok(credits) => count_accepted(met, &contract, &credits),
         Err(_) => met.count(&[
             ("13 before 20", refusal == 13 && damaged),
             ("a number of the lists before 20", refusal < 13 && damaged),
