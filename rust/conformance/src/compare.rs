@@ -1,13 +1,18 @@
 //! Each call of `probe` beside the account's, on the same input and on lent memory with the same pattern. Each
 //! function returns the refusal's number and panics where anything differs.
 
+use std::fmt::Debug;
+
+use account::bounds::Outcome;
 use account::rounds::{reach as own_reach, Network};
-use account::{calls, number, Header};
+use account::windows::run_at as own_run_at;
+use account::{calls, number, Header, Lent, Refusal};
 use plans::damage::damaged_lists;
 use plans::valid::random_plan;
+use plans::weeks::Week;
 use plans::{Lists, Rng};
 
-use crate::{probe, rounds};
+use crate::{probe, rounds, windows};
 
 /// A length for a lent list: most often enough, sometimes too short.
 pub fn lent_length(rng: &mut Rng, needed: usize) -> usize {
@@ -101,20 +106,50 @@ pub fn write(rng: &mut Rng, lists: &Lists) -> u32 {
     refusal
 }
 
-/// The run.
-pub fn run(rng: &mut Rng, lists: &Lists) -> u32 {
+/// A call that fills two lists of bounds and gives count, complete and E, beside the account's.
+fn compare_runs(
+    rng: &mut Rng,
+    lists: &Lists,
+    told: &dyn Debug,
+    own: impl FnOnce(&Lent, &mut [u64], &mut [u64]) -> Result<Outcome, Refusal>,
+    call: impl FnOnce(&Lent, &mut [u64], &mut [u64]) -> (u32, [u64; 3]),
+) -> u32 {
     let lent = lists.lent();
     let needed = lent.plan().map_or(10, |plan| plan.pairs().len());
     let lengths = [lent_length(rng, needed), lent_length(rng, needed)];
     let (mut lower, mut upper) = (words(rng, lengths[0]), words(rng, lengths[1]));
     let (mut own_lower, mut own_upper) = (lower.clone(), upper.clone());
-    let expected = calls::run(&lent, &mut own_lower, &mut own_upper);
-    let (refusal, result) = probe::run(&lent, &mut lower, &mut upper);
-    assert_eq!(refusal, number(&expected), "run of {lists:?}");
+    let expected = own(&lent, &mut own_lower, &mut own_upper);
+    let (refusal, result) = call(&lent, &mut lower, &mut upper);
+    assert_eq!(refusal, number(&expected), "{told:?} of {lists:?}");
     let own_result = expected.map_or([0; 3], |run| [run.count, run.complete, run.mass]);
-    assert_eq!(result, own_result, "run of {lists:?}");
-    assert_eq!((lower, upper), (own_lower, own_upper), "run of {lists:?}");
+    assert_eq!(result, own_result, "{told:?} of {lists:?}");
+    assert_eq!(
+        (lower, upper),
+        (own_lower, own_upper),
+        "{told:?} of {lists:?}"
+    );
     refusal
+}
+
+/// The run.
+pub fn run(rng: &mut Rng, lists: &Lists) -> u32 {
+    compare_runs(rng, lists, &"run", calls::run, probe::run)
+}
+
+/// The run with windows.
+pub fn run_at(rng: &mut Rng, lists: &Lists, week: &Week) -> u32 {
+    let Week {
+        windows: list,
+        minute,
+    } = week;
+    compare_runs(
+        rng,
+        lists,
+        week,
+        |lent, lower, upper| own_run_at(lent, list, *minute, lower, upper),
+        |lent, lower, upper| windows::run_at(lent, list, *minute, lower, upper),
+    )
 }
 
 /// Two numbers for a pair: most often a pair of the plan, sometimes none.

@@ -6,7 +6,7 @@
 use account::Lent;
 
 /// What the returned numbers hold before a call.
-const UNSET: u64 = 0xdead_beef_dead_beef;
+pub(crate) const UNSET: u64 = 0xdead_beef_dead_beef;
 
 mod raw {
     extern "C" {

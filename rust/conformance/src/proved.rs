@@ -1,5 +1,5 @@
-//! A whole plan by the proved code: its lists from a file, its file, its bounds, at once or in steps, and the lines of its
-//! listing; and the events of an equipment sheet.
+//! A whole plan by the proved code: its lists from a file, its file, its bounds, at once, at a minute of the week or in steps,
+//! and the lines of its listing; and the events of an equipment sheet.
 
 use account::bounds::{Bounds, Outcome};
 use account::listing::text;
@@ -7,7 +7,7 @@ use account::plan::pairs;
 use account::{Event, Header, EVENT_WORDS, MOST_EVENTS, MOST_LINKS};
 use plans::Lists;
 
-use crate::{panel, probe, sheets};
+use crate::{panel, probe, sheets, windows};
 
 /// The most pairs of a plan.
 pub const MOST_PAIRS: usize = 2016;
@@ -51,11 +51,34 @@ pub fn write(lists: &Lists) -> Result<Vec<u8>, u32> {
     }
 }
 
+/// What a run gives: count, complete and E, and the bounds of every pair.
+pub type Run = (Outcome, Vec<Bounds>);
+
 /// The run over all pairs of lists that meet no refusal.
-pub fn run(lists: &Lists) -> (Outcome, Vec<Bounds>) {
+pub fn run(lists: &Lists) -> Run {
+    let run = run_by(lists, |lower, upper| {
+        probe::run(&lists.lent(), lower, upper)
+    });
+    run.expect("the run of a plan that meets no refusal")
+}
+
+/// The run with windows, five words for each, at a minute of the week, or the refusal's number.
+pub fn run_at(lists: &Lists, list: &[u64], minute: u64) -> Result<Run, u32> {
+    run_by(lists, |lower, upper| {
+        windows::run_at(&lists.lent(), list, minute, lower, upper)
+    })
+}
+
+/// What a call lays down in two lists that have room for every plan, or the refusal's number.
+fn run_by(
+    lists: &Lists,
+    call: impl FnOnce(&mut [u64], &mut [u64]) -> (u32, [u64; 3]),
+) -> Result<Run, u32> {
     let (mut lower, mut upper) = (vec![0; MOST_PAIRS], vec![0; MOST_PAIRS]);
-    let (refusal, [count, complete, mass]) = probe::run(&lists.lent(), &mut lower, &mut upper);
-    assert_eq!(refusal, 0, "the run of a plan that meets no refusal");
+    let (refusal, [count, complete, mass]) = call(&mut lower, &mut upper);
+    if refusal != 0 {
+        return Err(refusal);
+    }
     let nodes = lists.header.nodes as usize;
     let bounds = lower.into_iter().zip(upper).take(nodes * (nodes - 1) / 2);
     let outcome = Outcome {
@@ -64,7 +87,7 @@ pub fn run(lists: &Lists) -> (Outcome, Vec<Bounds>) {
         mass,
     };
     let bounds = bounds.map(|(lower, upper)| Bounds { lower, upper });
-    (outcome, bounds.collect())
+    Ok((outcome, bounds.collect()))
 }
 
 /// A walk that is begun and gone on with, in words of its own.

@@ -3,6 +3,7 @@
 
 use account::credit::Contract;
 use account::{Header, Lent};
+use conformance::windows::run_at;
 use conformance::{probe, readings};
 
 /// A plan of 37 bytes: two nodes, one link, two events.
@@ -138,7 +139,16 @@ const PAST: Contract = Contract {
     rate: 1_000_000_000_001,
 };
 
-/// Write, run and pair refuse with this number and change nothing; so does a credit, whatever its pair and terms.
+/// Windows and a minute: right, a tail, a window that is refused, a minute that is.
+const WEEKS: [(&[u64], u64); 4] = [
+    (&[0, 10_080, 1, 1, 0], 10_079),
+    (&[0, 10_080, 1, 1, 0, 0], 10_080),
+    (&[0, 10_081, 1, 1, 0], 10_080),
+    (&[], 10_080),
+];
+
+/// Write, run and pair refuse with this number and change nothing; so does a credit, whatever its pair and terms, and a run
+/// with windows, whatever these and its minute.
 #[track_caller]
 fn expect_lists(header: Header, links: &[u8], events: &[u64], number: u32) {
     let lent = Lent {
@@ -156,6 +166,10 @@ fn expect_lists(header: Header, links: &[u8], events: &[u64], number: u32) {
     for (v, w) in [(0, 1), (1, 1)] {
         let credit = readings::credit(&lent, v, w, &PAST);
         assert_eq!(credit, (number, [0; 3]), "credit for {v} {w}");
+    }
+    for (windows, minute) in WEEKS {
+        let run = run_at(&lent, windows, minute, &mut lower, &mut upper);
+        assert_eq!((run, lower, upper), ((number, [0; 3]), [9; 3], [9; 3]));
     }
 }
 
@@ -245,4 +259,37 @@ fn refusals_of_readings() {
     assert_eq!(downtime(u64::MAX, 0), (16, [0; 2]));
     assert_eq!(credit(&right(), 1, 1, &PAST), (13, [0; 3]));
     assert_eq!(credit(&right(), 0, 1, &PAST), (20, [0; 3]));
+}
+
+/// The plan has two nodes and a link: node 2 and link 1 are none of it.
+#[test]
+fn refusals_of_windows() {
+    let answer = |windows: &[u64], minute| {
+        let (mut lower, mut upper) = ([9; 2], [9; 2]);
+        let (number, _) = run_at(&right(), windows, minute, &mut lower, &mut upper);
+        assert!(number == 0 || (lower, upper) == ([9; 2], [9; 2]));
+        number
+    };
+    assert_eq!(
+        WEEKS.map(|(list, minute)| answer(list, minute)),
+        [0, 12, 21, 22]
+    );
+    for window in [
+        [0, 0, 0, 0, 0],
+        [9, 8, 0, 0, 0],
+        [0, 10_081, 0, 0, 0],
+        [0, u64::MAX, 0, 0, 0],
+        [0, 1, 4, 0, 0],
+        [0, 1, 0, 2, 0],
+        [0, 1, 0, 0, 1],
+    ] {
+        assert_eq!(answer(&window, 5), 21, "{window:?}");
+    }
+    for (lower, upper) in [(0, 1), (1, 0)] {
+        for (windows, minute) in WEEKS {
+            let (mut lower, mut upper) = (vec![9; lower], vec![9; upper]);
+            let short = run_at(&right(), windows, minute, &mut lower, &mut upper);
+            assert_eq!(short, (12, [0; 3]), "{windows:?}");
+        }
+    }
 }
