@@ -132,7 +132,7 @@ fn runs_agree() {
         let week = week_for(&mut rng, &lists);
         tally.add(compare::run_at(&mut rng, &lists, &week));
     }
-    tally.expect_each(&[0, 4, 5, 6, 7, 8, 9, 10, 12, 21, 22], 20);
+    tally.expect([0, 4, 5, 6, 7, 8, 9, 10, 12, 21, 22]);
 }
 
 /// Random windows and a minute for a plan.

@@ -1,4 +1,4 @@
-//! Runs of plans with many links or nodes, and with one node.
+//! Runs of plans with many links or nodes, and with one node; and with many windows.
 
 use account::{Plan, WHOLE};
 
@@ -6,7 +6,13 @@ use super::{exactly_on, parallel, ByHand, Words, MOST};
 
 /// All of them.
 pub fn runs() -> Vec<ByHand> {
-    let groups = [many_links(), past_64_links(), many_nodes(), one_node()];
+    let groups = [
+        many_links(),
+        past_64_links(),
+        many_nodes(),
+        one_node(),
+        many_windows(),
+    ];
     groups.into_iter().flatten().collect()
 }
 
@@ -89,4 +95,20 @@ fn many_nodes() -> Vec<ByHand> {
 fn one_node() -> Vec<ByHand> {
     let out: &[Words] = &[[0, 10_080, 1, 0, 0]];
     exactly_on("one node", &parallel(1, 0), &[(out, 0, []), (&[], 0, [])])
+}
+
+/// A window for each minute of the week; link 0 is out in the odd ones.
+fn many_windows() -> Vec<ByHand> {
+    let window = |minute| [minute, minute + 1, 0, minute % 2, 0];
+    let windows: Vec<Words> = (0..10_080).map(window).collect();
+    let at = |minute, share| (&windows[..], minute, [share]);
+    let cases = [
+        at(0, 0),
+        at(1, 1_000),
+        at(5_000, 0),
+        at(5_001, 1_000),
+        at(10_078, 0),
+        at(10_079, 1_000),
+    ];
+    exactly_on("a window each minute", &parallel(2, 1), &cases)
 }

@@ -157,12 +157,15 @@ fn orders() -> Vec<Numbered> {
     let right = link_0(0, 10_080);
     let mut all = Vec::new();
     for wrong in [link_0(600, 600), link_0(0, 10_081), [0, 9, 0b100, 0, 0]] {
-        let lists: [&[Words]; 5] = [
+        let mut long = vec![right; 1_000];
+        long.push(wrong);
+        let lists: [&[Words]; 6] = [
             &[wrong],
             &[wrong, right],
             &[right, wrong],
             &[right, right, wrong, right],
             &[wrong, wrong],
+            &long,
         ];
         for windows in lists {
             let at = |minute| numbered_on("an order", windows, minute, 21);
