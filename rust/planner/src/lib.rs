@@ -15,6 +15,7 @@ mod print;
 mod progress;
 mod readings;
 mod refused;
+mod table;
 mod text;
 
 pub use credit::credit;

@@ -2,8 +2,12 @@
 
 use std::io::Write;
 
+use account::panel::Quota;
 use conformance::proved::Walk;
 use plans::Lists;
+
+/// The ends of one step of the walk.
+const STEP: u64 = 10_000;
 
 /// A line of a terminal that is written again and again, from the second step of a walk on, and cleared at the end. It goes
 /// nowhere where there is no terminal.
@@ -61,8 +65,14 @@ impl<'a> Progress<'a> {
     }
 }
 
+/// The walk of a plan from its first end to its last, in steps, on a quota of its own; or the refusal's number.
+pub fn whole_walk(lists: &Lists, progress: &mut Progress) -> Result<Walk, u32> {
+    let mut quota = Quota::FULL.left;
+    walk_in_steps(lists, &mut quota, STEP, progress)
+}
+
 /// The walk of a plan, begun and gone on with in steps of so many ends until it has ended, or the refusal's number.
-pub fn walk_in_steps(
+fn walk_in_steps(
     lists: &Lists,
     quota: &mut u64,
     step: u64,
