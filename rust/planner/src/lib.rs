@@ -7,6 +7,7 @@
 mod credit;
 mod equipment;
 mod events;
+mod help;
 mod line;
 mod listing;
 mod named;
@@ -19,6 +20,7 @@ mod table;
 mod text;
 
 pub use credit::credit;
+pub use help::HELP;
 pub use line::Fault;
 pub use listing::listing;
 pub use named::Named;
