@@ -98,7 +98,8 @@ fn agree(named: &Named, proved: &[Event], lines: &[usize]) -> Result<(), Fault> 
     };
     let shown = |event: Option<&Event>| match event {
         Some(event) => {
-            let members = members(event, &named.nodes, &named.links).join(" ");
+            let sets = (event.nodes, event.links);
+            let members = members(sets, &named.nodes, &named.links).join(" ");
             format!("q {} of `{members}`", event.probability)
         }
         None => "nothing".to_string(),

@@ -1,6 +1,6 @@
 //! Lines of events and of equipment.
 
-use account::{CERTAIN, MOST_EVENTS};
+use account::{Event, CERTAIN, MOST_EVENTS};
 
 use crate::equipment::{numbers, probability, Entry};
 use crate::line::{Fault, Line};
@@ -53,8 +53,12 @@ impl Draft {
         members: &[&str],
     ) -> Result<(), Fault> {
         let probability = probability(line, numbers)?;
-        let event = self.names.event(line, probability, members)?;
-        self.named.plan.events.push(event);
+        let (nodes, links) = self.names.members(line, members)?;
+        self.named.plan.events.push(Event {
+            probability,
+            nodes,
+            links,
+        });
         self.named.events.push(name.to_string());
         self.entries.push(Entry {
             numbers,

@@ -1,4 +1,4 @@
-//! The text form of plans, and a listing and credits for people.
+//! The text form of plans, with windows of planned work, and a listing and credits for people.
 //!
 //! A convenience outside the proof: nothing here is proved. Plan files are read, written and run by the proved code
 //! (libprobe.a), which also reads equipment sheets and works out credits; the text form, the names, the bytes of a sheet,
@@ -18,6 +18,8 @@ mod readings;
 mod refused;
 mod table;
 mod text;
+mod week;
+mod windows;
 
 pub use credit::credit;
 pub use help::HELP;
@@ -27,4 +29,6 @@ pub use named::Named;
 pub use print::{print, print_events};
 pub use progress::Progress;
 pub use refused::{plan_reason, sheet_reason};
-pub use text::{parse, parse_sheet};
+pub use text::{parse, parse_sheet, parse_windows};
+pub use week::{minute_of, Wrong};
+pub use windows::NamedWindow;

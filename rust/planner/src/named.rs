@@ -1,14 +1,19 @@
-//! A plan with a name for each of its nodes, links and events.
+//! A plan with a name for each of its nodes, links and events, and the windows of planned work beside it.
 
-use account::{Event, Plan};
+use account::topology::Out;
+use account::Plan;
 
-/// A plan and its names, by number. Nodes and links share their names: none is used twice among them.
+use crate::windows::NamedWindow;
+
+/// A plan and its names, by number. Nodes and links share their names: none is used twice among them. Only a text has
+/// windows, in the order of their lines.
 #[derive(Clone, Debug, PartialEq, Eq)]
 pub struct Named {
     pub plan: Plan,
     pub nodes: Vec<String>,
     pub links: Vec<String>,
     pub events: Vec<String>,
+    pub windows: Vec<NamedWindow>,
 }
 
 /// n0, n1 and so on for the letter n.
@@ -23,6 +28,7 @@ impl Named {
             nodes: numbered('n', plan.nodes),
             links: numbered('l', plan.links.len()),
             events: numbered('e', plan.events.len()),
+            windows: Vec::new(),
             plan,
         }
     }
@@ -33,13 +39,18 @@ impl Named {
         let inside = names.filter(|(i, _)| set >> i & 1 == 1);
         inside.map(|(_, name)| name.as_str()).collect()
     }
+
+    /// The names of what is out.
+    pub fn out(&self, out: Out) -> Vec<&str> {
+        members((out.nodes, out.links), &self.nodes, &self.links)
+    }
 }
 
-/// The names of the elements of an event, nodes before links, each by number.
-pub fn members<'a>(event: &Event, nodes: &'a [String], links: &'a [String]) -> Vec<&'a str> {
+/// The names of the elements of a set of nodes and one of links, nodes before links, each by number. Element i is bit i.
+pub fn members<'a>(sets: (u64, u128), nodes: &'a [String], links: &'a [String]) -> Vec<&'a str> {
     let nodes = nodes.iter().enumerate();
-    let nodes = nodes.filter(|(i, _)| event.nodes >> i & 1 == 1);
+    let nodes = nodes.filter(|(i, _)| sets.0 >> i & 1 == 1);
     let links = links.iter().enumerate();
-    let links = links.filter(|(i, _)| event.links >> i & 1 == 1);
+    let links = links.filter(|(i, _)| sets.1 >> i & 1 == 1);
     nodes.chain(links).map(|(_, name)| name.as_str()).collect()
 }

@@ -2,8 +2,6 @@
 
 use std::collections::HashMap;
 
-use account::Event;
-
 use crate::line::{Fault, Line};
 
 /// A node or a link, by number.
@@ -13,11 +11,13 @@ pub enum Element {
     Link(usize),
 }
 
-/// Names of elements and of events. Nodes and links share one set of names, events and equipment have another.
+/// Names of elements, of events and of windows. Nodes and links share one set of names, events and equipment have another,
+/// and windows a third.
 #[derive(Default)]
 pub struct Names {
     elements: HashMap<String, (Element, usize)>,
     events: HashMap<String, (&'static str, usize)>,
+    windows: HashMap<String, usize>,
 }
 
 /// The fault of a name that is in use.
@@ -49,6 +49,14 @@ impl Names {
         }
     }
 
+    /// Gives a name to a window; it must be free.
+    pub fn give_window(&mut self, line: &Line, name: &str) -> Result<(), Fault> {
+        match self.windows.insert(name.to_string(), line.number) {
+            Some(before) => Err(taken(line, name, "a window", before)),
+            None => Ok(()),
+        }
+    }
+
     /// The number of a node that stands above.
     pub fn node(&self, line: &Line, name: &str) -> Result<usize, Fault> {
         match self.elements.get(name) {
@@ -57,27 +65,23 @@ impl Names {
         }
     }
 
-    /// The event of its members, each named once.
-    pub fn event(&self, line: &Line, probability: u64, members: &[&str]) -> Result<Event, Fault> {
-        let mut event = Event {
-            probability,
-            nodes: 0,
-            links: 0,
-        };
+    /// The sets of nodes and of links that are named as members, each once.
+    pub fn members(&self, line: &Line, members: &[&str]) -> Result<(u64, u128), Fault> {
+        let (mut nodes, mut links) = (0, 0);
         for &member in members {
-            let before = event;
+            let before = (nodes, links);
             match self.elements.get(member) {
-                Some((Element::Node(number), _)) => event.nodes |= 1 << number,
-                Some((Element::Link(number), _)) => event.links |= 1 << number,
+                Some((Element::Node(number), _)) => nodes |= 1 << number,
+                Some((Element::Link(number), _)) => links |= 1 << number,
                 None => {
                     let expected = "nodes and links that stand above";
                     return Err(line.fault(expected, format!("`{member}`")));
                 }
             }
-            if event == before {
+            if (nodes, links) == before {
                 return Err(line.fault("each member once", format!("`{member}` twice")));
             }
         }
-        Ok(event)
+        Ok((nodes, links))
     }
 }

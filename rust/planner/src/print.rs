@@ -4,8 +4,10 @@ use account::Event;
 use conformance::proved::SheetEvents;
 
 use crate::named::{members, numbered, Named};
+use crate::week;
+use crate::windows::NamedWindow;
 
-/// The text that says a plan.
+/// The text that says a plan and its windows.
 pub fn print(named: &Named) -> String {
     let plan = &named.plan;
     let mut text = format!("threshold {}\ncap {}\n\n", plan.threshold, plan.cap);
@@ -20,6 +22,12 @@ pub fn print(named: &Named) -> String {
     text += "\n";
     for (name, event) in named.events.iter().zip(&plan.events) {
         text += &event_line(name, event, &named.nodes, &named.links);
+    }
+    if !named.windows.is_empty() {
+        text += "\n";
+    }
+    for window in &named.windows {
+        text += &window_line(window, named);
     }
     text
 }
@@ -38,6 +46,14 @@ pub fn print_events(sheet: &SheetEvents) -> String {
 fn event_line(name: &str, event: &Event, nodes: &[String], links: &[String]) -> String {
     let q = event.probability.to_string();
     let mut words = vec!["event", name, &q];
-    words.extend(members(event, nodes, links));
+    words.extend(members((event.nodes, event.links), nodes, links));
+    words.join(" ") + "\n"
+}
+
+/// The line of one window.
+fn window_line(NamedWindow { name, window }: &NamedWindow, named: &Named) -> String {
+    let (start, end) = (week::shown(window.start), week::shown_end(window.end));
+    let mut words = vec!["window", name, &start, &end];
+    words.extend(named.out(window.out));
     words.join(" ") + "\n"
 }

@@ -9,11 +9,12 @@
 //! link NAME NODE NODE
 //! event NAME Q MEMBER..   q in 10^-9, then the nodes and links that fail together
 //! equipment NAME FIT HOURS LENGTH MEMBER..   an event with q = FIT * HOURS * LENGTH
+//! window NAME DAY TIME DAY TIME MEMBER..     planned work, which takes nodes and links out from a start to an end
 //! ```
 //!
 //! Nodes and links get the numbers of the plan file in the order of their lines, and so do the events of a text without
 //! equipment. Where a text has equipment, all its events go through one sheet: they stand in any order, and are
-//! numbered by falling q, equal ones in the order of their lines.
+//! numbered by falling q, equal ones in the order of their lines. Windows are no part of a plan; they stand beside it.
 
 use account::sheet::Sheet;
 use account::{Header, Plan};
@@ -24,6 +25,7 @@ use crate::equipment::{by_sheet, sheet_of, Entry};
 use crate::line::{Fault, Line};
 use crate::named::Named;
 use crate::names::{Element, Names};
+use crate::windows::NamedWindow;
 
 /// The plan as far as the lines have said it, with the lines of its threshold and its cap, and an entry of a sheet for
 /// each of its events.
@@ -51,6 +53,11 @@ pub fn parse(text: &str) -> Result<Named, Fault> {
 pub fn parse_sheet(text: &str) -> Result<Sheet, Fault> {
     let draft = Draft::of(text)?;
     Ok(sheet_of(&draft.named, &draft.entries))
+}
+
+/// The windows that a text says.
+pub fn parse_windows(text: &str) -> Result<Vec<NamedWindow>, Fault> {
+    Ok(Draft::of(text)?.named.windows)
 }
 
 impl Draft {
@@ -95,8 +102,9 @@ impl Draft {
             "link" => self.take_link(line),
             "event" => self.take_event(line),
             "equipment" => self.take_equipment(line),
+            "window" => self.take_window(line),
             other => {
-                let known = "threshold, cap, node, link, event or equipment";
+                let known = "threshold, cap, node, link, event, equipment or window";
                 Err(line.fault(known, format!("`{other}`")))
             }
         }

@@ -1,6 +1,7 @@
 //! Texts with one thing wrong: the fault names the line, what was expected and what stands there.
 
 mod equipment;
+mod windows;
 
 use planner::parse;
 
@@ -51,7 +52,7 @@ fn the_right_text_has_no_fault() {
 
 #[test]
 fn keywords() {
-    let known = "threshold, cap, node, link, event or equipment";
+    let known = "threshold, cap, node, link, event, equipment or window";
     expect(4, "nod A", &format!("{known}; found `nod`"));
     expect(4, "NODE A", &format!("{known}; found `NODE`"));
     expect(1, "RSG", &format!("{known}; found `RSG`"));
