@@ -8,6 +8,13 @@ planner listing PLAN.txt|IN.plan   prints for people the bounds of each pair, th
                                    the first in the walk's order, not the likeliest;
                                    a long listing shows its progress where standard error is a
                                    terminal: the ends of the walk that are reached, of the cap
+planner listing PLAN.txt|IN.plan --at 'Tue 14:30'
+                                   prints the listing at a minute of the week: windows of planned work
+                                   that hold it take their nodes and links out, and beside each pair
+                                   stand its upper figures without the work; a share is of the time
+                                   while the work lasts, seconds are of a year in which it never ends;
+                                   no scenario that cuts a pair is shown, since only a run takes
+                                   windows, and the search for that scenario takes none
 planner bounds PLAN.txt|IN.plan    prints the bounds as the program listing does, line by line
 planner credit PLAN.txt|IN.plan NODE NODE FEE LIMIT RATE
                                    prints the service credit of a contract for two nodes, at least
@@ -31,10 +38,17 @@ The text form, a line for each thing, what is named standing above; # starts a c
   equipment NAME FIT HOURS LENGTH MEMBER..
                          an event with Q = FIT * HOURS * LENGTH, at most 10^9: failures in 10^9 hours,
                          hours to repair, and 1 for a box or kilometres for cable
+  window NAME START END MEMBER..
+                         planned work, every week: nodes and links are out from START on and before
+                         END; each is a day (Mon Tue Wed Thu Fri Sat Sun) and a time HH:MM from 00:00
+                         to 23:59, and an END may be at 24:00; START is before END: work over the end
+                         of the week is two windows, one up to Sun 24:00 and one from Mon 00:00
 In a text with equipment, events and equipment stand in any order. They are numbered by falling Q,
 equal ones in the order of their lines, and together they are at most 128.
+Only listing --at counts windows. A plan file and an equipment sheet have none: file and sheet leave
+them out. bounds and credit are without them. Each says so on standard error.
 
-This is a convenience outside the proof. The bounds, their seconds, the scenarios that cut a pair,
-credits and headroom, the plan files and the events of a sheet come from the proved code; nothing
-else that it reads or prints is proved.
+This is a convenience outside the proof. The bounds, with planned work and without, their seconds,
+the scenarios that cut a pair, credits and headroom, the plan files and the events of a sheet come
+from the proved code; nothing else that it reads or prints is proved.
 ";

@@ -8,6 +8,7 @@ use crate::named::Named;
 use crate::progress::{whole_walk, Progress};
 use crate::readings;
 use crate::table::{columns, fields, share, worst_first, FIELDS};
+use crate::windows::windows_are;
 
 /// The listing of a plan, with the bounds of the proved walk, which is gone on with in steps; or the refusal's number.
 pub fn listing(named: &Named, progress: &mut Progress) -> Result<String, u32> {
@@ -22,7 +23,10 @@ fn in_steps(named: &Named, progress: &mut Progress) -> Result<String, u32> {
     let bounds = walk.bounds();
     let witnesses = readings::witnesses(&lists, &bounds, progress);
     let outcome = walk.look();
-    let head = counts(named, &outcome) + &reading(&outcome);
+    let not_counted = windows_are(&named.windows).map(|windows| {
+        format!("{windows} not counted; --at 'Tue 14:30' lists with what is out at that minute of the week.\n")
+    });
+    let head = counts(named, &outcome) + &reading(&outcome) + &not_counted.unwrap_or_default();
     Ok(head + "\n" + &table(named, &bounds, &witnesses))
 }
 

@@ -6,10 +6,10 @@ use std::process::ExitCode;
 
 use account::sheet::layout;
 use conformance::proved;
-use planner::{
-    credit, listing, parse, parse_sheet, plan_reason, print, print_events, sheet_reason,
-};
-use planner::{Fault, Named, Progress, HELP};
+use planner::{credit, listing, listing_at, print, print_events};
+use planner::{minute_of, parse, parse_sheet, parse_windows};
+use planner::{plan_reason, sheet_reason, windows_are};
+use planner::{Fault, Named, NamedWindow, Progress, HELP};
 use plans::Lists;
 
 fn main() -> ExitCode {
@@ -19,13 +19,14 @@ fn main() -> ExitCode {
         ["--help" | "-h" | "help"] => Ok(HELP.to_string()),
         ["file", from, to] => write_file(from, to),
         ["text", from] => read_file(from).map(|named| text_of(from, &named)),
-        ["listing", from] => listing_of(from),
-        ["bounds", from] => {
-            read_any(from).map(|named| proved::plan_listing(&Lists::of(&named.plan)))
-        }
-        ["credit", from, first, second, fee, limit, rate] => {
-            read_any(from).and_then(|named| credit(&named, [first, second], [fee, limit, rate]))
-        }
+        ["listing", from] => listing_of(from, listing),
+        ["listing", from, "--at", ref time @ ..] => listing_at_time(from, &time.join(" ")),
+        ["bounds", from] => without_windows(from, |named| {
+            Ok(proved::plan_listing(&Lists::of(&named.plan)))
+        }),
+        ["credit", from, first, second, fee, limit, rate] => without_windows(from, |named| {
+            credit(named, [first, second], [fee, limit, rate])
+        }),
         ["sheet", from, to] => write_sheet(from, to),
         ["events", from] => events_of(from),
         _ => {
@@ -90,8 +91,39 @@ fn read_any(path: &str) -> Result<Named, String> {
     }
 }
 
-/// The listing of a plan; its progress goes to standard error where that is a terminal.
-fn listing_of(from: &str) -> Result<String, String> {
+/// What is printed for a plan and takes no windows.
+fn without_windows(
+    from: &str,
+    printed: impl Fn(&Named) -> Result<String, String>,
+) -> Result<String, String> {
+    let named = read_any(from)?;
+    let text = printed(&named)?;
+    tell_windows(
+        from,
+        &named.windows,
+        "not counted: only listing --at takes windows",
+    );
+    Ok(text)
+}
+
+/// Tells on standard error what becomes of the windows of a text, if it has any.
+fn tell_windows(from: &str, windows: &[NamedWindow], what: &str) {
+    if let Some(windows) = windows_are(windows) {
+        eprintln!("planner: {from}: {windows} {what}");
+    }
+}
+
+/// The listing of a plan at a time of the week.
+fn listing_at_time(from: &str, time: &str) -> Result<String, String> {
+    let minute = minute_of(time).map_err(|wrong| format!("--at: {wrong}"))?;
+    listing_of(from, |named, progress| listing_at(named, minute, progress))
+}
+
+/// A listing of a plan; its progress goes to standard error where that is a terminal.
+fn listing_of(
+    from: &str,
+    listing: impl Fn(&Named, &mut Progress) -> Result<String, u32>,
+) -> Result<String, String> {
     let named = read_any(from)?;
     let mut err = std::io::stderr();
     let mut progress = match err.is_terminal() {
@@ -107,7 +139,9 @@ fn write_file(from: &str, to: &str) -> Result<String, String> {
     let named = read_text(from, parse)?;
     let bytes = proved::write(&Lists::of(&named.plan))
         .map_err(|number| format!("{from}: refused {number}, {}", plan_reason(number)))?;
-    write_bytes(to, bytes)
+    let written = write_bytes(to, bytes)?;
+    tell_windows(from, &named.windows, "left out: a plan file has no windows");
+    Ok(written)
 }
 
 fn text_of(from: &str, named: &Named) -> String {
@@ -125,9 +159,13 @@ fn read_sheet(path: &str, bytes: &[u8]) -> Result<proved::SheetEvents, String> {
 
 /// Writes the equipment sheet of a text, if the proved reader takes it.
 fn write_sheet(from: &str, to: &str) -> Result<String, String> {
-    let bytes = layout(&read_text(from, parse_sheet)?);
+    let parse = |text: &str| Ok((parse_sheet(text)?, parse_windows(text)?));
+    let (sheet, windows) = read_text(from, parse)?;
+    let bytes = layout(&sheet);
     read_sheet(from, &bytes)?;
-    write_bytes(to, bytes)
+    let written = write_bytes(to, bytes)?;
+    tell_windows(from, &windows, "left out: a sheet has no windows");
+    Ok(written)
 }
 
 fn events_of(from: &str) -> Result<String, String> {

@@ -46,6 +46,11 @@ impl<'a> Progress<'a> {
         self.write(&format!("a scenario for pair {number} of {pairs}"));
     }
 
+    /// After the walk, the run with windows, which is no walk in steps.
+    pub fn work(&mut self) {
+        self.write("the run with planned work");
+    }
+
     /// Puts a text in place of the line. In the first step of a walk nothing is written: a short one has no other. A
     /// terminal that does not take the text is no fault of the listing.
     fn write(&mut self, text: &str) {

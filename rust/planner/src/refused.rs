@@ -15,6 +15,8 @@ pub fn plan_reason(number: u32) -> &'static str {
         10 => "a member has a wrong kind or number, or does not rise",
         11 => "bytes are left after the last event",
         19 => "the quota of 10000000 ends is used up",
+        21 => "a window breaks its range or names a missing element",
+        22 => "the minute is above 10079",
         _ => "see the table of refusals",
     }
 }

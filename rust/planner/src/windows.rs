@@ -23,6 +23,15 @@ impl NamedWindow {
     }
 }
 
+/// The windows of a text, counted in words, up to the verb; nothing for a text without.
+pub fn windows_are(windows: &[NamedWindow]) -> Option<String> {
+    match windows.len() {
+        0 => None,
+        1 => Some("1 window of planned work is".to_string()),
+        count => Some(format!("{count} windows of planned work are")),
+    }
+}
+
 /// What is expected of the two times of a window.
 const IN_ORDER: &str =
     "an end after the start, and two windows for work over the end of the week: \

@@ -1,7 +1,9 @@
 //! The progress of a listing: what is written while it is made, and that the listing is the same without it.
 
+use account::topology::Out;
+use account::windows::Window;
 use account::{Event, Plan, CERTAIN};
-use planner::{listing, plan_reason, Named, Progress};
+use planner::{listing, listing_at, plan_reason, Named, NamedWindow, Progress};
 
 /// Two nodes, a link, and events of one half, of which the last alone names the link: with n events there are 2^n
 /// scenarios of equal mass.
@@ -52,6 +54,29 @@ fn a_long_listing_shows_its_progress() {
         "",
     ];
     assert_eq!(shown, expected);
+}
+
+/// With a window the walk without it comes first, in steps, and then the run with it.
+#[test]
+fn a_long_listing_at_a_minute_shows_its_progress() {
+    let mut named = plan(15, 1_000_000);
+    let out = Out { nodes: 0, links: 1 };
+    let (start, end) = (0, 1);
+    named.windows.push(NamedWindow {
+        name: "dig".to_string(),
+        window: Window { start, end, out },
+    });
+    let mut line = Vec::new();
+    let text = listing_at(&named, 0, &mut Progress::on(&mut line)).expect("a listing");
+    let (whole, half) = ("1.000000000000000000", "0.500000000000000000");
+    let row = format!("n0 n1  {whole}  {whole}  31536000  31536000  {half} ");
+    assert!(text.contains(&row), "{text}");
+    assert_eq!(listing_at(&named, 0, &mut Progress::unseen()), Ok(text));
+    let line = String::from_utf8(line).expect("a text");
+    let run = format!("{:37}", "the run with planned work");
+    let last: Vec<&str> = line.rsplit('\r').collect();
+    assert_eq!(last[..3], ["", &" ".repeat(25), &run]);
+    assert_eq!(last[3], "32768 ends reached of at most 1000000");
 }
 
 /// The cap ends the walk in its second step.

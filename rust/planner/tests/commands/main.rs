@@ -2,6 +2,7 @@
 
 mod credit;
 mod sheets;
+mod windows;
 
 use std::path::{Path, PathBuf};
 use std::process::Command;
