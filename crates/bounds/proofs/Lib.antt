@@ -5,4 +5,5 @@ pub mod Root
 pub mod Zeros
 pub mod Answers
 pub mod Outcome
+pub mod PairOutcome
 pub mod Theorems

@@ -1,9 +1,9 @@
--- The answers of the run, of the run with windows and of one pair on lent lists, from what the walk of the arrays gave.
+-- The answers of the run and of the run with windows on lent lists, from what the walk of the arrays gave.
 -- Assumes nothing.
-use mathlib.Core.Path.{_≡_, refl, sym, ap, subst, _∙_}
+use mathlib.Core.Path.{_≡_, sym, ap, subst, _∙_}
 use mathlib.Core.List.{List, [], _∷_, map}
 use Prim.Native.Nat.{ℕ, _+_, _-_, _/_, _≤_}
-use lib.ListN.{length, getD, take}
+use lib.ListN.{length, take}
 use lib.Seq.{sets}
 use Rattle.mass.specs.Refusal.{first}
 use Rattle.mass.proofs.RefusalLaws.{first-none}
@@ -17,24 +17,18 @@ use Rattle.plan.specs.Calls.{filled}
 use Rattle.plan.specs.declared.Header.{Header}
 use Rattle.plan.proofs.FilledLaws.{filled-none}
 use Rattle.lent.specs.Taken.{Taken}
-use Rattle.network.specs.Outage.{Outage, intact}
+use Rattle.network.specs.Outage.{Outage}
 use Rattle.walk.specs.Walk.{massExamined, count}
 use Rattle.pairs.specs.BoundsFit.{BoundsFit}
-use Rattle.pairs.specs.Pairs.{pairCount, pairTest, place}
-use Rattle.pairs.proofs.PairLaws.{pairs-most}
+use Rattle.pairs.specs.Pairs.{pairCount}
 use Rattle.windows.specs.Windows.{workRefusal}
-use Rattle.bounds.specs.Bounds.{lowerList, upperList, Encloses, EnclosesAll}
-use Rattle.bounds.specs.Calls.{runRefusal, runNumber, runAtNumber, ranAnswer, totalsOf, totalsIn, pairRefusal, pairNumber, pairAnswer}
-use Rattle.bounds.specs.Calls.{boundsOf, boundsIn}
+use Rattle.bounds.specs.Bounds.{lowerList, upperList, EnclosesAll}
+use Rattle.bounds.specs.Calls.{runRefusal, runNumber, runAtNumber, ranAnswer, totalsOf, totalsIn}
 use Rattle.bounds.specs.Summed.{Summed}
 use Rattle.bounds.specs.declared.Totals.{Totals}
 use Rattle.bounds.specs.declared.Ran.{Ran}
 use Rattle.bounds.specs.declared.Ran.the-variants as ran
-use Rattle.bounds.specs.declared.PairBounds.{PairBounds}
-use Rattle.bounds.specs.declared.Paired.{Paired}
-use Rattle.bounds.specs.declared.Paired.the-variants as paired
-use Rattle.bounds.proofs.Answers.{ran-refuses, pair-refuses, pair-inside, giving, pair-bounds, lower-laid, upper-laid, all-enclosed}
-use Rattle.bounds.proofs.Answers.{enclosed}
+use Rattle.bounds.proofs.Answers.{ran-refuses, giving, lower-laid, upper-laid, all-enclosed}
 
 -- ---- the numbers
 
@@ -126,7 +120,7 @@ module _ (out : Outage) (number : ℕ) (h : Header) (links events lower upper : 
 module _ (out : Outage) (h : Header) (links words : List ℕ) (valid : planRefusal (planOfLists h links words) ≡ 0) (few : h .nodes ≤ 64)
     (totals : Totals) (sums : List ℕ) (is : totals ≡ totalsOf (planOfLists h links words))
     (s : Summed out (planOfLists h links words) (h .nodes) sums) (lower upper : List ℕ) where
-  mass-of : totals .mass ≡ massExamined (planOfLists h links words)
+  pub mass-of : totals .mass ≡ massExamined (planOfLists h links words)
   mass-of = ap (λ (x : Totals). x .mass) is
 
   pub may-give : (pairCount (h .nodes) ≤ length lower) × (pairCount (h .nodes) ≤ length upper)
@@ -146,64 +140,3 @@ module _ (out : Outage) (h : Header) (links words : List ℕ) (valid : planRefus
 -- accepted lists, taken into arrays, make a plan that meets no refusal there too
 pub arrays-valid : (h : Header) (links events bytes words : List ℕ) → Taken h links events bytes words → planRefusal (planOfLists h bytes words) ≡ 0
 arrays-valid h links events bytes words t = subst (λ (q : Plan). planRefusal q ≡ 0) (sym (t .denoted)) (t .valid)
-
--- ---- one pair
-
--- the walk of the arrays that accepted lists were taken into gave the totals and the sums of the lists' plan
-module _ (h : Header) (links events bytes words : List ℕ) (t : Taken h links events bytes words) (totals : Totals) (sums : List ℕ)
-    (is : totals ≡ totalsOf (planOfLists h bytes words)) (s : Summed intact (planOfLists h bytes words) (h .nodes) sums) where
-  mass-is : totals .mass ≡ massExamined (planOfLists h links events)
-  mass-is = ap (λ (x : Totals). x .mass) (is ∙ ap totalsOf (t .denoted))
-
-  summed : Summed intact (planOfLists h links events) (h .nodes) sums
-  summed = subst (λ (q : Plan). Summed intact q (h .nodes) sums) (t .denoted) s
-
-  pub may-give-own : BoundsFit (h .nodes) (totals .mass) sums sums sums
-  may-give-own =
-      let few = t .held .links-held .nodes-fit in
-      let most : pairCount (h .nodes) ≤ length sums = rw (s .sized) (pairs-most (h .nodes) few) in
-      giving intact (planOfLists h links events) (t .valid) (h .nodes) (totals .mass) sums sums sums summed mass-is few most most
-
-module _ (h : Header) (links events : List ℕ) (v w : ℕ) where
-  abbrev plan : Plan
-  plan = planOfLists h links events
-
-  abbrev pairRefused : ℕ
-  pairRefused = pairNumber h links events v w
-
-  abbrev pub PairPromised : Paired → Type 0
-  PairPromised r =
-      (r ≡ pairAnswer pairRefused (boundsOf intact plan v w))
-      × (pairRefused ≡ 0 → Encloses intact plan v w (boundsIn r .lower) (boundsIn r .upper) (count plan))
-
-  not-paired : (n : ℕ) → n ≡ pairRefused → (n ≡ 0 → ⊥) → PairPromised (paired.Refused n)
-  not-paired n e some = (pair-refuses n pairRefused (boundsOf intact plan v w) e some, λ z. absurd (some (e ∙ z)))
-
-  pub lists-refuse-pair : (n : ℕ) → n ≡ listsNumber h links events → (n ≡ 0 → ⊥) → PairPromised (paired.Refused n)
-  unfolding pairRefusal
-  lists-refuse-pair n e some = not-paired n (stop _ e some) some
-
-  pub pair-wrong : (lists n : ℕ) → lists ≡ listsNumber h links events → lists ≡ 0 → n ≡ pairTest (h .nodes) v w → (n ≡ 0 → ⊥)
-      → PairPromised (paired.Refused n)
-  unfolding pairRefusal
-  pair-wrong lists n e z f some = not-paired n (skip _ e z (stop _ f some)) some
-
-  module _ (bytes words : List ℕ) (t : Taken h links events bytes words) (totals : Totals) (sums : List ℕ)
-      (is : totals ≡ totalsOf (planOfLists h bytes words)) (s : Summed intact (planOfLists h bytes words) (h .nodes) sums)
-      (accepted : listsNumber h links events ≡ 0) (right : pairTest (h .nodes) v w ≡ 0) (r : PairBounds)
-      (at : (r .lower ≡ getD sums (place (h .nodes) v w) 0) × (r .upper ≡ (whole - totals .mass) + getD sums (place (h .nodes) v w) 0)) where
-    pair-zero : pairRefused ≡ 0
-    unfolding pairRefusal
-    pair-zero = sym (skip _ refl accepted (last (sym right)))
-
-    bounds-are : r ≡ boundsOf intact plan v w
-    bounds-are =
-        let i = pair-inside (h .nodes) v w right in
-        pair-bounds intact plan (t .valid) (h .nodes) (totals .mass) sums r (summed h links events bytes words t totals sums is s)
-        (mass-is h links events bytes words t totals sums is s) v w (i .0) (i .1) at
-
-    pub pair-done : PairPromised (paired.Done r)
-    pair-done = (
-      rw pair-zero (ap paired.Done bounds-are),
-      λ z. subst (λ (b : PairBounds). Encloses intact plan v w (b .lower) (b .upper) (count plan)) (sym bounds-are) (enclosed intact plan (t .valid) v w),
-    )

@@ -6,7 +6,7 @@ use Rattle.lent.specs.Taken.{Taken}
 use Rattle.plan.specs.LentLists.{listsNumber}
 use Rattle.bounds.proofs.Zeros.{cleared}
 use Rattle.bounds.proofs.Answers.{pair-inside}
-use Rattle.bounds.proofs.Outcome.{lists-refuse-pair, pair-wrong, may-give-own, pair-done}
+use Rattle.bounds.proofs.PairOutcome.{lists-refuse-pair, pair-wrong, may-give-own, pair-done}
 use borrow.Author.Needs.{needs}
 use Rattle.bounds.proofs.one_pair.pair.Statement.{statement}
 use Rattle.bounds.proofs.one_pair.pair.Tie as tie
