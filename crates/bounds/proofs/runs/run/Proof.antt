@@ -1,5 +1,5 @@
 -- `bounds::runs::run` meets its contract: at each `return` the tests that led there decide the answer. Assumes nothing.
-use mathlib.Core.Path.{_≡_, sym, _∙_}
+use mathlib.Core.Path.{sym, _∙_}
 use borrow.Author.Needs.{needs}
 use Rattle.network.specs.Outage.{intact}
 use Rattle.bounds.specs.Calls.{runNumber}

@@ -1,5 +1,5 @@
 -- `bounds::runs::run_at` meets its contract: at each `return` the tests that led there decide the answer. Assumes nothing.
-use mathlib.Core.Path.{_≡_, sym, ap, _∙_}
+use mathlib.Core.Path.{sym, _∙_}
 use borrow.Author.Needs.{needs}
 use Rattle.windows.specs.Windows.{takenOut}
 use Rattle.bounds.specs.Calls.{runAtNumber}
