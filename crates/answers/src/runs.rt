@@ -1,14 +1,24 @@
-// The run with windows, with its answer as numbers.
+// The check of a file, the run with windows and the bounds of a pair, with their answers as numbers.
+use crate::calls::give_bounds;
 use crate::calls::give_totals;
 use plan::Header;
 ghost use mathlib.Core.Path.{_≡_};
+ghost use Rattle.plan.specs.File.{refusal};
 ghost use Rattle.plan.specs.LentLists.{planOfLists};
 ghost use Rattle.plan.specs.Calls.{filled};
+ghost use Rattle.network.specs.Outage.{intact};
 ghost use Rattle.windows.specs.Windows.{takenOut};
 ghost use Rattle.bounds.specs.Bounds.{lowerList, upperList};
-ghost use Rattle.bounds.specs.Calls.{totalsOf, ranAnswer, runAtNumber};
+ghost use Rattle.bounds.specs.Calls.{totalsOf, ranAnswer, runAtNumber, boundsOf, pairAnswer, pairNumber};
 ghost use Rattle.answers.specs.Laid.{laid};
-ghost use Rattle.answers.specs.Answers.{totalsValues};
+ghost use Rattle.answers.specs.Answers.{totalsValues, boundsValues};
+
+// Checks a plan file.
+pub fn check(plan: &[u8]) -> u32
+    ensures { λ r. ⌜ r ≡ refusal (now (plan .entry)) ⌝ }
+{
+    plan::check(plan)
+}
 
 // Runs with windows at a minute, and lays down the examined count, complete and E.
 pub fn run_at(
@@ -37,4 +47,14 @@ pub fn run_at(
         bounds::run_at(h, links, events, windows, minute, lower, upper),
         result,
     )
+}
+
+// Gives the bounds of a pair, and lays down the lower and the upper one.
+pub fn pair(h: Header, links: &[u8], events: &[u64], v: u64, w: u64, result: &mut [u64]) -> u32
+    ensures number { λ r. ⌜ r ≡ pairNumber h (now (links .entry)) (now (events .entry)) v w ⌝ }
+    ensures result { λ r. ⌜ now (result .exit) ≡ laid
+        (boundsValues (pairAnswer r (boundsOf intact (planOfLists h (now (links .entry)) (now (events .entry))) v w)))
+        (now (result .entry)) ⌝ }
+{
+    give_bounds(bounds::pair(h, links, events, v, w), result)
 }

@@ -1,2 +1,2 @@
 -- Laws that the proofs of the crate `further_answers` share.
-pub mod Words
+pub mod NumberLaws

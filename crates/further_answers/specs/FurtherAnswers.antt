@@ -1,14 +1,9 @@
 -- The number and the values that an export of a further reading hands out for each case of an answer. The number is that of the refusal,
 -- or 0; the values are all 0 where the answer is a refusal.
 -- Assumes nothing.
-use mathlib.Core.Path.{_≡_, refl}
 use mathlib.Core.List.{List, [], _∷_}
-use Prim.Native.Nat.{ℕ, suc, _-_, _^_}
+use Prim.Native.Nat.{ℕ}
 use lib.Ieee.{binary64, toBits}
-use lib.IntN.{ℤ, pos, negsuc}
-use Rattle.credits.specs.Credit.{creditsIn}
-use Rattle.credits.specs.declared.Credited.{Credited}
-use Rattle.credits.specs.declared.Credited.the-variants as credited
 use Rattle.readings.specs.Witness.{failingIn}
 use Rattle.readings.specs.Downtime.{secondsIn}
 use Rattle.readings.specs.declared.Figured.{Figured}
@@ -19,8 +14,6 @@ use Rattle.readings.specs.declared.Timed.{Timed}
 use Rattle.readings.specs.declared.Timed.the-variants as timed
 use Rattle.topology_list.specs.declared.Listed.{Listed}
 use Rattle.topology_list.specs.declared.Listed.the-variants as listed
-use Rattle.sheets.specs.SheetCalls.{countsIn}
-use Rattle.sheets.specs.declared.SheetReading.{SheetReading}
 
 -- ---- a topology list: how many entries it has
 
@@ -53,11 +46,6 @@ timedNumber (timed.Given seconds) = 0
 abbrev pub secondsValues : Timed → List ℕ
 secondsValues answer = secondsIn answer .lower ∷ secondsIn answer .upper ∷ []
 
--- ---- a sheet: its counts of nodes, links and lines
-
-abbrev pub countsValues : SheetReading → List ℕ
-countsValues answer = countsIn answer .nodes ∷ countsIn answer .links ∷ countsIn answer .lines ∷ []
-
 -- ---- a witness: the two words of its set of failing events
 
 abbrev pub witnessedNumber : Witnessed → ℕ
@@ -66,21 +54,3 @@ witnessedNumber (witnessed.Found set) = 0
 
 abbrev pub failingValues : Witnessed → List ℕ
 failingValues answer = failingIn answer .low ∷ failingIn answer .high ∷ []
-
--- ---- a credit: the lower and the upper credit, and the headroom as a word, "2^64 + headroom where it is negative"
-
-abbrev pub creditedNumber : Credited → ℕ
-creditedNumber (credited.Refused number) = number
-creditedNumber (credited.Given credits) = 0
-
--- `negsuc n` is −(n + 1)
-abbrev pub wordOf : ℤ → ℕ
-wordOf (pos n) = n
-wordOf (negsuc n) = 2 ^ 64 - suc n
-
-abbrev pub creditsValues : Credited → List ℕ
-creditsValues answer = creditsIn answer .lower ∷ creditsIn answer .upper ∷ wordOf (creditsIn answer .headroom) ∷ []
-
--- example: the words of 0, −1 and −31,536,000
-example-word : (wordOf (pos 0) ≡ 0) × (wordOf (negsuc 0) ≡ 18446744073709551615) × (wordOf (negsuc 31535999) ≡ 18446744073678015616)
-example-word = (refl, refl, refl)

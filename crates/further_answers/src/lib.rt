@@ -1,15 +1,14 @@
-// The answers of the further readings as numbers, for the exports of crate `probe`, as crate `answers` has those of the other calls: the
-// number of the refusal, or 0, is returned, and the values are laid down in a lent list, as far as it has room.
+// The answers of the topology list, the figure, the witness and the downtime as numbers, for the exports of crate `probe`, as crate
+// `answers` has those of the other calls: the number of the refusal, or 0, is returned, and the values are laid down in a lent list, as far
+// as it has room. The downtime, which needs no plan, is called here too.
 // Assumes nothing.
 use answers::give_three;
 use answers::give_two;
 use answers::put;
-use credits::Credited;
 use readings::Figured;
 use readings::Shares;
 use readings::Timed;
 use readings::Witnessed;
-use sheets::SheetReading;
 use topology_list::Listed;
 ghost use mathlib.Core.Bool.{not};
 ghost use mathlib.Core.List.{[], _∷_};
@@ -17,11 +16,10 @@ ghost use mathlib.Core.Path.{_≡_};
 ghost use lib.Dec.{T};
 ghost use lib.Ieee.{binary64, isNan, toBits};
 ghost use Rattle.readings.specs.Figure.{floatsIn, Numbers};
-ghost use Rattle.sheets.specs.SheetCalls.{sheetNumber};
+ghost use Rattle.readings.specs.Downtime.{downtimeAnswer, downtimeRefusal, secondsOf};
 ghost use Rattle.answers.specs.Laid.{laid};
 ghost use Rattle.further_answers.specs.FurtherAnswers.{listedNumber, entriesValues, figuredNumber, figureValues};
-ghost use Rattle.further_answers.specs.FurtherAnswers.{wordOf, creditedNumber, creditsValues};
-ghost use Rattle.further_answers.specs.FurtherAnswers.{timedNumber, secondsValues, witnessedNumber, failingValues, countsValues};
+ghost use Rattle.further_answers.specs.FurtherAnswers.{timedNumber, secondsValues, witnessedNumber, failingValues};
 
 // How many entries the topology list has.
 pub fn give_entries(answer: Listed, result: &mut [u64]) -> u32
@@ -74,7 +72,7 @@ pub fn give_figure(answer: Figured, bits: &mut [u64]) -> u32
 }
 
 // The seconds of the lower and the upper mass.
-pub fn give_seconds(answer: Timed, result: &mut [u64]) -> u32
+fn give_seconds(answer: Timed, result: &mut [u64]) -> u32
     ensures number { λ r. ⌜ r ≡ timedNumber answer ⌝ }
     ensures result { λ r. ⌜ now (result .exit) ≡ laid (secondsValues answer) (now (result .entry)) ⌝ }
 {
@@ -90,32 +88,13 @@ pub fn give_seconds(answer: Timed, result: &mut [u64]) -> u32
     }
 }
 
-// A signed number as an unsigned one: 2^64 is added where it is negative, so that −(k + 1) is k less than 2^64 − 1.
-fn word_of(n: i64) -> u64
-    ensures { λ r. ⌜ r ≡ wordOf n ⌝ }
+// The downtime of a lower and an upper mass: lays down the seconds of both.
+pub fn downtime(lower: u64, upper: u64, result: &mut [u64]) -> u32
+    ensures number { λ r. ⌜ r ≡ downtimeRefusal lower upper ⌝ }
+    ensures result { λ r. ⌜ now (result .exit) ≡ laid
+        (secondsValues (downtimeAnswer r (secondsOf lower upper))) (now (result .entry)) ⌝ }
 {
-    if n >= 0 {
-        return n as u64;
-    }
-    18_446_744_073_709_551_615 - ((0 - (n + 1)) as u64)
-}
-
-// The lower and the upper credit, and the headroom.
-pub fn give_credits(answer: Credited, result: &mut [u64]) -> u32
-    ensures number { λ r. ⌜ r ≡ creditedNumber answer ⌝ }
-    ensures result { λ r. ⌜ now (result .exit) ≡ laid (creditsValues answer) (now (result .entry)) ⌝ }
-{
-    match answer {
-        Credited::Refused(number) => {
-            give_three(result, 0, 0, 0);
-            number
-        }
-        Credited::Given(credits) => {
-            let headroom = word_of(credits.headroom);
-            give_three(result, credits.lower, credits.upper, headroom);
-            0
-        }
-    }
+    give_seconds(readings::downtime(lower, upper), result)
 }
 
 // The two words of the set of failing events.
@@ -133,14 +112,4 @@ pub fn give_failing(answer: Witnessed, result: &mut [u64]) -> u32
             0
         }
     }
-}
-
-// The counts of a sheet: nodes, links and lines.
-pub fn give_counts(answer: SheetReading, counts: &mut [u64]) -> u32
-    ensures number { λ r. ⌜ r ≡ sheetNumber answer ⌝ }
-    ensures counts { λ r. ⌜ now (counts .exit) ≡ laid (countsValues answer) (now (counts .entry)) ⌝ }
-{
-    let c = sheets::counts_in(answer);
-    give_three(counts, c.nodes, c.links, c.lines);
-    sheets::number_in(answer)
 }

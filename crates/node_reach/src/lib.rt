@@ -37,7 +37,7 @@ fn node_test(nodes: u64, v: u64) -> u32
 }
 
 // The set that node v reaches and the number of rounds, laid down in a lent list as far as it has room: 0, 0 where the call refuses.
-pub fn give_reach(
+fn give_reach(
     nodes: u64,
     count: u64,
     links: &[u8],
@@ -66,4 +66,27 @@ pub fn give_reach(
     let found = topology::reach_from(n, failed, &bytes, k, &table, v as usize);
     give_two(result, found.set, found.rounds);
     0
+}
+
+// The same with what has failed as three words: a set of nodes, and a set of links in two.
+pub fn reach(
+    nodes: u64,
+    count: u64,
+    links: &[u8],
+    failed_nodes: u64,
+    failed_low: u64,
+    failed_high: u64,
+    v: u64,
+    result: &mut [u64],
+) -> u32
+    ensures number { λ r. ⌜ r ≡ reachNumber nodes count (now (links .entry)) v ⌝ }
+    ensures result { λ r. ⌜ now (result .exit) ≡ laid (reachValues r (reachIn nodes count (now (links .entry))
+        (record { nodes = «failed_nodes»; low = «failed_low»; high = «failed_high» }) v)) (now (result .entry)) ⌝ }
+{
+    let failed = Failed {
+        nodes: failed_nodes,
+        low: failed_low,
+        high: failed_high,
+    };
+    give_reach(nodes, count, links, failed, v, result)
 }

@@ -4,13 +4,13 @@ ghost use Rattle.plan.specs.Calls.{filled};
 ghost use Rattle.sheets.specs.SheetFile.{sheetRefusal};
 ghost use Rattle.sheets.specs.SheetCalls.{countsOf, readSheetNumber, readSheetAnswer, sheetWords};
 ghost use Rattle.answers.specs.Laid.{laid};
-ghost use Rattle.further_answers.specs.FurtherAnswers.{countsValues};
+ghost use Rattle.sheet_answers.specs.SheetAnswers.{countsValues};
 
 #[no_mangle]
 pub extern "C" fn probe_check_sheet(sheet: &[u8]) -> u32
     ensures { λ r. ⌜ r ≡ sheetRefusal (now (sheet .entry)) ⌝ }
 {
-    sheets::check(sheet)
+    sheet_answers::check(sheet)
 }
 
 #[no_mangle]
@@ -20,7 +20,7 @@ pub extern "C" fn probe_sheet(sheet: &[u8], events: &mut [u64], counts: &mut [u6
     ensures counts { λ r. ⌜ now (counts .exit) ≡ laid
         (countsValues (readSheetAnswer r (countsOf (now (sheet .entry))))) (now (counts .entry)) ⌝ }
 {
-    further_answers::give_counts(sheets::read(sheet, events), counts)
+    sheet_answers::read(sheet, events, counts)
 }
 
 #[no_mangle]
@@ -30,5 +30,5 @@ pub extern "C" fn probe_sheet_records(sheet: &[u8], events: &mut [u64], counts: 
     ensures counts { λ r. ⌜ now (counts .exit) ≡ laid
         (countsValues (readSheetAnswer r (countsOf (now (sheet .entry))))) (now (counts .entry)) ⌝ }
 {
-    further_answers::give_counts(sheet_records::read_by_records(sheet, events), counts)
+    sheet_answers::read_by_records(sheet, events, counts)
 }

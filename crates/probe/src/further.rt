@@ -10,7 +10,8 @@ ghost use Rattle.readings.specs.Downtime.{downtimeAnswer, downtimeRefusal, seco
 ghost use Rattle.credits.specs.Credit.{creditNumber, creditOf};
 ghost use Rattle.answers.specs.Laid.{laid};
 ghost use Rattle.answers.specs.Answers.{headerWith};
-ghost use Rattle.further_answers.specs.FurtherAnswers.{figureValues, secondsValues, failingValues, creditsValues};
+ghost use Rattle.further_answers.specs.FurtherAnswers.{figureValues, secondsValues, failingValues};
+ghost use Rattle.credit_answers.specs.CreditAnswers.{creditsValues};
 
 #[no_mangle]
 pub extern "C" fn probe_figure(
@@ -64,7 +65,7 @@ pub extern "C" fn probe_downtime(lower: u64, upper: u64, result: &mut [u64]) -> 
     ensures result { λ r. ⌜ now (result .exit) ≡ laid
         (secondsValues (downtimeAnswer r (secondsOf lower upper))) (now (result .entry)) ⌝ }
 {
-    further_answers::give_seconds(readings::downtime(lower, upper), result)
+    further_answers::downtime(lower, upper, result)
 }
 
 #[no_mangle]
@@ -90,8 +91,5 @@ pub extern "C" fn probe_credit(
         fee «limit_seconds» rate)) (now (result .entry)) ⌝ }
 {
     let h = header(nodes, links_count, events_count, threshold, limit);
-    further_answers::give_credits(
-        credits::credit(h, links, events, v, w, fee, limit_seconds, rate),
-        result,
-    )
+    credit_answers::credit(h, links, events, v, w, fee, limit_seconds, rate, result)
 }

@@ -1,5 +1,4 @@
 // What a node reaches, and in how many rounds, for the tests in Rust.
-use network::Failed;
 ghost use mathlib.Core.Path.{_≡_};
 ghost use Rattle.answers.specs.Laid.{laid};
 ghost use Rattle.node_reach.specs.NodeReach.{reachNumber, reachIn, reachValues};
@@ -19,10 +18,14 @@ pub extern "C" fn probe_reach(
     ensures result { λ r. ⌜ now (result .exit) ≡ laid (reachValues r (reachIn nodes «links_count» (now (links .entry))
         (record { nodes = «failed_nodes»; low = «failed_low»; high = «failed_high» }) v)) (now (result .entry)) ⌝ }
 {
-    let failed = Failed {
-        nodes: failed_nodes,
-        low: failed_low,
-        high: failed_high,
-    };
-    node_reach::give_reach(nodes, links_count, links, failed, v, result)
+    node_reach::reach(
+        nodes,
+        links_count,
+        links,
+        failed_nodes,
+        failed_low,
+        failed_high,
+        v,
+        result,
+    )
 }

@@ -1,0 +1,3 @@
+-- Laws that the proofs of the crate `credit_answers` share.
+pub mod NumberLaws
+pub mod Words

@@ -1,0 +1,26 @@
+-- `further_answers::downtime` meets its contract: the answer of the call is handed out. Assumes nothing.
+use mathlib.Core.Path.{refl}
+use Rattle.further_answers.proofs.NumberLaws.{downtime-back}
+use borrow.Author.Needs.{needs}
+use Rattle.further_answers.proofs.downtime.Statement.{statement}
+use Rattle.further_answers.proofs.downtime.Tie as tie
+
+downtime-requires : tie.Need-downtime-requires
+downtime-requires c κs = search needs
+
+give-seconds-requires : tie.Need-give-seconds-requires
+give-seconds-requires c κs = search needs
+
+same-length : tie.Need-same-length
+same-length c = search needs
+
+returns : tie.Need-returns
+returns c =
+    let f = c .before .before .give-seconds .ensures in
+    let e = c .before .before .before .before .downtime .ensures .0 in
+    let n = rw (e, downtime-back) at (f .0) in
+    rw n (refl, rw e at (f .1))
+
+pub downtime-spec : {M : Type 1} → statement M
+downtime-spec =
+    tie.close (tie.spec downtime-requires give-seconds-requires same-length returns)

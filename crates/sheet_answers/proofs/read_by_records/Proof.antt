@@ -1,0 +1,30 @@
+-- `sheet_answers::read_by_records` meets its contract: the answer of the call is handed out. Assumes nothing.
+use mathlib.Core.Path.{refl}
+use Rattle.sheet_answers.proofs.NumberLaws.{sheet-back}
+use borrow.Author.Needs.{needs}
+use Rattle.sheet_answers.proofs.read_by_records.Statement.{statement}
+use Rattle.sheet_answers.proofs.read_by_records.Tie as tie
+
+read-by-records-requires : tie.Need-read-by-records-requires
+read-by-records-requires c κs = search needs
+
+give-counts-requires : tie.Need-give-counts-requires
+give-counts-requires c κs = search needs
+
+same-length : tie.Need-same-length
+same-length c = search needs
+
+same-length-2 : tie.Need-same-length-2
+same-length-2 c = search needs
+
+returns : tie.Need-returns
+returns c =
+    let f = c .before .before .give-counts .ensures in
+    let k = c .before .before .before .before .before .before in
+    let e = k .read-by-records .ensures .0 in
+    let n = rw (e, sheet-back) at (f .0) in
+    rw n (refl, (k .read-by-records .ensures .1, rw e at (f .1)))
+
+pub read-by-records-spec : {M : Type 1} → statement M
+read-by-records-spec =
+    tie.close (tie.spec read-by-records-requires give-counts-requires same-length same-length-2 returns)
