@@ -1,19 +1,9 @@
-// The test program of the room that the reader asks for: document 01, "Refused", 12 and its place. Lists hold a pattern, byte 170 and word
-// 77, before the call. Each expected value stands beside its vector, taken from document 01 or worked out by hand; a difference is printed,
-// and `trials ended` is the last line. The stored output is that line alone.
+// The room that the reader asks for: document 01, "Refused", 12 and its place.
 use vectors::BYTE;
 use vectors::WORD;
 use vectors::all_bytes;
 use vectors::all_words;
 use vectors::refused;
-
-fn main() {
-    short_links();
-    short_events();
-    exact_lists();
-    byte_too_many();
-    io::write_all(1, b"trials ended\n");
-}
 
 // The triangle with lists that it is held to: 6 bytes and 12 words are due.
 fn into(label: &[u8], links: &mut [u8], events: &mut [u64], want: u64) {
@@ -26,7 +16,7 @@ fn into(label: &[u8], links: &mut [u8], events: &mut [u64], want: u64) {
 }
 
 // 5 bytes for 3 links, which take 6.
-fn short_links() {
+pub fn short_links() {
     let mut links = [BYTE; 5];
     let mut events = [WORD; 12];
     into(
@@ -40,7 +30,7 @@ fn short_links() {
 }
 
 // 11 words for 3 events, which take 12.
-fn short_events() {
+pub fn short_events() {
     let mut links = [BYTE; 6];
     let mut events = [WORD; 11];
     into(
@@ -53,14 +43,14 @@ fn short_events() {
     all_words(b"read: 11 words for 3 events", &events, WORD);
 }
 
-fn exact_lists() {
+pub fn exact_lists() {
     let mut links = [BYTE; 6];
     let mut events = [WORD; 12];
     into(b"read into exact lists", &mut links, &mut events, 0);
 }
 
 // A byte after the last link, and one byte for the link, which takes two.
-fn byte_too_many() {
+pub fn byte_too_many() {
     let mut links = [BYTE; 1];
     let mut events = [WORD; 11];
     let answer = files::read(

@@ -1,17 +1,9 @@
-// The test program of what the reader refuses: document 01, "Plan file" and "Refused". Lists hold a pattern, byte 170 and word 77, before
-// the call. Each expected value stands beside its vector, taken from document 01 or worked out by hand; a difference is printed, and
-// `trials ended` is the last line. The stored output is that line alone.
+// What the reader refuses: document 01, "Plan file" and "Refused".
 use vectors::BYTE;
 use vectors::WORD;
 use vectors::all_bytes;
 use vectors::all_words;
 use vectors::refused;
-
-fn main() {
-    refused_headers();
-    refused_entries();
-    io::write_all(1, b"trials ended\n");
-}
 
 // A file that is refused with lists that have room for every plan: they are left as they were.
 fn kept(label: &[u8], file: &[u8], want: u64) {
@@ -22,7 +14,7 @@ fn kept(label: &[u8], file: &[u8], want: u64) {
     all_words(label, &events, WORD);
 }
 
-fn refused_headers() {
+pub fn refused_headers() {
     kept(b"read nothing", b"", 1);
     kept(
         b"read a wrong mark",
@@ -52,7 +44,7 @@ fn refused_headers() {
 }
 
 // Each of these has a first link, 0-1, and a first event that are right.
-fn refused_entries() {
+pub fn refused_entries() {
     kept(
         b"read two links, cut off in the second",
         b"RSG\x01\x00\x02\x02\x00\x01\x00\x00\x00\x00\x00\x00\x00\x64\x00\x00\x00\x00\x01\x00",
