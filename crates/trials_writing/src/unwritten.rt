@@ -1,6 +1,4 @@
-// The test program of what the writer refuses: document 01, "Refused". The output holds a pattern, byte 170, and is left as it was. Each
-// expected value stands beside its vector, taken from document 01 or worked out by hand; a difference is printed, and `trials ended` is
-// the last line. The stored output is that line alone.
+// What the writer refuses: document 01, "Refused". The output is left as it was.
 use plan::Header;
 use plan::Writing;
 use vectors::BYTE;
@@ -9,19 +7,6 @@ use vectors::header;
 use vectors::large_events;
 use vectors::many_links;
 use vectors::same;
-
-fn main() {
-    counts();
-    threshold_and_cap();
-    short_lists();
-    short_output();
-    short_large_output();
-    no_output();
-    ends();
-    probabilities();
-    sets();
-    io::write_all(1, b"trials ended\n");
-}
 
 // Holds the answer of a writing to the number of a refusal, and the output to the pattern.
 fn refused_into(label: &[u8], h: Header, links: &[u8], events: &[u64], out: &mut [u8], want: u64) {
@@ -50,7 +35,7 @@ fn numbers(label: &[u8], nodes: u64, links: u64, events: u64, threshold: u64, ca
     refused(label, h, bytes, &words, want);
 }
 
-fn counts() {
+pub fn counts() {
     numbers(b"write no node", 0, 3, 3, 1, 100, 4);
     numbers(b"write 65 nodes", 65, 3, 3, 1, 100, 4);
     numbers(b"write 256 + 3 nodes", 259, 3, 3, 1, 100, 4);
@@ -69,7 +54,7 @@ fn counts() {
     numbers(b"write: 4 before 5", 0, 3, 3, 0, 100, 4);
 }
 
-fn threshold_and_cap() {
+pub fn threshold_and_cap() {
     numbers(b"write threshold 0", 3, 3, 3, 0, 100, 5);
     numbers(
         b"write threshold 10^18 + 1",
@@ -88,7 +73,7 @@ fn threshold_and_cap() {
 }
 
 // 12 for a list: 3 links take 6 bytes and 3 events 12 words.
-fn short_lists() {
+pub fn short_lists() {
     let h = header(3, 3, 3, 1, 100);
     let links = b"\x00\x01\x00\x02\x01\x02";
     let events = [1, 0, 1, 0, 1, 0, 2, 0, 1, 0, 4, 0];
@@ -123,7 +108,7 @@ fn short_lists() {
 }
 
 // 12 for the output, which is one byte short: the triangle takes 47 bytes.
-fn short_output() {
+pub fn short_output() {
     let mut out = [BYTE; 46];
     refused_into(
         b"write the triangle into 46 bytes",
@@ -136,7 +121,7 @@ fn short_output() {
 }
 
 // The large plan takes 302 bytes.
-fn short_large_output() {
+pub fn short_large_output() {
     let mut out = [BYTE; 301];
     refused_into(
         b"write the large plan into 301 bytes",
@@ -149,7 +134,7 @@ fn short_large_output() {
 }
 
 // The third event names link 3 of 3.
-fn no_output() {
+pub fn no_output() {
     let mut out = [BYTE; 0];
     refused_into(
         b"write: 10 before 12 for the output",
@@ -168,7 +153,7 @@ fn last_link(label: &[u8], a: u8, b: u8, q: u64) {
     refused(label, header(3, 3, 1, 1, 100), &links, &events, 7);
 }
 
-fn ends() {
+pub fn ends() {
     last_link(b"write a link to N", 1, 3, 1);
     last_link(b"write a link from a node to itself", 2, 2, 1);
     last_link(b"write a link with the larger end first", 2, 1, 1);
@@ -186,7 +171,7 @@ fn second(label: &[u8], q: u64, nodes: u64, low: u64, high: u64, want: u64) {
     );
 }
 
-fn probabilities() {
+pub fn probabilities() {
     second(b"write q = 10^9 + 1", 1_000_000_001, 0, 0, 0, 8);
     second(
         b"write q = 2^64 - 1",
@@ -216,7 +201,7 @@ fn past_the_links(label: &[u8], count: u64, high: u64) {
 }
 
 // 10: N = 2, so that bit 2 of the nodes is past the count, and one link, so that bit 1 of the links is.
-fn sets() {
+pub fn sets() {
     second(b"write node bit 2 of 2 nodes", 5, 4, 0, 0, 10);
     second(
         b"write node bit 63 of 2 nodes",
