@@ -1,8 +1,8 @@
--- `trials_rounds::lines::line` is safe and ends: the index is at most 63. Assumes nothing.
+-- `trials_reach::lines::line` is safe and ends: the index is at most 63. Assumes nothing.
 use Prim.Native.Nat.{_≤_, _-_}
 use borrow.Author.Needs.{needs}
-use Rattle.trials_rounds.proofs.lines.line.Statement.{statement}
-use Rattle.trials_rounds.proofs.lines.line.Tie as tie
+use Rattle.trials_reach.proofs.lines.line.Statement.{statement}
+use Rattle.trials_reach.proofs.lines.line.Tie as tie
 
 abbrev Inv-loop : tie.InvT-loop
 Inv-loop links₀ i₀ links i = i ≤ 63

@@ -1,8 +1,8 @@
--- `trials_rounds::lines::line_rounds` is safe and ends: the index is at most 32. Assumes nothing.
+-- `trials_reach::lines::line_rounds` is safe and ends: the index is at most 32. Assumes nothing.
 use Prim.Native.Nat.{_≤_, _-_}
 use borrow.Author.Needs.{needs}
-use Rattle.trials_rounds.proofs.lines.line_rounds.Statement.{statement}
-use Rattle.trials_rounds.proofs.lines.line_rounds.Tie as tie
+use Rattle.trials_reach.proofs.lines.line_rounds.Statement.{statement}
+use Rattle.trials_reach.proofs.lines.line_rounds.Tie as tie
 
 abbrev Inv-loop : tie.InvT-loop
 Inv-loop rounds₀ v₀ rounds v = v ≤ 32
