@@ -1,7 +1,7 @@
--- `trials_pairs::pairs::pair` is safe and ends: what `held` promises is what `tested` asks for. Assumes nothing.
+-- `trials_networks::pairs::pair` is safe and ends: what `held` promises is what `tested` asks for. Assumes nothing.
 use borrow.Author.Needs.{needs}
-use Rattle.trials_pairs.proofs.pairs.pair.Statement.{statement}
-use Rattle.trials_pairs.proofs.pairs.pair.Tie as tie
+use Rattle.trials_networks.proofs.pairs.pair.Statement.{statement}
+use Rattle.trials_networks.proofs.pairs.pair.Tie as tie
 
 held-requires : tie.Need-held-requires
 held-requires c κs = search needs
