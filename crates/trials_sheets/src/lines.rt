@@ -1,16 +1,8 @@
-// The test program of an equipment sheet's lines and their number: document 02, U2. Each expected value stands
-// beside its vector, taken from document 02 or worked out by hand; a difference is printed, and `trials ended` is the last line. The
-// stored output is that line alone.
+// Lines that are cut off or wrong, and the number of lines.
 use sheet_vectors::number;
 
-fn main() {
-    lines_cut_and_wrong();
-    many_lines();
-    io::write_all(1, b"trials ended\n");
-}
-
 // Each line 1, then each member 1 and 10, then 17; then 11.
-fn lines_cut_and_wrong() {
+pub fn lines_cut_and_wrong() {
     number(
         b"12 bytes of a line",
         b"EQS\x01\x00\x01\x00\x01\xff\xff\xff\xff\xff\xff\xff\xff\xff\xff\xff\xff",
@@ -44,7 +36,7 @@ fn lines_cut_and_wrong() {
 }
 
 // Sheets of one node whose lines are all zeros: 13 bytes each. 18 comes after the last line and after 11.
-fn many_lines() {
+pub fn many_lines() {
     let mut sheet = [0u8; 3325];
     sheet[0] = 69;
     sheet[1] = 81;

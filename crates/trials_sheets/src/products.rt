@@ -1,16 +1,8 @@
-// The test program of an equipment sheet's products and header: document 02, U2. Each expected value stands
-// beside its vector, taken from document 02 or worked out by hand; a difference is printed, and `trials ended` is the last line. The
-// stored output is that line alone.
+// Products, and the header of a sheet.
 use sheet_vectors::number;
 
-fn main() {
-    products();
-    headers();
-    io::write_all(1, b"trials ended\n");
-}
-
 // 17 exactly where the product is above 10^9 (0x3b9aca00) as a whole number. 2^22 × 2^21 × 2^21 is 2^64.
-fn products() {
+pub fn products() {
     number(
         b"all numbers 2^32 - 1",
         b"EQS\x01\x00\x01\x00\x01\xff\xff\xff\xff\xff\xff\xff\xff\xff\xff\xff\xff\x00",
@@ -59,7 +51,7 @@ fn products() {
 }
 
 // 1 to 4; the count of lines is no part of 4.
-fn headers() {
+pub fn headers() {
     number(b"nothing", b"", 1);
     number(b"7 bytes", b"EQS\x01\x00\x01\x00", 1);
     number(b"7 bytes of a wrong mark", b"RSG\x01\x00\x01\x00", 1);
