@@ -1,19 +1,9 @@
-// The test program of the downtime: document 01, "Further readings of a plan", with the rounding of document 02, U1. A mass is in units of
-// 10^-18.
-// Each expected value stands beside its vector, taken from the documents or worked out by hand; a difference is printed, and `trials ended`
-// is the last line. The stored output is that line alone.
+// The downtime: document 01, "Further readings of a plan", with the rounding of document 02, U1.
 use readings::Timed;
 use vectors::same;
 use vectors::same_part;
 
 const WHOLE: u64 = 1_000_000_000_000_000_000;
-
-fn main() {
-    whole_seconds();
-    rounded_seconds();
-    refused_seconds();
-    io::write_all(1, b"trials ended\n");
-}
 
 // Holds the downtime of two masses to its number and its seconds.
 fn seconds(label: &[u8], lower: u64, upper: u64, number: u64, low: u64, high: u64) {
@@ -30,7 +20,7 @@ fn seconds(label: &[u8], lower: u64, upper: u64, number: u64, low: u64, high: u6
 }
 
 // Masses that make whole seconds are not raised: 10^18 units are 31,536,000 seconds, so 62,500,000,000,000 are 1,971.
-fn whole_seconds() {
+pub fn whole_seconds() {
     seconds(b"nothing", 0, 0, 0, 0, 0);
     seconds(b"nothing and one whole", 0, WHOLE, 0, 0, 31_536_000);
     seconds(b"one whole", WHOLE, WHOLE, 0, 31_536_000, 31_536_000);
@@ -46,7 +36,7 @@ fn whole_seconds() {
 }
 
 // A second is 10^18 / 31,536,000 = 31,709,791,983.76.. units. The lower mass is rounded down, the upper one up.
-fn rounded_seconds() {
+pub fn rounded_seconds() {
     seconds(b"one unit", 1, 1, 0, 0, 1);
     seconds(b"the bounds of the triangle", 0, 4, 0, 0, 1);
     seconds(b"four units", 4, 4, 0, 0, 1);
@@ -77,7 +67,7 @@ fn rounded_seconds() {
 }
 
 // 16 where either mass is above one whole.
-fn refused_seconds() {
+pub fn refused_seconds() {
     seconds(b"16 for the lower mass", WHOLE + 1, 0, 16, 0, 0);
     seconds(b"16 for the upper mass", 0, WHOLE + 1, 16, 0, 0);
     seconds(

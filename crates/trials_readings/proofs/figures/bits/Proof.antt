@@ -1,8 +1,8 @@
--- `trials_figure::bits` is safe: a figure that was given has no NaN, so its bits may be taken. Assumes nothing.
+-- `trials_readings::figures::bits` is safe: a figure that was given has no NaN, so its bits may be taken. Assumes nothing.
 use borrow.Author.Needs.{needs}
 use Rattle.readings.proofs.FigureLaws.{given-numbers}
-use Rattle.trials_figure.proofs.bits.Statement.{statement}
-use Rattle.trials_figure.proofs.bits.Tie as tie
+use Rattle.trials_readings.proofs.figures.bits.Statement.{statement}
+use Rattle.trials_readings.proofs.figures.bits.Tie as tie
 
 figure-requires : tie.Need-figure-requires
 figure-requires c κs = search needs

@@ -1,6 +1,4 @@
-// The test program of the conditional figure, its floats by their bits: document 01, "Further readings of a plan". A mass is in units of
-// 10^-18. Each expected value stands beside its vector, taken from document 01 or worked out by hand; a difference is printed, and
-// `trials ended` is the last line. The stored output is that line alone.
+// The conditional figure, its floats by their bits: document 01, "Further readings of a plan".
 use plan::Header;
 use readings::Figured;
 use readings::Shares;
@@ -19,13 +17,6 @@ const WHOLE: u64 = 1_000_000_000_000_000_000;
 const ZERO: u64 = 0;
 
 const ONE: u64 = 0x3ff0_0000_0000_0000;
-
-fn main() {
-    marked_figures();
-    rounded_figures();
-    refused_figures();
-    io::write_all(1, b"trials ended\n");
-}
 
 // Holds the floats of a figure that was given to their bits.
 fn same_bits(label: &[u8], shares: Shares, disconnected: u64, examined: u64)
@@ -104,7 +95,7 @@ fn on_link(
 }
 
 // Marked plans 2, 4 and 9: an event of 1/10, or of 1/2.
-fn marked_figures() {
+pub fn marked_figures() {
     on_link(
         b"marked plan 2, 0.1 and 1",
         100_000_000,
@@ -173,7 +164,7 @@ fn triangle() {
 
 // All four are examined at t = 1: lower is 407407407037037037, of one whole. Two are at t = 10^17: lower is 296296296037037037, of
 // 888888889000000000.
-fn rounded_figures() {
+pub fn rounded_figures() {
     two_events(b"two events, all examined", 1, 0x3fda_12f6_8457_d2b0, ONE);
     two_events(
         b"two events, two examined",
@@ -185,7 +176,7 @@ fn rounded_figures() {
 }
 
 // The lists' refusals and then 13 come first, also where E = 0.
-fn refused_figures() {
+pub fn refused_figures() {
     on_link(
         b"13 for equal nodes where E = 0",
         500_000_000,

@@ -1,0 +1,15 @@
+// The test program of the conditional figure and the downtime. A mass is in units of 10^-18. Each expected value stands beside its vector,
+// taken from the documents or worked out by hand; a difference is printed, and `trials ended` is the last line. The stored output is that
+// line alone.
+mod downtimes;
+mod figures;
+
+fn main() {
+    figures::marked_figures();
+    figures::rounded_figures();
+    figures::refused_figures();
+    downtimes::whole_seconds();
+    downtimes::rounded_seconds();
+    downtimes::refused_seconds();
+    io::write_all(1, b"trials ended\n");
+}
