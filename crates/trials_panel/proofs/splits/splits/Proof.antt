@@ -1,8 +1,8 @@
--- `trials_panel_splits::splits` is safe and ends: the number of ends is at most 15. Assumes nothing.
+-- `trials_panel::splits::splits` is safe and ends: the number of ends is at most 15. Assumes nothing.
 use Prim.Native.Nat.{_≤_, _-_}
 use borrow.Author.Needs.{needs}
-use Rattle.trials_panel_splits.proofs.splits.Statement.{statement}
-use Rattle.trials_panel_splits.proofs.splits.Tie as tie
+use Rattle.trials_panel.proofs.splits.splits.Statement.{statement}
+use Rattle.trials_panel.proofs.splits.splits.Tie as tie
 
 abbrev Inv-loop : tie.InvT-loop
 Inv-loop label cap n a₀ a = a ≤ 15

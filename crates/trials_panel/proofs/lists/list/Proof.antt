@@ -1,8 +1,8 @@
--- `trials_panel::list` is safe and ends: the index is at most 16. Assumes nothing.
+-- `trials_panel::lists::list` is safe and ends: the index is at most 16. Assumes nothing.
 use Prim.Native.Nat.{_≤_, _-_}
 use borrow.Author.Needs.{needs}
-use Rattle.trials_panel.proofs.list.Statement.{statement}
-use Rattle.trials_panel.proofs.list.Tie as tie
+use Rattle.trials_panel.proofs.lists.list.Statement.{statement}
+use Rattle.trials_panel.proofs.lists.list.Tie as tie
 
 abbrev Inv-loop : tie.InvT-loop
 Inv-loop label cap ks so-far w₀ quota₀ before₀ i₀ w quota before i = i ≤ 16
