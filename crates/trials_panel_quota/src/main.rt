@@ -1,92 +1,16 @@
-// The test program of the quota: document 02, request U4. Walks of the plan of `panel_table`. Each expected value stands beside its vector,
-// taken from the request or worked out by hand, and all looks are held to the table of that plan; a difference is printed, and
-// `trials ended` is the last line. The stored output is that line alone.
-use panel::Quota;
-use panel_table::begun;
-use panel_table::went_on;
-use panel_vectors::same_walk;
-use walk_state::Walk;
-
-// The largest number of ends that may be asked for.
-const ALL: u64 = 18_446_744_073_709_551_615;
+// The test program of the quota: document 02, request U4. Walks of the plan of `panel_table`; all looks are held to the table of that plan.
+// Each expected value stands beside its vector, taken from the request or worked out by hand; a difference is printed, and `trials ended`
+// is the last line. The stored output is that line alone.
+mod quotas;
+mod turns;
 
 fn main() {
-    power_up();
-    dry();
-    enough();
-    empty();
-    smallest();
+    quotas::power_up();
+    quotas::dry();
+    quotas::enough();
+    quotas::empty();
+    quotas::smallest();
+    turns::turns();
+    turns::ended_between();
     io::write_all(1, b"trials ended\n");
-}
-
-fn holds(left: u64) -> Quota {
-    Quota { left }
-}
-
-// "One quota of 10,000,000 ends": the 14 ends of a walk are taken from it, and no more for a call that asks for more.
-fn power_up() {
-    went_on(
-        b"full quota",
-        begun(1_000_000),
-        panel::power_up(),
-        ALL,
-        0,
-        14,
-        14,
-        9_999_986,
-    );
-}
-
-// A go-on that reaches no end: its number is 0 or 19, and the walk and the quota are as they were, in every field.
-fn stays(label: &[u8], w: Walk, left: u64, k: u64, number: u64, r: u64) {
-    let g = went_on(label, w, holds(left), k, number, 0, r, left);
-    let same = g.walk;
-    same_walk(label, same, w);
-}
-
-// A quota of 3 runs dry in the middle of a walk. "19 where the quota is empty", but for k = 0. What is left of the walk is reached from
-// another quota, and then 19 is not given any more: "after those two cases".
-fn dry() {
-    let g = went_on(b"quota of 3", begun(100), holds(3), 5, 0, 3, 3, 0);
-    let w = g.walk;
-    let left = g.quota;
-    stays(b"dry", w, left.left, 1, 19, 3);
-    stays(b"dry, all", w, left.left, ALL, 19, 3);
-    stays(b"dry, k = 0", w, left.left, 0, 0, 3);
-    let h = went_on(b"after 19", w, holds(11), 12, 0, 11, 14, 0);
-    let ended = h.walk;
-    stays(b"ended and dry", ended, 0, 1, 0, 14);
-}
-
-// Quotas next to the number of ends: 13 ends leave one, 14 end the walk with nothing over.
-fn enough() {
-    let g = went_on(b"quota of 13", begun(14), holds(13), 14, 0, 13, 13, 0);
-    let w = g.walk;
-    stays(b"quota of 13", w, 0, 1, 19, 13);
-    let h = went_on(b"quota of 14", begun(14), holds(14), 14, 0, 14, 14, 0);
-    let ended = h.walk;
-    stays(b"quota of 14", ended, 0, 14, 0, 14);
-    stays(b"ended, k = 0", ended, 0, 0, 0, 14);
-    stays(b"ended", ended, 5, 1, 0, 14);
-}
-
-// An empty quota from the start, and at the cap, which ends a walk too.
-fn empty() {
-    let w = begun(9);
-    stays(b"empty", w, 0, 1, 19, 0);
-    stays(b"empty, k = 0", w, 0, 0, 0, 0);
-    let g = went_on(b"to the cap", w, holds(9), ALL, 0, 9, 9, 0);
-    let capped = g.walk;
-    stays(b"cap reached and dry", capped, 0, 1, 0, 9);
-}
-
-// "Exactly the smallest of k, the ends the walk still has under the plan's cap, and what the quota still holds": each of the three in turn.
-fn smallest() {
-    let g = went_on(b"k is the smallest", begun(9), holds(10), 4, 0, 4, 4, 6);
-    let w = g.walk;
-    let h = went_on(b"the cap is the smallest", w, holds(6), 7, 0, 5, 9, 1);
-    let capped = h.walk;
-    stays(b"the cap leaves none", capped, 1, 7, 0, 9);
-    went_on(b"the quota is the smallest", w, holds(3), 7, 0, 3, 7, 0);
-    went_on(b"all three are equal", w, holds(5), 5, 0, 5, 9, 0);
 }

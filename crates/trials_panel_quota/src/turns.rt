@@ -1,21 +1,11 @@
-// The test program of two walks on one quota: document 02, request U4. Walks of the plan of `panel_table`, with different caps. Each
-// expected value stands beside its vector, worked out by hand, and all looks are held to the table of that plan; a difference is printed,
-// and `trials ended` is the last line. The stored output is that line alone.
+// Two walks on one quota, with different caps.
+use crate::quotas::ALL;
 use panel::GoneOn;
 use panel::Quota;
 use panel_table::begun;
 use panel_table::went_on;
 use panel_vectors::same_walk;
 use walk_state::Walk;
-
-// The largest number of ends that may be asked for.
-const ALL: u64 = 18_446_744_073_709_551_615;
-
-fn main() {
-    turns();
-    ended_between();
-    io::write_all(1, b"trials ended\n");
-}
 
 // A first call, on a quota of 10.
 fn first(label: &[u8], w: Walk, k: u64, ends: u64, left: u64) -> GoneOn {
@@ -37,7 +27,7 @@ fn stays(label: &[u8], w: Walk, last: GoneOn, k: u64, number: u64, r: u64, left:
 }
 
 // In turns 4, 5 and 1 ends; then the quota is dry for both.
-fn turns() {
+pub fn turns() {
     let a1 = first(b"turns, a", begun(100), 4, 4, 6);
     let b1 = next(b"turns, b", begun(9), a1, 5, 5, 5, 1);
     let a = a1.walk;
@@ -57,7 +47,7 @@ fn dry(label: &[u8], w: Walk, last: GoneOn, r: u64) {
 }
 
 // A walk that ended takes nothing: 9 ends up to its cap, then 1 of the other, then it is dry for the other alone.
-fn ended_between() {
+pub fn ended_between() {
     let b1 = first(b"b ends", begun(9), ALL, 9, 1);
     let b = b1.walk;
     stays(b"b ended", b, b1, 1, 0, 9, 1);
