@@ -1,40 +1,16 @@
-// The test program of looks at damaged walks: document 02, request U4. A look tests what it shows, and nothing else: for a pair the node
-// count, E and the pair's own sum. Where these are not those of a walk, nothing is known of the pair: 0 and one whole. The walk is that of
-// the plan of `panel_table`, at cap 100 after 5 ends. In thousandths E is 507, 0-1 has 84 and 577, 0-2 has 63 and 556, 1-2 has 147 and 640
-// (row 5 of its table). Each expected value stands beside its vector, worked out by hand; a difference is printed, and `trials ended` is
-// the last line. The stored output is that line alone.
-use panel::Quota;
-use panel_table::begun;
+// Looks at damaged walks. A look tests what it shows, and nothing else: for a pair the node count, E and the pair's own sum. Where these
+// are not those of a walk, nothing is known of the pair: 0 and one whole. In thousandths 0-1 has 84 and 577, 0-2 has 63 and 556, 1-2 has
+// 147 and 640 (row 5 of the table).
+use crate::states::MASS;
+use crate::states::THRESHOLD;
+use crate::states::half;
 use panel_table::shown;
-use panel_table::went_on;
 use panel_vectors::WHOLE;
 use panel_vectors::bounds;
 use walk_state::Walk;
 
-const THRESHOLD: u64 = 56_000_000_000_000_000;
-
-const MASS: u64 = 507_000_000_000_000_000;
-
 // The largest number.
 const ALL: u64 = 18_446_744_073_709_551_615;
-
-fn main() {
-    own_sum();
-    other_sums();
-    first_pair();
-    masses();
-    many_nodes();
-    most_nodes();
-    nodes_of_a_plan();
-    other_fields();
-    io::write_all(1, b"trials ended\n");
-}
-
-// The walk after 5 ends.
-fn half() -> Walk {
-    let g = went_on(b"half", begun(100), Quota { left: 5 }, 5, 0, 5, 5, 0);
-    g.walk
-}
 
 fn with_sum(i: usize, sum: u64) -> Walk {
     let mut w = half();
@@ -63,7 +39,7 @@ fn unknown(label: &[u8], w: Walk, v: u64, x: u64) {
 }
 
 // The sum of 0-1 is one unit above E: nothing is known of 0-1. At E itself, 1,000 - 507 + 507 is the whole.
-fn own_sum() {
+pub fn own_sum() {
     let w = with_sum(0, MASS + 1);
     unknown(b"its own sum above E", w, 0, 1);
     let x = with_sum(0, MASS);
@@ -73,7 +49,7 @@ fn own_sum() {
 }
 
 // The bounds of the other pairs are right beside it.
-fn other_sums() {
+pub fn other_sums() {
     let w = with_sum(0, MASS + 1);
     bounds(
         b"the sum of 0-1 above E",
@@ -98,7 +74,7 @@ fn other_sums() {
 }
 
 // So it is beside the sum of 0-2.
-fn first_pair() {
+pub fn first_pair() {
     let x = with_sum(1, ALL);
     bounds(
         b"the sum of 0-2 above E",
@@ -119,21 +95,21 @@ fn none_known(label: &[u8], w: Walk) {
 }
 
 // An E above the whole, or below the sums.
-fn masses() {
+pub fn masses() {
     none_known(b"E above the whole", with_mass(WHOLE + 1));
     none_known(b"E 2^64 - 1", with_mass(ALL));
     none_known(b"E 0", with_mass(0));
 }
 
 // More nodes than a plan has: 13 is tested with that count.
-fn many_nodes() {
+pub fn many_nodes() {
     let w = with_nodes(65);
     none_known(b"65 nodes", w);
     unknown(b"65 nodes", w, 63, 64);
     bounds(b"65 nodes", 5, w, 64, 65, 13, 0, 0);
 }
 
-fn most_nodes() {
+pub fn most_nodes() {
     let x = with_nodes(ALL);
     unknown(b"2^64 - 1 nodes", x, ALL - 2, ALL - 1);
     bounds(b"2^64 - 1 nodes", 5, x, 0, ALL, 13, 0, 0);
@@ -141,7 +117,7 @@ fn most_nodes() {
 
 // Other counts that a plan may have: of two nodes the only pair is the first, as of three; of 64 the last pair has sum 0, so its upper
 // bound is 1,000 - 507.
-fn nodes_of_a_plan() {
+pub fn nodes_of_a_plan() {
     let w = with_nodes(2);
     bounds(
         b"2 nodes",
@@ -181,6 +157,6 @@ fn damaged() -> Walk {
     w
 }
 
-fn other_fields() {
+pub fn other_fields() {
     shown(b"what no look shows", damaged(), 5);
 }
