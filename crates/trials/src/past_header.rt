@@ -1,23 +1,7 @@
-// The test program of the check of a plan file past its header: document 01, "Plan file" and "Refused". A header is 20 bytes: RSG, version
-// 1, nodes, links, events, the threshold in 8 bytes and the cap in 4, here 1 and 100 unless the vector is about them. Each expected value
-// stands beside its vector, taken from document 01 or worked out by hand; a difference is printed, and `trials ended` is the last line.
-// The stored output is that line alone.
-use vectors::same;
+// The check of a plan file past its header: links, events and members.
+use crate::headers::number;
 
-fn main() {
-    links();
-    events();
-    members();
-    rising_members();
-    lengths();
-    io::write_all(1, b"trials ended\n");
-}
-
-fn number(label: &[u8], plan: &[u8], want: u64) {
-    same(label, plan::check(plan) as u64, want);
-}
-
-fn links() {
+pub fn links() {
     number(
         b"a link that is cut off",
         b"RSG\x01\x00\x02\x01\x00\x01\x00\x00\x00\x00\x00\x00\x00\x64\x00\x00\x00\x00",
@@ -50,7 +34,7 @@ fn links() {
     );
 }
 
-fn events() {
+pub fn events() {
     number(
         b"an event of four bytes",
         b"RSG\x01\x00\x02\x00\x01\x01\x00\x00\x00\x00\x00\x00\x00\x64\x00\x00\x00\x00\x00\x00\x00",
@@ -83,7 +67,7 @@ fn events() {
     );
 }
 
-fn members() {
+pub fn members() {
     number(
         b"a member that is cut off",
         b"RSG\x01\x00\x02\x00\x01\x01\x00\x00\x00\x00\x00\x00\x00\x64\x00\x00\x00\x01\x00\x00\x00\x01\x00",
@@ -106,7 +90,7 @@ fn members() {
     );
 }
 
-fn rising_members() {
+pub fn rising_members() {
     number(
         b"a member twice",
         b"RSG\x01\x00\x02\x00\x01\x01\x00\x00\x00\x00\x00\x00\x00\x64\x00\x00\x00\x01\x00\x00\x00\x02\x00\x01\x00\x01",
@@ -130,7 +114,7 @@ fn rising_members() {
 }
 
 // The triangle of document 01, and plans of all bytes.
-fn lengths() {
+pub fn lengths() {
     number(
         b"the triangle",
         b"RSG\x01\x00\x03\x03\x03\x01\x00\x00\x00\x00\x00\x00\x00\x64\x00\x00\x00\x00\x01\x00\x02\x01\x02\x01\x00\x00\x00\x01\x01\x00\x01\x00\x00\x00\x01\x01\x01\x01\x00\x00\x00\x01\x01\x02",
