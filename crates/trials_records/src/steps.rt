@@ -1,16 +1,7 @@
-// The test program of the reader's steps: the member that stands at a position, by the kind and the number of its element. Document 01,
-// "Plan file". Each expected value stands beside its vector, taken from document 01 or worked out by hand; a difference is printed, and
-// `trials ended` is the last line. The stored output is that line alone.
+// The reader's steps: the member that stands at a position, by the kind and the number of its element.
 use plan::Element;
 use plan::Step;
 use vectors::same;
-
-fn main() {
-    links();
-    nodes();
-    refused();
-    io::write_all(1, b"trials ended\n");
-}
 
 // The kind of a member (0 node, 1 link), 2 where it is refused.
 fn kind_of(step: Step) -> u64 {
@@ -40,7 +31,7 @@ fn step(label: &[u8], got: Step, kind: u64, number: u64) {
 }
 
 // The three members of the triangle stand at 31, 38 and 45: links 0, 1 and 2.
-fn links() {
+pub fn links() {
     let plan =
         b"RSG\x01\x00\x03\x03\x03\x01\x00\x00\x00\x00\x00\x00\x00\x64\x00\x00\x00\x00\x01\x00\x02\x01\x02\x01\x00\x00\x00\x01\x01\x00\x01\x00\x00\x00\x01\x01\x01\x01\x00\x00\x00\x01\x01\x02";
     step(
@@ -64,7 +55,7 @@ fn links() {
 }
 
 // A node has rank 0 to 63, and a link comes after every node.
-fn nodes() {
+pub fn nodes() {
     step(
         b"node 2",
         reader::read_member(b"\x00\x02", 0, 3, 3, 2),
@@ -80,7 +71,7 @@ fn nodes() {
 }
 
 // 1 where the bytes end inside the member, at the end and far past it; then 10.
-fn refused() {
+pub fn refused() {
     step(
         b"one byte",
         reader::read_member(b"\x00\x02\x00", 2, 3, 3, 0),
