@@ -1,10 +1,9 @@
 // The answers of reading, writing, the run and the bounds of a pair as numbers, for the exports of crate `probe`: the number of the
 // refusal, or 0, is returned, and the values are laid down in a lent list, as far as it has room. Where the answer is a refusal, every
-// value is 0. The check of a file, the run with windows and the bounds of a pair are called here too; the exports hand these on.
+// value is 0.
 // Assumes nothing.
 mod calls;
 mod lay;
-mod runs;
 
 pub use calls::give_bounds;
 pub use calls::give_header;
@@ -13,6 +12,3 @@ pub use calls::give_totals;
 pub use lay::give_three;
 pub use lay::give_two;
 pub use lay::put;
-pub use runs::check;
-pub use runs::pair;
-pub use runs::run_at;

@@ -29,7 +29,7 @@ ghost use Rattle.answers.specs.Answers.{headerWith, headerValues, sizeValues, t
 pub extern "C" fn probe_check(plan: &[u8]) -> u32
     ensures { λ r. ⌜ r ≡ refusal (now (plan .entry)) ⌝ }
 {
-    answers::check(plan)
+    run_answers::check(plan)
 }
 
 #[no_mangle]
@@ -136,5 +136,5 @@ pub extern "C" fn probe_pair(
         (now (result .entry)) ⌝ }
 {
     let h = header(nodes, links_count, events_count, threshold, limit);
-    answers::pair(h, links, events, v, w, result)
+    run_answers::pair(h, links, events, v, w, result)
 }

@@ -37,5 +37,5 @@ pub extern "C" fn probe_run_at(
         (now (result .entry)) ⌝ }
 {
     let h = header(nodes, links_count, events_count, threshold, limit);
-    answers::run_at(h, links, events, windows, minute, lower, upper, result)
+    run_answers::run_at(h, links, events, windows, minute, lower, upper, result)
 }

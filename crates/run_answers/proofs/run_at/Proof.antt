@@ -1,9 +1,9 @@
--- `answers::runs::run_at` meets its contract: the answer of the call is handed out. Assumes nothing.
+-- `run_answers::run_at` meets its contract: the answer of the call is handed out. Assumes nothing.
 use mathlib.Core.Path.{refl}
 use borrow.Author.Needs.{needs}
 use Rattle.answers.proofs.NumberLaws.{run-back}
-use Rattle.answers.proofs.runs.run_at.Statement.{statement}
-use Rattle.answers.proofs.runs.run_at.Tie as tie
+use Rattle.run_answers.proofs.run_at.Statement.{statement}
+use Rattle.run_answers.proofs.run_at.Tie as tie
 
 run-at-requires : tie.Need-run-at-requires
 run-at-requires c κs = search needs

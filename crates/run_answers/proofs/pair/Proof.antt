@@ -1,9 +1,9 @@
--- `answers::runs::pair` meets its contract: the answer of the call is handed out. Assumes nothing.
+-- `run_answers::pair` meets its contract: the answer of the call is handed out. Assumes nothing.
 use mathlib.Core.Path.{refl}
 use borrow.Author.Needs.{needs}
 use Rattle.answers.proofs.NumberLaws.{pair-back}
-use Rattle.answers.proofs.runs.pair.Statement.{statement}
-use Rattle.answers.proofs.runs.pair.Tie as tie
+use Rattle.run_answers.proofs.pair.Statement.{statement}
+use Rattle.run_answers.proofs.pair.Tie as tie
 
 pair-requires : tie.Need-pair-requires
 pair-requires c κs = search needs

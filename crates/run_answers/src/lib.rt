@@ -1,6 +1,8 @@
-// The check of a file, the run with windows and the bounds of a pair, with their answers as numbers.
-use crate::calls::give_bounds;
-use crate::calls::give_totals;
+// The check of a file, the run with windows and the bounds of a pair with their answers as numbers, for the exports of crate `probe`: the
+// number of the refusal, or 0, is returned, and the values are laid down in a lent list, as far as it has room.
+// Assumes nothing.
+use answers::give_bounds;
+use answers::give_totals;
 use plan::Header;
 ghost use mathlib.Core.Path.{_≡_};
 ghost use Rattle.plan.specs.File.{refusal};
