@@ -8,6 +8,7 @@ use panel_vectors::FULL;
 use panel_vectors::left_after;
 use panel_vectors::less;
 
+// Every list of calls, at caps that leave the whole walk, and below them.
 pub fn lists() {
     // caps above the number of ends, and one that is this number: complete at the last end
     all(b"cap 1,000,000", 1_000_000);

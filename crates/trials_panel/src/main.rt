@@ -1,6 +1,5 @@
-// The test program of walks in steps: document 02, request U4. Looks are held to the table of the plan of `panel_table`, worked out by
-// hand. Each expected value stands beside its vector, taken from the request or worked out by hand; a difference is printed, and `trials
-// ended` is the last line. The stored output is that line alone.
+// The test program of walks in steps: document 02, request U4. Each expected value stands beside its vector or in the table of the plan of
+// `panel_table`, worked out by hand; a difference is printed, and `trials ended` is the last line. The stored output is that line alone.
 mod lists;
 mod splits;
 

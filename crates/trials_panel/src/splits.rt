@@ -7,6 +7,7 @@ use panel_vectors::FULL;
 use panel_vectors::left_after;
 use panel_vectors::less;
 
+// Every split, at a cap above the number of ends, at it, and below it.
 pub fn all_splits() {
     // a walk has as many ends as there are, or as its cap allows
     splits(b"cap 100", 100, 14);
