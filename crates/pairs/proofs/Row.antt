@@ -23,7 +23,7 @@ gain start skip s i = digit (leb start i && bit s (skip + (i - start)))
 -- in the loop: what is left to add gives what the whole was to give
 pub record RowTurn (list₀ : List ℕ) (start skip all mass : ℕ) (list : List ℕ) (left : ℕ) : Type 0 where
   pub asked : AddingRow start skip all mass list₀
-  pub sized : length list ≡ 2016
+  pub sized : length list ≡ length list₀
   pub sub : (w : ℕ) → bit left w ≡ true → bit all w ≡ true
   pub each : (i : ℕ) → getD list i 0 + mass * gain start skip left i ≡ getD list₀ i 0 + mass * gain start skip all i
 
@@ -51,8 +51,8 @@ module _ (list₀ : List ℕ) (start skip all mass : ℕ) (list : List ℕ) (lef
     pub high : skip ≤ w
     high = g .asked .above w (g .sub w found)
 
-    pub inside : start + w - skip < 2016
-    inside = omega (arith, high, g .asked .within w (g .sub w found))
+    pub inside : start + w - skip < length list
+    inside = omega (arith, high, g .sized, g .asked .within w (g .sub w found))
 
     back : skip + ((start + w - skip) - start) ≡ w
     back = omega (arith, high)
@@ -106,7 +106,7 @@ module _ (list₀ : List ℕ) (start skip all mass : ℕ) (list : List ℕ) (lef
           subst⁻¹ (λ (k : ℕ). getD list′ k 0 + mass * gain start skip left′ k ≡ getD list₀ k 0 + mass * gain start skip all k) e
           (omega (
             arith,
-            getD-set-same list (start + w - skip) (getD list (start + w - skip) 0 + mass) 0 (omega (arith, inside, g .sized)),
+            getD-set-same list (start + w - skip) (getD list (start + w - skip) 0 + mass) 0 inside,
             ap (λ (x : ℕ). mass * x) gone,
             ap (λ (x : ℕ). mass * x) here,
             g .each (start + w - skip),

@@ -5,6 +5,8 @@ mod give;
 mod places;
 
 pub use add::add_cut;
+pub use give::clear;
+pub use give::copy_raised;
 pub use give::give_bounds;
 pub use places::pair_test;
 pub use places::place_of;

@@ -1,4 +1,5 @@
 -- `pairs::add::add_cut` meets its contract: the invariant is `CutTurn`, the measure what is left of the nodes. Assumes nothing.
+use mathlib.Core.Path.{_∙_}
 use native.Mathlib.Omega.{arith}
 use borrow.Author.Needs.{needs}
 use Rattle.topology.proofs.Shares.{shrinks}
@@ -7,16 +8,16 @@ use Rattle.pairs.proofs.add.add_cut.Statement.{statement}
 use Rattle.pairs.proofs.add.add_cut.Tie as tie
 
 abbrev Inv-loop : tie.InvT-loop
-Inv-loop lower₀ n rows nodes mass all left₀ lower left = CutTurn lower₀ n nodes mass rows lower left
+Inv-loop lower₀ base n rows nodes mass all left₀ lower left = CutTurn lower₀ base n nodes mass rows lower left
 
 abbrev μ-loop : tie.MeasureT-loop
-μ-loop lower₀ n rows nodes mass all left₀ lower left = left
+μ-loop lower₀ base n rows nodes mass all left₀ lower left = left
 
 first-requires : tie.Need-first-requires Inv-loop μ-loop
 first-requires c κs = search needs
 
 loop-holds : tie.Need-loop-holds Inv-loop μ-loop
-loop-holds c = cut-begins _ _ _ _ _ (c .before .pre)
+loop-holds c = cut-begins _ _ _ _ _ _ (c .before .before .pre)
 
 lowest-requires : tie.Need-lowest-requires Inv-loop μ-loop
 lowest-requires c κs = search needs
@@ -27,38 +28,44 @@ reach-requires c κs = search needs
 less-requires : tie.Need-less-requires Inv-loop μ-loop
 less-requires c κs = search needs
 
+same-length : tie.Need-same-length Inv-loop μ-loop
+same-length c = c .before .before .before .before .before .loop .inv .sized
+
 returns : tie.Need-returns Inv-loop μ-loop
 returns c =
-    all-joined _ _ _ _ _ _ _ (c .before .before .before .before .before .loop .inv) _ (c .before .before .before .before .before .before .first .ensures) _ _ (c .before .before .before .lowest .ensures .1 .1 .0) (c .before .before .reach .ensures .0) _ (c .before .less .ensures) (c .if1 .taken)
+    all-joined _ _ _ _ _ _ _ _ (c .before .before .before .before .before .loop .inv) _ (c .before .before .before .before .before .before .first .ensures) _ _ (c .before .before .before .lowest .ensures .1 .1 .0) (c .before .before .reach .ensures .0) _ (c .before .less .ensures) (c .if1 .taken)
 
 add-rows-requires : tie.Need-add-rows-requires Inv-loop μ-loop
 add-rows-requires c κs =
-    part-asked _ _ _ _ _ _ _ (c .before .before .before .before .before .before .loop .inv) _ (c .before .before .before .before .before .before .before .first .ensures) _ _ (c .before .before .before .before .lowest .ensures .1 .1 .0) (c .before .before .before .reach .ensures .0) _ (c .before .before .less .ensures)
+    part-asked _ _ _ _ _ _ _ _ (c .before .before .before .before .before .before .loop .inv) _ (c .before .before .before .before .before .before .before .first .ensures) _ _ (c .before .before .before .before .lowest .ensures .1 .1 .0) (c .before .before .before .reach .ensures .0) _ (c .before .before .less .ensures)
 
 less-requires-2 : tie.Need-less-requires-2 Inv-loop μ-loop
 less-requires-2 c κs = search needs
 
 loop-less : tie.Need-loop-less Inv-loop μ-loop
 loop-less c =
-    let low = c .before .before .before .before .before .before .lowest in
-    let loop = c .before .before .before .before .before .before .before .before .loop in
-    shrinks (loop .left) (c .before .before .before .before .before .reach .result .set) (c .less2 .result) (low .result) (c .less2 .ensures) (low .ensures .1 .1 .0)
-    (has-first _ _ _ _ _ _ _ (loop .inv) _ (c .before .before .before .before .before .before .before .before .before .first .ensures) _ _ (low .ensures .1 .1 .0) (c .before .before .before .before .before .reach .ensures .0))
+    let low = c .before .before .before .before .before .before .before .before .lowest in
+    let loop = c .before .before .before .before .before .before .before .before .before .before .loop in
+    shrinks (loop .left) (c .before .before .before .before .before .before .before .reach .result .set) (c .less2 .result) (low .result) (c .less2 .ensures) (low .ensures .1 .1 .0)
+    (has-first _ _ _ _ _ _ _ _ (loop .inv) _ (c .before .before .before .before .before .before .before .before .before .before .before .first .ensures) _ _ (low .ensures .1 .1 .0) (c .before .before .before .before .before .before .before .reach .ensures .0))
 
 loop-again : tie.Need-loop-again Inv-loop μ-loop
 loop-again c =
-    cut-turned _ _ _ _ _ _ _ (c .before .before .before .before .before .before .before .before .loop .inv) _ (c .before .before .before .before .before .before .before .before .before .first .ensures) _ _ (c .before .before .before .before .before .before .lowest .ensures .1 .1 .0) (c .before .before .before .before .before .reach .ensures .0) _ (c .before .before .before .before .less .ensures) _ (c .before .add-rows .ensures) _ (c .less2 .ensures)
+    cut-turned _ _ _ _ _ _ _ _ (c .before .before .before .before .before .before .before .before .before .before .loop .inv) _ (c .before .before .before .before .before .before .before .before .before .before .before .first .ensures) _ _ (c .before .before .before .before .before .before .before .before .lowest .ensures .1 .1 .0) (c .before .before .before .before .before .before .before .reach .ensures .0) _ (c .before .before .before .before .before .before .less .ensures) _ (c .before .before .before .add-rows .ensures) _ (c .less2 .ensures)
 
 less-requires-3 : tie.Need-less-requires-3 Inv-loop μ-loop
 less-requires-3 c κs = search needs
 
 add-rows-requires-2 : tie.Need-add-rows-requires-2 Inv-loop μ-loop
 add-rows-requires-2 c κs =
-    down-asked _ _ _ _ _ _ _ (c .before .before .before .loop .inv) _ (c .before .before .before .before .first .ensures) _ (c .less3 .ensures) _ (omega arith)
+    down-asked _ _ _ _ _ _ _ _ (c .before .before .before .loop .inv) _ (c .before .before .before .before .first .ensures) _ (c .less3 .ensures) _ (omega arith)
+
+same-length-2 : tie.Need-same-length-2 Inv-loop μ-loop
+same-length-2 c = c .before .before .add-rows2 .ensures .sized ∙ c .before .before .before .before .before .before .loop .inv .sized
 
 returns-2 : tie.Need-returns-2 Inv-loop μ-loop
 returns-2 c =
-    cut-done _ _ _ _ _ _ _ (c .before .before .before .before .loop .inv) _ (c .before .before .before .before .before .first .ensures) _ (c .before .less3 .ensures) _ (c .add-rows2 .ensures) (c .before .before .before .loop-test .left)
+    cut-done _ _ _ _ _ _ _ _ (c .before .before .before .before .before .before .loop .inv) _ (c .before .before .before .before .before .before .before .first .ensures) _ (c .before .before .before .less3 .ensures) _ (c .before .before .add-rows2 .ensures) (c .before .before .before .before .before .loop-test .left)
 
 pub add-cut-spec : {M : Type 1} → statement M
 add-cut-spec =
@@ -71,6 +78,7 @@ add-cut-spec =
     lowest-requires
     reach-requires
     less-requires
+    same-length
     returns
     add-rows-requires
     less-requires-2
@@ -78,4 +86,5 @@ add-cut-spec =
     loop-again
     less-requires-3
     add-rows-requires-2
+    same-length-2
     returns-2)

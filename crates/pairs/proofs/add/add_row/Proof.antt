@@ -20,7 +20,7 @@ abbrev μ-loop : tie.MeasureT-loop
 μ-loop lower₀ start skip set mass left₀ lower left = left
 
 loop-holds : tie.Need-loop-holds Inv-loop μ-loop
-loop-holds c = record { asked = c .pre; sized = c .pre .sized; sub = λ w e. e; each = λ i. refl }
+loop-holds c = record { asked = c .before .pre; sized = refl; sub = λ w e. e; each = λ i. refl }
 
 lowest-requires : tie.Need-lowest-requires Inv-loop μ-loop
 lowest-requires c κs = omega arith
@@ -32,19 +32,19 @@ sub-i : tie.Need-sub-i Inv-loop μ-loop
 sub-i c = omega (arith, high _ _ _ _ _ _ _ (c .before .before .loop .inv) _ (c .lowest .ensures .1 .1 .0))
 
 mul-lower : tie.Need-mul-lower Inv-loop μ-loop
-mul-lower c = omega (arith, inside _ _ _ _ _ _ _ (c .before .before .loop .inv) _ (c .lowest .ensures .1 .1 .0))
+mul-lower c = omega (arith, c .before .before .loop .inv .asked .low, c .lowest .ensures .1 .0)
 
-element-copy-out-lower : tie.Need-element-copy-out-lower Inv-loop μ-loop
-element-copy-out-lower c = inside _ _ _ _ _ _ _ (c .before .before .loop .inv) _ (c .lowest .ensures .1 .1 .0)
+slice-read-lower : tie.Need-slice-read-lower Inv-loop μ-loop
+slice-read-lower c = inside _ _ _ _ _ _ _ (c .before .before .before .loop .inv) _ (c .before .lowest .ensures .1 .1 .0)
 
 add-lower : tie.Need-add-lower Inv-loop μ-loop
 add-lower c = record { fits = omega (arith, room _ _ _ _ _ _ _ (c .before .before .before .loop .inv) _ (c .before .lowest .ensures .1 .1 .0)) }
 
 mul-lower-2 : tie.Need-mul-lower-2 Inv-loop μ-loop
-mul-lower-2 c = omega (arith, inside _ _ _ _ _ _ _ (c .before .before .before .loop .inv) _ (c .before .lowest .ensures .1 .1 .0))
+mul-lower-2 c = omega (arith, c .before .before .before .loop .inv .asked .low, c .before .lowest .ensures .1 .0)
 
-element-write-lower : tie.Need-element-write-lower Inv-loop μ-loop
-element-write-lower c = inside _ _ _ _ _ _ _ (c .before .before .before .loop .inv) _ (c .before .lowest .ensures .1 .1 .0)
+slice-write-lower : tie.Need-slice-write-lower Inv-loop μ-loop
+slice-write-lower c = inside _ _ _ _ _ _ _ (c .before .before .before .loop .inv) _ (c .before .lowest .ensures .1 .1 .0)
 
 rest-requires : tie.Need-rest-requires Inv-loop μ-loop
 rest-requires c κs = omega (arith, c .before .before .loop-test .taken)
@@ -60,6 +60,9 @@ loop-again c =
     c .rest .ensures .1 j
     ∙ ap (λ (x : ℕ). bit (c .before .before .before .before .loop .left) j && not (eqb j x)) (sym (c .before .before .lowest .ensures .0)))
 
+same-length : tie.Need-same-length Inv-loop μ-loop
+same-length c = c .before .loop .inv .sized
+
 returns : tie.Need-returns Inv-loop μ-loop
 returns c = row-done _ _ _ _ _ _ _ (c .before .loop .inv) (c .loop-test .left)
 
@@ -74,11 +77,12 @@ add-row-spec =
     add-i
     sub-i
     mul-lower
-    element-copy-out-lower
+    slice-read-lower
     add-lower
     mul-lower-2
-    element-write-lower
+    slice-write-lower
     rest-requires
     loop-less
     loop-again
+    same-length
     returns)

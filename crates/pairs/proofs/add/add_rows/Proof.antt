@@ -6,18 +6,19 @@ use native.Mathlib.Omega.{arith}
 use lib.Dec.{eqb}
 use borrow.Author.Needs.{needs}
 use Rattle.sets.specs.Sets.{bit}
+use Rattle.pairs.proofs.PairLaws.{start-most}
 use Rattle.pairs.proofs.Rows.{RowsTurn, rows-begin, rows-done, rows-stopped, row-asked, rows-turned}
 use Rattle.pairs.proofs.add.add_rows.Statement.{statement}
 use Rattle.pairs.proofs.add.add_rows.Tie as tie
 
 abbrev Inv-loop : tie.InvT-loop
-Inv-loop lower₀ n set others mass left₀ lower left = RowsTurn lower₀ n set others mass lower left
+Inv-loop lower₀ base n set others mass left₀ lower left = RowsTurn lower₀ base n set others mass lower left
 
 abbrev μ-loop : tie.MeasureT-loop
-μ-loop lower₀ n set others mass left₀ lower left = left
+μ-loop lower₀ base n set others mass left₀ lower left = left
 
 loop-holds : tie.Need-loop-holds Inv-loop μ-loop
-loop-holds c = rows-begin _ _ _ _ _ (c .pre)
+loop-holds c = rows-begin _ _ _ _ _ _ (c .before .pre)
 
 lowest-requires : tie.Need-lowest-requires Inv-loop μ-loop
 lowest-requires c κs = search needs
@@ -31,10 +32,13 @@ first-requires c κs = search needs
 less-requires : tie.Need-less-requires Inv-loop μ-loop
 less-requires c κs = search needs
 
+same-length : tie.Need-same-length Inv-loop μ-loop
+same-length c = c .before .before .before .before .before .loop .inv .sized
+
 returns : tie.Need-returns Inv-loop μ-loop
 returns c =
     let low = c .before .before .before .lowest in
-    rows-stopped _ _ _ _ _ _ _ (c .before .before .before .before .before .loop .inv) _ (low .ensures .1 .1 .0) _ (c .before .before .first .ensures) _ (c .before .less .ensures) (c .if1 .taken) (low .ensures .1 .1 .1)
+    rows-stopped _ _ _ _ _ _ _ _ (c .before .before .before .before .before .loop .inv) _ (low .ensures .1 .1 .0) _ (c .before .before .first .ensures) _ (c .before .less .ensures) (c .if1 .taken) (low .ensures .1 .1 .1)
 
 start-of-requires : tie.Need-start-of-requires Inv-loop μ-loop
 start-of-requires c κs =
@@ -42,12 +46,17 @@ start-of-requires c κs =
     (g .asked .few, omega (arith, g .asked .nodes _ (g .sub _ (c .before .before .before .before .lowest .ensures .1 .1 .0))))
 
 add-add-row : tie.Need-add-add-row Inv-loop μ-loop
-add-add-row c = search needs
+add-add-row c =
+    let g = c .before .before .before .before .before .before .before .loop .inv in
+    omega (arith, g .asked .low, c .start-of .ensures, start-most _ _ (g .asked .few) (start-of-requires (c .before) _ .1))
+
+add-add-row-2 : tie.Need-add-add-row-2 Inv-loop μ-loop
+add-add-row-2 c = search needs
 
 add-row-requires : tie.Need-add-row-requires Inv-loop μ-loop
 add-row-requires c κs =
     rw (c .start-of .ensures)
-    (row-asked _ _ _ _ _ _ _ (c .before .before .before .before .before .before .before .loop .inv) _ (c .before .before .before .before .before .lowest .ensures .1 .1 .0) _ (c .before .before .before .before .first .ensures) _ (c .before .before .before .less .ensures))
+    (row-asked _ _ _ _ _ _ _ _ (c .before .before .before .before .before .before .before .loop .inv) _ (c .before .before .before .before .before .lowest .ensures .1 .1 .0) _ (c .before .before .before .before .first .ensures) _ (c .before .before .before .less .ensures))
 
 rest-requires : tie.Need-rest-requires Inv-loop μ-loop
 rest-requires c κs = search needs
@@ -57,16 +66,19 @@ loop-less c = c .rest .ensures .0
 
 loop-again : tie.Need-loop-again Inv-loop μ-loop
 loop-again c =
-    let low = c .before .before .before .before .before .before .before .lowest in
-    rows-turned _ _ _ _ _ _ _ (c .before .before .before .before .before .before .before .before .before .loop .inv) _ (low .ensures .1 .1 .0) _ (c .before .before .before .before .before .before .first .ensures) _ (c .before .before .before .before .before .less .ensures) _
-    (rw (c .before .before .start-of .ensures) at (c .before .add-row .ensures))
+    let low = c .before .before .before .before .before .before .before .before .before .lowest in
+    rows-turned _ _ _ _ _ _ _ _ (c .before .before .before .before .before .before .before .before .before .before .before .loop .inv) _ (low .ensures .1 .1 .0) _ (c .before .before .before .before .before .before .before .before .first .ensures) _ (c .before .before .before .before .before .before .before .less .ensures) _
+    (rw (c .before .before .before .before .start-of .ensures) at (c .before .before .before .add-row .ensures))
     _
     (λ j.
     c .rest .ensures .1 j
-    ∙ ap (λ (x : ℕ). bit (c .before .before .before .before .before .before .before .before .before .loop .left) j && not (eqb j x)) (sym (low .ensures .0)))
+    ∙ ap (λ (x : ℕ). bit (c .before .before .before .before .before .before .before .before .before .before .before .loop .left) j && not (eqb j x)) (sym (low .ensures .0)))
+
+same-length-2 : tie.Need-same-length-2 Inv-loop μ-loop
+same-length-2 c = c .before .loop .inv .sized
 
 returns-2 : tie.Need-returns-2 Inv-loop μ-loop
-returns-2 c = rows-done _ _ _ _ _ _ _ (c .before .loop .inv) (c .loop-test .left)
+returns-2 c = rows-done _ _ _ _ _ _ _ _ (c .before .loop .inv) (c .loop-test .left)
 
 pub add-rows-spec : {M : Type 1} → statement M
 add-rows-spec =
@@ -79,11 +91,14 @@ add-rows-spec =
     add-first
     first-requires
     less-requires
+    same-length
     returns
     start-of-requires
     add-add-row
+    add-add-row-2
     add-row-requires
     rest-requires
     loop-less
     loop-again
+    same-length-2
     returns-2)

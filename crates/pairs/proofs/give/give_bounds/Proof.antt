@@ -31,7 +31,7 @@ copy-raised-requires : tie.Need-copy-raised-requires
 copy-raised-requires c κs =
     let g = c .before .before .before .before .before .before .before .before .before .before .before .pre in
     let e = c .before .before .before .before .before .before .before .before .start-of .ensures in
-    ((omega (arith, e, g .sized, pairs-most _ (g .few)), omega (arith, e, g .upper-room)), λ i h. omega (arith, g .below i))
+    ((omega (arith, e, g .sized, pairs-most _ (g .few)), omega (arith, e, g .upper-room)), λ i h. omega (arith, g .below (i + 0)))
 
 same-length : tie.Need-same-length
 same-length c = c .before .before .before .before .before .before .before .before .copy-words .kept .1 .0
