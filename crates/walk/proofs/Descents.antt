@@ -32,11 +32,11 @@ use Rattle.walk.proofs.Branches.{events-length, events-probability, pro
 use Rattle.walk.proofs.Dropped.{run-after, works-path}
 use Rattle.walk.proofs.Words.{words-at, laid-size, laid-words}
 
-none : Event
+pub none : Event
 none = record { probability = 0; nodes = 0; links = 0 }
 
 -- the events that are left at a depth
-left-at : (count : ℕ) (words : List ℕ) (depth : ℕ) → length (drop depth (eventsOf count words)) ≡ count - depth
+pub left-at : (count : ℕ) (words : List ℕ) (depth : ℕ) → length (drop depth (eventsOf count words)) ≡ count - depth
 left-at count words depth = omega (arith, length-drop depth (eventsOf count words), events-length count words)
 
 -- on a "works" path: it stops where it stops from the start, and the mass is not above that at the start
@@ -56,7 +56,7 @@ module _ (count : ℕ) (words : List ℕ) (falls : Falling certain (eventsOf cou
   pub probable : (depth : ℕ) → depth < count → getD words (depth * 4) 0 ≤ certain
   probable depth l = probability-le count words depth (falling-probable certain (eventsOf count words) (omega arith) falls) l
 
-  falls-on : (depth : ℕ) → depth < count → Falling (getD words (depth * 4) 0) (drop depth (eventsOf count words))
+  pub falls-on : (depth : ℕ) → depth < count → Falling (getD words (depth * 4) 0) (drop depth (eventsOf count words))
   falls-on depth l =
       rw (events-probability count words depth none l) at (falling-drop certain (eventsOf count words) depth none falls (omega (arith, events-length count words)))
 
@@ -107,6 +107,31 @@ module _ (count : ℕ) (words : List ℕ) (falls : Falling certain (eventsOf cou
         s : (pathSteps threshold mass (drop depth events) ≡ suc (pathSteps threshold (working mass (getD events depth none .probability)) (drop (suc depth) events)))
             × (pathMass threshold mass (drop depth events) ≡ pathMass threshold (working mass (getD events depth none .probability)) (drop (suc depth) events))
         s = rw (drop-cons events depth none (omega (arith, events-length count words))) (path-on threshold mass (getD events depth none) (drop (suc depth) events) h)
+
+-- a branch is its two parts at the next event, in words: its "works" side, then its "fails" side
+module _ (count t : ℕ) (words : List ℕ) (depth mass low high : ℕ) (l : depth < count) (h : t ≤ mass) (decided : joined low high < 2 ^ depth) where
+  pub branch-parts : (fails works setLow setHigh : ℕ) → fails ≡ failing mass (getD words (depth * 4) 0) → works ≡ working mass (getD words (depth * 4) 0)
+      → joined setLow setHigh ≡ joined low high + 2 ^ depth
+      → branchEnds t (eventsOf count words) (branchOf depth mass low high)
+      ≡ branchEnds t (eventsOf count words) (branchOf (depth + 1) works low high) ++ branchEnds t (eventsOf count words) (branchOf (depth + 1) fails setLow setHigh)
+  branch-parts fails works setLow setHigh failed worked set =
+      branch-node t events (branchOf depth mass low high) none h (omega (arith, events-length count words, scenario-length depth (joined low high)))
+      ∙ ap₂ (λ (a b : Branch). branchEnds t events a ++ branchEnds t events b)
+      (ap (λ (x : ℕ). branch (branchOf depth mass low high) x false) same-q
+      ∙ next-works depth mass low high q decided
+      ∙ ap (λ (x : ℕ). branchOf (depth + 1) x low high) (sym worked))
+      (ap (λ (x : ℕ). branch (branchOf depth mass low high) x true) same-q
+      ∙ next-fails depth mass low high q setLow setHigh decided set
+      ∙ ap (λ (x : ℕ). branchOf (depth + 1) x setLow setHigh) (sym failed))
+    where
+      events : List Event
+      events = eventsOf count words
+
+      q : ℕ
+      q = getD words (depth * 4) 0
+
+      same-q : getD events (length (scenarioOf depth (joined low high))) none .probability ≡ q
+      same-q = ap (λ (n : ℕ). getD events n none .probability) (scenario-length depth (joined low high)) ∙ events-probability count words depth none l
 
 -- on the way down: a branch in hand, the pending entries on the stack, and the same ends to come as at the start; the masses of the branch
 -- and the entries are at most the mass pending at the start
@@ -252,9 +277,6 @@ module _ (count threshold : ℕ) (words : List ℕ) where
           fits : q ≤ certain
           fits = probable count words falls depth l
 
-          path : Scenario
-          path = scenarioOf depth (joined low high)
-
           size′ : length stack′ ≡ 512
           size′ = laid-size stack stack′ (top - 4) (depth + 1) fails (d .setLow) (d .setHigh) (d .laid) (g .held .sized)
 
@@ -276,20 +298,9 @@ module _ (count threshold : ℕ) (words : List ℕ) where
                     };
               }
 
-          same-q : getD events (length path) none .probability ≡ q
-          same-q = ap (λ (n : ℕ). getD events n none .probability) (scenario-length depth (joined low high)) ∙ events-probability count words depth none l
-
           parts : branchEnds threshold events (branchOf depth mass low high)
               ≡ branchEnds threshold events (branchOf (depth + 1) works low high) ++ branchEnds threshold events (branchOf (depth + 1) fails (d .setLow) (d .setHigh))
-          parts =
-              branch-node threshold events (branchOf depth mass low high) none h (omega (arith, events-length count words, scenario-length depth (joined low high)))
-              ∙ ap₂ (λ (a b : Branch). branchEnds threshold events a ++ branchEnds threshold events b)
-              (ap (λ (x : ℕ). branch (branchOf depth mass low high) x false) same-q
-              ∙ next-works depth mass low high q (g .hand .decided)
-              ∙ ap (λ (x : ℕ). branchOf (depth + 1) x low high) (sym worked))
-              (ap (λ (x : ℕ). branch (branchOf depth mass low high) x true) same-q
-              ∙ next-fails depth mass low high q (d .setLow) (d .setHigh) (g .hand .decided) (d .set)
-              ∙ ap (λ (x : ℕ). branchOf (depth + 1) x (d .setLow) (d .setHigh)) (sym failed))
+          parts = branch-parts count threshold words depth mass low high l h (g .hand .decided) fails works (d .setLow) (d .setHigh) failed worked (d .set)
 
           both : branchEnds threshold events (branchOf depth mass low high) ++ toCome count threshold words top stack
               ≡ branchEnds threshold events (branchOf (depth + 1) works low high) ++ toCome count threshold words (top - 4) stack′

@@ -23,7 +23,7 @@ ghost use Rattle.walk.specs.Steps.{Handed, TwoParts, Stopped, Pushed, De
 const RUN: u64 = 129;
 
 // The mass that the event at a depth leaves where it fails.
-fn fails(events: &[u64; 512], depth: u64, mass: u64) -> u64
+pub fn fails(events: &[u64; 512], depth: u64, mass: u64) -> u64
     requires { ⌜ (depth < 128) × (mass ≤ whole) × (getD (now events) (depth * 4) 0 ≤ certain) ⌝ }
     ensures { λ r. ⌜ r ≡ failing mass (getD (now (events .entry)) (depth * 4) 0) ⌝ }
 {
@@ -34,7 +34,7 @@ fn fails(events: &[u64; 512], depth: u64, mass: u64) -> u64
 }
 
 // The mass that the event at a depth leaves where it works.
-fn works(events: &[u64; 512], depth: u64, mass: u64) -> u64
+pub fn works(events: &[u64; 512], depth: u64, mass: u64) -> u64
     requires { ⌜ (depth < 128) × (mass ≤ whole) × (getD (now events) (depth * 4) 0 ≤ certain) ⌝ }
     ensures { λ r. ⌜ r ≡ working mass (getD (now (events .entry)) (depth * 4) 0) ⌝ }
 {
@@ -82,7 +82,7 @@ fn works_on(events: &[u64; 512], depth: u64, m: Parted) -> Parted
 }
 
 // Goes down the "works" path of a branch, to its end or to where its mass falls below the threshold.
-fn straight(count: u64, threshold: u64, events: &[u64; 512], depth: u64, mass: u64) -> Stop
+pub fn straight(count: u64, threshold: u64, events: &[u64; 512], depth: u64, mass: u64) -> Stop
     requires { ⌜ (count ≤ 128) × (depth ≤ count) × (mass ≤ whole) × Falling certain (eventsOf count (now events)) ⌝ }
     ensures { λ r. ⌜ Stopped count threshold (now (events .entry)) depth mass r ⌝ }
 {

@@ -9,7 +9,10 @@ ghost use Rattle.walk.specs.Stack.{Begun};
 
 mod ahead;
 
+pub use ahead::fails;
 pub use ahead::next_relevant;
+pub use ahead::straight;
+pub use ahead::works;
 
 // A set of events in two words, events 64 to 127 in the high one.
 pub struct Failing {
@@ -53,7 +56,7 @@ pub struct Descent {
 }
 
 // The set of failing events with one event more, that comes after all of them.
-fn with_event(low: u64, high: u64, event: u64) -> Failing
+pub fn with_event(low: u64, high: u64, event: u64) -> Failing
     requires { ⌜ (low < 2 ^ 64) × (event < 128) × (joined low high < 2 ^ event) ⌝ }
     ensures { λ r. ⌜ joined (r .low) (r .high) ≡ joined low high + 2 ^ event ⌝ }
 {
