@@ -1,5 +1,5 @@
 -- Laws that the proofs of the crate `bounds` share.
-pub mod Examine
+pub mod Examining
 pub mod Turn
 pub mod Root
 pub mod Zeros

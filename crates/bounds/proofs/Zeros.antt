@@ -8,7 +8,7 @@ use lib.ListN.{getD, replicate, getD-replicate, List·getD-eq-default, length-re
 use Rattle.bounds.specs.Summed.{Cleared}
 
 -- an array of zeros
-zeros-at : (n i : ℕ) → getD (replicate {A = ℕ} n 0) i 0 ≡ 0
+pub zeros-at : (n i : ℕ) → getD (replicate {A = ℕ} n 0) i 0 ≡ 0
 zeros-at n i = go (decLt i n)
   where
     go : Dec (i < n) → getD (replicate {A = ℕ} n 0) i 0 ≡ 0

@@ -4,3 +4,4 @@ pub mod Summed
 pub mod Tallied
 pub mod Calls
 pub mod Examples
+pub mod Blocks

@@ -2,36 +2,56 @@
 use crate::Tally;
 use network::Failed;
 use pairs::add_cut;
+use pairs::start_of;
 use plan::Header;
-use walk::Step;
 ghost use Prim.Native.Nat.{_^_, _<_};
 ghost use Rattle.sets.specs.Sets.{joined};
 ghost use Rattle.plan.specs.Held.{Held};
 ghost use Rattle.network.specs.Code.{outage};
 ghost use Rattle.network.specs.Table.{LinksAt};
-ghost use Rattle.bounds.specs.Tallied.{Room, MassAdded, Ready, Tallied};
+ghost use Rattle.bounds.specs.Blocks.{BlocksFit, BlocksAdded};
+ghost use Rattle.bounds.specs.Tallied.{Ready, Tallied};
 
-// Adds the mass of a relevant scenario to the entries of the pairs that its topology, with what is out before the first event, disconnects.
-fn examine(
+// Adds the mass of a scenario to the entries of the pairs that its topology, with what is out before the first event, disconnects, in each
+// block of a set. The topology is worked out once.
+pub fn examine(
     h: Header,
     links: &[u8; 256],
     words: &[u64; 512],
     table: &[u64; 128],
     out: Failed,
-    lower: &mut [u64; 2016],
-    step: Step,
+    low: u64,
+    high: u64,
+    lower: &mut [u64],
+    blocks: u64,
+    mass: u64,
 )
     requires { ⌜ Held h (now links) (now words) ⌝ }
     requires { ⌜ LinksAt (now links) (h .links) (now table) ⌝ }
-    requires { ⌜ joined (step .low) (step .high) < 2 ^ (h .events) ⌝ }
-    requires { ⌜ Room (step .mass) (now lower) ⌝ }
-    ensures { λ r. ⌜ MassAdded (outage out) h (now (links .entry)) (now (words .entry)) step (now (lower .entry)) (now (lower .exit)) ⌝ }
+    requires { ⌜ joined low high < 2 ^ (h .events) ⌝ }
+    requires { ⌜ BlocksFit (h .nodes) blocks mass (now lower) ⌝ }
+    ensures { λ r. ⌜ BlocksAdded (outage out) h (now (links .entry)) (now (words .entry)) blocks low high mass
+        (now (lower .entry)) (now (lower .exit)) ⌝ }
 {
     let n = h.nodes as usize;
-    let failed = network::failed_by(words, h.events as usize, step.low, step.high, out);
+    let failed = network::failed_by(words, h.events as usize, low, high, out);
     let nodes = network::working_nodes(n, failed.nodes);
     let rows = network::neighbours(n, links, h.links as usize, table, failed);
-    add_cut(&mut *lower, n, rows, nodes, step.mass);
+    let pairs = start_of(n, n);
+    let mut left = blocks;
+    // With the mass added to the blocks of `left`, the entries are as with it added to all. Each turn takes the lowest block out of `left`,
+    // which falls as a number.
+    while left != 0 {
+        add_cut(
+            &mut *lower,
+            pairs * sets::lowest(left),
+            h.nodes as usize,
+            rows,
+            nodes,
+            mass,
+        );
+        left = sets::rest(left);
+    }
 }
 
 // Goes on with a walk for so many ends as may still be reached, adding up what they give.
@@ -68,7 +88,18 @@ pub fn go_on(
                 mass,
             };
         }
-        examine(h, links, words, table, out, &mut *lower, step);
+        examine(
+            h,
+            links,
+            words,
+            table,
+            out,
+            step.low,
+            step.high,
+            &mut *lower,
+            1,
+            step.mass,
+        );
         number += 1;
         mass += step.mass;
     }

@@ -5,10 +5,12 @@ mod full_walk;
 mod one_pair;
 mod runs;
 
+pub use ends::examine;
 pub use ends::go_on;
 pub use full_walk::none_left;
 pub use full_walk::walk_all;
 pub use one_pair::pair;
+pub use runs::bounds_test;
 pub use runs::run;
 pub use runs::run_at;
 

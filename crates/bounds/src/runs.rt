@@ -24,18 +24,15 @@ ghost use Rattle.windows.specs.Windows.{takenOut};
 ghost use Rattle.bounds.specs.Bounds.{lowerList, upperList, EnclosesAll};
 ghost use Rattle.bounds.specs.Calls.{totalsOf, ranAnswer, totalsIn, runRefusal, runNumber, runAtNumber};
 
-// 12 for the two lists of bounds, which have room for `lower_room` and `upper_room` entries.
-fn bounds_test(nodes: u64, lower_room: usize, upper_room: usize) -> u32
-    requires { ⌜ nodes ≤ 64 ⌝ }
-    ensures { λ r. ⌜ r ≡ first (roomTest «lower_room» (pairCount nodes) ∷ roomTest «upper_room» (pairCount nodes) ∷ []) ⌝ }
+// 12 for the two lists of bounds: each is to have room for `entries`.
+pub fn bounds_test(entries: usize, lower_room: usize, upper_room: usize) -> u32
+    ensures { λ r. ⌜ r ≡ first (roomTest «lower_room» entries ∷ roomTest «upper_room» entries ∷ []) ⌝ }
 {
-    let n = nodes as usize;
-    let pairs = start_of(n, n);
-    let short = refusals::room_test(lower_room, pairs);
+    let short = refusals::room_test(lower_room, entries);
     if short != 0 {
         return short;
     }
-    refusals::room_test(upper_room, pairs)
+    refusals::room_test(upper_room, entries)
 }
 
 // The tests of a run: those of the lists, which are taken into the arrays, then 12 for the two lists of bounds.
@@ -57,7 +54,8 @@ fn accept_run(
     if lists != 0 {
         return lists;
     }
-    bounds_test(h.nodes, lower_room, upper_room)
+    let n = h.nodes as usize;
+    bounds_test(start_of(n, n), lower_room, upper_room)
 }
 
 // The walk of an accepted plan, with some nodes and links out before the first event: fills the two lists with the bounds of the pairs, in

@@ -52,7 +52,7 @@ same-plan h links links′ words words′ e f =
     rw (l, v)
 
 -- the first entries of a copy are those of its source
-copied : (from to : List ℕ) (count used : ℕ) → count ≤ length from → count ≤ length to → used ≤ count
+pub copied : (from to : List ℕ) (count used : ℕ) → count ≤ length from → count ≤ length to → used ≤ count
     → take used (sets to 0 (take count from)) ≡ take used from
 copied from to count used h l u =
     let n : length (take count from) ≡ count = length-take-le count from h in

@@ -1,31 +1,113 @@
--- `bounds::ends::examine` meets its contract. Assumes nothing.
+-- `bounds::ends::examine` meets its contract: the invariant is `BlocksTurn`, the measure what is left of the set of blocks. What is out is not
+-- used in the loop, so the invariant is for anything out whose topology the neighbours show. Assumes nothing.
+use mathlib.Core.Path.{ap, sym, _∙_}
+use mathlib.Core.Bool.{not, _&&_}
+use Prim.Native.Nat.{ℕ}
 use borrow.Author.Needs.{needs}
-use Rattle.bounds.proofs.Examine.{adding, examined}
+use native.Mathlib.Omega.{arith}
+use lib.Dec.{eqb}
+use Rattle.sets.specs.Sets.{bit}
+use Rattle.network.specs.Outage.{Outage}
+use Rattle.network.specs.Code.{outage}
+use Rattle.bounds.proofs.Examining.{Shown, shown-by, BlocksTurn, blocks-begin, blocks-done, low-base, block-asked, blocks-turned}
 use Rattle.bounds.proofs.ends.examine.Statement.{statement}
 use Rattle.bounds.proofs.ends.examine.Tie as tie
 
-failed-by-requires : tie.Need-failed-by-requires
-failed-by-requires c κs = search needs
+abbrev Inv-loop : tie.InvT-loop
+Inv-loop h links words table low high lower₀ blocks mass n nodes rows pairs left₀ lower left =
+    (out : Outage) → Shown out h links words low high nodes rows → BlocksTurn out h links words blocks low high mass lower₀ lower left
 
-working-nodes-requires : tie.Need-working-nodes-requires
-working-nodes-requires c κs = search needs
+abbrev μ-loop : tie.MeasureT-loop
+μ-loop h links words table low high lower₀ blocks mass n nodes rows pairs left₀ lower left = left
 
-neighbours-requires : tie.Need-neighbours-requires
+failed-by-requires : tie.Need-failed-by-requires Inv-loop μ-loop
+failed-by-requires c κs =
+    let p = c .before .pre in
+    (p .0 .events-fit, p .1 .1 .0)
+
+working-nodes-requires : tie.Need-working-nodes-requires Inv-loop μ-loop
+working-nodes-requires c κs = c .before .before .pre .0 .links-held .nodes-fit
+
+neighbours-requires : tie.Need-neighbours-requires Inv-loop μ-loop
 neighbours-requires c κs =
-    let e = c .before .before in
-    (e .pre .0 .links-held, e .pre .1 .0)
+    let p = c .before .before .before .pre in
+    (p .0 .links-held, p .1 .0)
 
-add-cut-requires : tie.Need-add-cut-requires
+start-of-requires : tie.Need-start-of-requires Inv-loop μ-loop
+start-of-requires c κs =
+    let few = c .before .before .before .before .pre .0 .links-held .nodes-fit in
+    (few, omega arith)
+
+loop-holds : tie.Need-loop-holds Inv-loop μ-loop
+loop-holds c = λ out s. blocks-begin _ _ _ _ _ _ _ _ _
+
+lowest-requires : tie.Need-lowest-requires Inv-loop μ-loop
+lowest-requires c κs = search needs
+
+mul-add-cut : tie.Need-mul-add-cut Inv-loop μ-loop
+mul-add-cut c =
+    let loop = c .before .before .before in
+    let near = loop .before .before in
+    let start = near .before .before .before .before in
+    let s = shown-by (outage (start .args .out)) _ _ _ _ _ _ _ _ (near .before .before .failed-by .ensures) (near .before .working-nodes .ensures) (near .neighbours .ensures) in
+    let inside = start .pre .1 .1 .1 .few _ (loop .loop .inv _ s .sub _ (c .lowest .ensures .1 .1 .0)) in
+    record { fits = rw (loop .before .start-of .ensures) (omega (arith, low-base (start .args .h .nodes) (c .lowest .result) (start .pre .0 .links-held .nodes-fit) inside)) }
+
+add-cut-requires : tie.Need-add-cut-requires Inv-loop μ-loop
 add-cut-requires c κs =
-    let e = c .before .before .before .before in
-    adding _ _ _ _ _ _ _ (c .before .before .working-nodes .ensures) (c .before .neighbours .ensures) _ (e .pre .0) (e .pre .1 .1 .1)
+    let loop = c .before .before .before in
+    let near = loop .before .before in
+    let p = near .before .before .before .before .pre in
+    let s = shown-by _ _ _ _ _ _ _ _ _ (near .before .before .failed-by .ensures) (near .before .working-nodes .ensures) (near .neighbours .ensures) in
+    rw (loop .before .start-of .ensures)
+    (block-asked _ _ _ _ _ _ _ _ _ _ _ (loop .loop .inv _ s) (p .0) (p .1 .1 .1) _ _ s _ (c .lowest .ensures .1 .1 .0))
 
-returns : tie.Need-returns
+rest-requires : tie.Need-rest-requires Inv-loop μ-loop
+rest-requires c κs = search needs
+
+loop-less : tie.Need-loop-less Inv-loop μ-loop
+loop-less c = c .rest .ensures .0
+
+loop-again : tie.Need-loop-again Inv-loop μ-loop
+loop-again c =
+    let loop = c .before .before .before .before .before .before .before in
+    let near = loop .before .before in
+    let p = near .before .before .before .before .pre in
+    let low = c .before .before .before .before .lowest in
+    λ out s.
+    blocks-turned out _ _ _ _ _ _ _ _ _ _ (loop .loop .inv out s) (p .0) (p .1 .1 .1) _ _ s _ (low .ensures .1 .1 .0) (p .1 .1 .0) _
+    (rw (loop .before .start-of .ensures) at (c .before .before .before .add-cut .ensures))
+    _
+    (λ j. c .rest .ensures .1 j ∙ ap (λ (x : ℕ). bit (loop .loop .left) j && not (eqb j x)) (sym (low .ensures .0)))
+
+same-length : tie.Need-same-length Inv-loop μ-loop
+same-length c =
+    let near = c .before .before .before in
+    c .before .loop .inv _ (shown-by _ _ _ _ _ _ _ _ _ (near .before .before .failed-by .ensures) (near .before .working-nodes .ensures) (near .neighbours .ensures)) .sized
+
+returns : tie.Need-returns Inv-loop μ-loop
 returns c =
-    let e = c .before .before .before .before .before in
-    examined _ _ _ _ _ _ _ (c .before .before .before .working-nodes .ensures) (c .before .before .neighbours .ensures) _ _ (c .add-cut .ensures) _ (e .pre .1 .1 .0)
-    (c .before .before .before .before .failed-by .ensures)
+    let near = c .before .before .before in
+    blocks-done _ _ _ _ _ _ _ _ _ _ _
+    (c .before .loop .inv _ (shown-by _ _ _ _ _ _ _ _ _ (near .before .before .failed-by .ensures) (near .before .working-nodes .ensures) (near .neighbours .ensures)))
+    (c .loop-test .left)
 
 pub examine-spec : {M : Type 1} → statement M
 examine-spec =
-    tie.close (tie.spec failed-by-requires working-nodes-requires neighbours-requires add-cut-requires returns)
+    tie.close
+    (tie.spec
+    Inv-loop
+    μ-loop
+    failed-by-requires
+    working-nodes-requires
+    neighbours-requires
+    start-of-requires
+    loop-holds
+    lowest-requires
+    mul-add-cut
+    add-cut-requires
+    rest-requires
+    loop-less
+    loop-again
+    same-length
+    returns)

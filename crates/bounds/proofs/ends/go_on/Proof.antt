@@ -2,6 +2,7 @@
 use native.Mathlib.Omega.{arith}
 use borrow.Author.Tests.{not-true, not-false}
 use Rattle.network.specs.Code.{outage}
+use Rattle.bounds.proofs.Examining.{first-fits, examined}
 use Rattle.bounds.proofs.Turn.{Turn, stopped, mass-fits, number-fits, room, less, turned}
 use Rattle.bounds.proofs.ends.go_on.Statement.{statement}
 use Rattle.bounds.proofs.ends.go_on.Tie as tie
@@ -39,8 +40,13 @@ returns c =
 examine-requires : tie.Need-examine-requires Inv-loop μ-loop
 examine-requires c κs =
     let ready = c .before .before .before .before .before .loop .inv .ready in
-    let s = c .before .before .before .next-relevant .ensures in
-    (ready .held, (c .before .before .before .before .before .before .pre .0, (s .decided, room _ _ _ _ _ _ ready _ _ s (not-false _ (c .before .if1 .left)))))
+    let s = c .before .before .before .next-relevant .ensures in (
+      ready .held,
+      (
+        c .before .before .before .before .before .before .pre .0,
+        (s .decided, first-fits _ _ _ (ready .held .links-held .nodes-fit) (room _ _ _ _ _ _ ready _ _ s (not-false _ (c .before .if1 .left)))),
+      ),
+    )
 
 add-number : tie.Need-add-number Inv-loop μ-loop
 add-number c =
@@ -56,7 +62,10 @@ loop-less c = less _ _ _ _ _ _ (c .before .before .before .before .before .befor
 loop-again : tie.Need-loop-again Inv-loop μ-loop
 loop-again c =
     let t = c .before .before .before .before .before .before .before .loop .inv in
-    turned _ _ _ _ _ _ (t .ready) _ _ (c .before .before .before .before .before .next-relevant .ensures) (not-false _ (c .before .before .before .if1 .left)) _ _ (c .before .examine .ensures) _ _ _ (t .goes)
+    let next = c .before .before .before .before .before .next-relevant in
+    let found = not-false _ (c .before .before .before .if1 .left) in
+    let added = examined _ _ _ _ (next .result) _ _ (t .ready .held .links-held .nodes-fit) (room _ _ _ _ _ _ (t .ready) _ _ (next .ensures) found) (c .before .examine .ensures) in
+    turned _ _ _ _ _ _ (t .ready) _ _ (next .ensures) found _ _ added _ _ _ (t .goes)
 
 pub go-on-spec : {M : Type 1} → statement M
 go-on-spec =

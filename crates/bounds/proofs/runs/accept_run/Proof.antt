@@ -1,6 +1,7 @@
 -- `bounds::runs::accept_run` meets its contract: the test that refuses first decides. Assumes nothing.
 use mathlib.Core.Path.{sym, _∙_}
 use borrow.Author.Needs.{needs}
+use native.Mathlib.Omega.{arith}
 use Rattle.bounds.proofs.Outcome.{lists-refuse, rooms-decide, rooms-fit}
 use Rattle.bounds.proofs.runs.accept_run.Statement.{statement}
 use Rattle.bounds.proofs.runs.accept_run.Tie as tie
@@ -15,20 +16,25 @@ returns c =
       λ z. absurd (c .if1 .taken z),
     )
 
+start-of-requires : tie.Need-start-of-requires
+start-of-requires c κs = (c .before .accept .ensures .1 .0 (c .if1 .left) .held .links-held .nodes-fit, omega arith)
+
 bounds-test-requires : tie.Need-bounds-test-requires
-bounds-test-requires c κs = c .before .accept .ensures .1 .0 (c .if1 .left) .held .links-held .nodes-fit
+bounds-test-requires c κs = search needs
 
 returns-2 : tie.Need-returns-2
 returns-2 c =
-    let f = c .before in
+    let pairs = c .before .start-of .ensures in
+    let f = c .before .before in
     let a = f .before .before .before .before .before .before .args in
-    let lists = f .before .accept .ensures in (
-      rooms-decide (a .h) (a .links .now) (a .events .now) (a .lower-room) (a .upper-room) _ _ (lists .0) (f .if1 .left) (c .bounds-test .ensures),
+    let lists = f .before .accept .ensures in
+    let short = rw pairs at (c .bounds-test .ensures) in (
+      rooms-decide (a .h) (a .links .now) (a .events .now) (a .lower-room) (a .upper-room) _ _ (lists .0) (f .if1 .left) short,
       λ z. (
         lists .1 .0 (f .if1 .left),
-        rooms-fit (a .h) (a .links .now) (a .events .now) (a .lower-room) (a .upper-room) (sym (c .bounds-test .ensures) ∙ z),
+        rooms-fit (a .h) (a .links .now) (a .events .now) (a .lower-room) (a .upper-room) (sym short ∙ z),
       ),
     )
 
 pub accept-run-spec : {M : Type 1} → statement M
-accept-run-spec = tie.close (tie.spec accept-requires returns bounds-test-requires returns-2)
+accept-run-spec = tie.close (tie.spec accept-requires returns start-of-requires bounds-test-requires returns-2)
