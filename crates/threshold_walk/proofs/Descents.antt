@@ -1,0 +1,276 @@
+-- From a branch in hand down to where no "fails" side is left pending, as laws of the stack's words, for every threshold at once.
+-- Assumes nothing.
+use mathlib.Core.Path.{_≡_, refl, ap, sym, _∙_}
+use mathlib.Core.List.{List, [], _∷_, _++_, append-assoc}
+use Prim.Native.Nat.{ℕ, suc, _+_, _-_, _*_, _^_, _≤_, _<_}
+use native.Mathlib.Decide.{decLt}
+use native.Mathlib.Nat.{pow-succ'}
+use native.Mathlib.Numerals.{add-one}
+use native.Mathlib.Omega.{arith}
+use lib.ListN.{length, getD, drop, length-drop, length-append, length-map}
+use Rattle.mass.specs.Split.{certain, whole, failing, working}
+use Rattle.mass.proofs.Theorems.{fails-le, works-le}
+use Rattle.sets.specs.Sets.{joined}
+use Rattle.plan.specs.Plan.{Event}
+use Rattle.plan.specs.Lists.{eventsOf}
+use Rattle.plan.specs.Held.{Falling}
+use Rattle.walk.specs.Scenario.{scenarioOf}
+use Rattle.walk.specs.Ends.{End, dropped, after, ends}
+use Rattle.walk.specs.Pending.{Branch, branchEnds}
+use Rattle.walk.specs.Stack.{branchOf}
+use Rattle.walk.specs.Steps.{Stopped}
+use Rattle.walk.specs.declared.Stop.{Stop}
+use Rattle.walk.proofs.Descents.{probable, branch-parts}
+use Rattle.walk.proofs.Resume.{ends-some}
+use Rattle.threshold_walk.specs.Stack.{entryEnds, stackEnds, toCome, SoundEntry, SoundEntries, Stack}
+use Rattle.threshold_walk.specs.Paths.{Pushed, Faint, Halted, pathEnds, SoundPath, PathTaken}
+use Rattle.threshold_walk.specs.declared.Halt.{Halt}
+use Rattle.threshold_walk.specs.declared.WorksPath.{WorksPath}
+use Rattle.threshold_walk.proofs.Words.{words-at, laid-size, laid-words}
+use Rattle.threshold_walk.proofs.Stops.{entry-none, entry-some, branch-cut}
+
+-- on the way down: a branch in hand, the pending entries on the stack, and for every threshold the same ends to come as at the start
+pub record Going (count lowest : ℕ) (words : List ℕ) (at depth₀ mass₀ low high : ℕ) (stack₀ : List ℕ) (depth mass top : ℕ) (stack : List ℕ) : Type 0 where
+  pub hand : SoundEntry count depth mass low high whole (length (drop top stack))
+  pub held : Stack count top stack
+  pub ahead : (t : ℕ)
+      → branchEnds t (eventsOf count words) (branchOf depth₀ mass₀ low high) ++ toCome count t words at stack₀
+      ≡ branchEnds t (eventsOf count words) (branchOf depth mass low high) ++ toCome count t words top stack
+  pub lighter : mass ≤ mass₀
+  pub still : mass₀ < lowest → top ≡ at
+
+module _ (count lowest : ℕ) (words : List ℕ) (at depth₀ mass₀ low high : ℕ) (stack₀ : List ℕ) (depth mass top : ℕ) (stack : List ℕ)
+    (g : Going count lowest words at depth₀ mass₀ low high stack₀ depth mass top stack) where
+  pub halts : Faint count lowest words depth mass
+      → Halted count lowest words at depth₀ mass₀ low high stack₀ stack (record { at = top; depth = depth; mass = mass })
+  halts faint =
+      record {
+        ends = λ t h. g .ahead t;
+        held = g .held;
+        deep = g .hand .deep;
+        decided = g .hand .decided;
+        lighter = g .lighter;
+        faint = faint;
+        still = g .still;
+      }
+
+  module _ (few : count ≤ 128) (falls : Falling certain (eventsOf count words)) (h : lowest ≤ mass) (l : depth < count) where
+    pub room : 5 ≤ top
+    room = omega (arith, g .hand .room, length-drop top stack, g .held .sized)
+
+    again : top - 5 + 5 ≡ top
+    again = omega (arith, room)
+
+    pub room-next : top - 5 + 5 ≤ 640
+    room-next = omega (arith, again, g .held .within)
+
+    -- the "fails" side is laid down, and the "works" side is in hand
+    module _ (stack′ : List ℕ) (fails works : ℕ) (failed : fails ≡ failing mass (getD words (depth * 4) 0))
+        (worked : works ≡ working mass (getD words (depth * 4) 0)) (d : Pushed depth fails low high mass (top - 5) stack stack′) where
+      events : List Event
+      events = eventsOf count words
+
+      fits : getD words (depth * 4) 0 ≤ certain
+      fits = probable count words falls depth l
+
+      size′ : length stack′ ≡ 640
+      size′ = laid-size stack stack′ (top - 5) (depth + 1) fails (d .setLow) (d .setHigh) mass (d .laid) (g .held .sized)
+
+      five : drop (top - 5) stack′ ≡ (depth + 1) ∷ fails ∷ d .setLow ∷ d .setHigh ∷ mass ∷ drop (top - 5 + 5) stack
+      five = laid-words stack stack′ (top - 5) (depth + 1) fails (d .setLow) (d .setHigh) mass (d .laid) (g .held .sized) room-next
+
+      next : 2 ^ (depth + 1) ≡ 2 ^ depth * 2
+      next = omega (arith, pow-succ' 2 depth, ap (λ (n : ℕ). 2 ^ n) (add-one depth))
+
+      less : works ≤ mass
+      less = omega (arith, worked, works-le mass (getD words (depth * 4) 0) fits)
+
+      laid : SoundEntry count (depth + 1) fails (d .setLow) (d .setHigh) mass (length (drop top stack))
+      laid =
+          record {
+            deep = omega arith;
+            lighter = omega (arith, failed, fails-le mass (getD words (depth * 4) 0) fits);
+            light = g .hand .lighter;
+            word = d .word;
+            decided = omega (arith, d .set, g .hand .decided, next);
+            room = omega (arith, g .hand .room);
+          }
+
+      -- for a threshold that the branch meets both sides are its ends, for any other it has ended
+      both : (t : ℕ) → Dec (mass < t)
+          → branchEnds t events (branchOf depth mass low high) ++ toCome count t words top stack
+          ≡ branchEnds t events (branchOf (depth + 1) works low high) ++ toCome count t words (top - 5) stack′
+      unfolding events
+      both t (yes c) =
+          rw (
+            branch-cut t (eventsOf count words) (branchOf depth mass low high) c,
+            branch-cut t (eventsOf count words) (branchOf (depth + 1) works low high) (omega (arith, less)),
+            five,
+            again,
+            entry-none mass t (eventsOf count words) (branchOf (depth + 1) fails (d .setLow) (d .setHigh)) c,
+          )
+      both t (no c) =
+          rw (
+            branch-parts count t words depth mass low high l (omega arith) (g .hand .decided) fails works (d .setLow) (d .setHigh) failed worked (d .set),
+            append-assoc,
+            five,
+            again,
+            entry-some mass t (eventsOf count words) (branchOf (depth + 1) fails (d .setLow) (d .setHigh)) (omega arith),
+          )
+
+      pub down : Going count lowest words at depth₀ mass₀ low high stack₀ (depth + 1) works (top - 5) stack′
+      unfolding events
+      down =
+          record {
+            hand =
+                record {
+                  deep = omega arith;
+                  lighter = omega (arith, less, g .hand .lighter);
+                  light = omega arith;
+                  word = g .hand .word;
+                  decided = omega (arith, g .hand .decided, next);
+                  room = omega (arith, length-drop (top - 5) stack′, size′, g .hand .room, length-drop top stack, g .held .sized);
+                };
+            held =
+                record {
+                  fives = omega (arith, g .held .fives, room);
+                  within = omega (arith, g .held .within);
+                  sized = size′;
+                  entries = rw (five, again) (laid, g .held .entries);
+                };
+            ahead = λ t. g .ahead t ∙ both t (decLt mass t);
+            lighter = omega (arith, less, g .lighter);
+            still = λ z. absurd (omega (arith, g .lighter));
+          }
+
+-- the next branch is taken off the stack
+module _ (count : ℕ) (words : List ℕ) (at : ℕ) (stack : List ℕ) (s : Stack count at stack) (h : at < 640) where
+  abbrev pub depthAt : ℕ
+  depthAt = getD stack at 0
+
+  abbrev pub massAt : ℕ
+  massAt = getD stack (at + 1) 0
+
+  abbrev pub lowAt : ℕ
+  lowAt = getD stack (at + 2) 0
+
+  abbrev pub highAt : ℕ
+  highAt = getD stack (at + 3) 0
+
+  abbrev pub parentAt : ℕ
+  parentAt = getD stack (at + 4) 0
+
+  inside : at + 5 ≤ length stack
+  inside = omega (arith, s .fives, s .sized)
+
+  all-sound : SoundEntries count (depthAt ∷ massAt ∷ lowAt ∷ highAt ∷ parentAt ∷ drop (at + 5) stack)
+  all-sound = rw (words-at stack at inside) at (s .entries)
+
+  pub under : Stack count (at + 5) stack
+  under = record { fives = omega (arith, s .fives); within = omega (arith, s .fives); sized = s .sized; entries = all-sound .1 }
+
+  pub taken : SoundEntry count depthAt massAt lowAt highAt parentAt (length (drop (at + 5) stack))
+  taken = all-sound .0
+
+  pub taken-whole : SoundEntry count depthAt massAt lowAt highAt whole (length (drop (at + 5) stack))
+  taken-whole =
+      record {
+        deep = taken .deep;
+        lighter = omega (arith, taken .lighter, taken .light);
+        light = omega arith;
+        word = taken .word;
+        decided = taken .decided;
+        room = taken .room;
+      }
+
+  taken-ends : (t : ℕ) → toCome count t words at stack
+      ≡ entryEnds t (eventsOf count words) parentAt (branchOf depthAt massAt lowAt highAt) ++ toCome count t words (at + 5) stack
+  taken-ends t = rw (words-at stack at inside)
+
+  -- and gone down from, to where its "works" path stops
+  module _ (lowest : ℕ) (stack′ : List ℕ) (halt : Halt) (d : Halted count lowest words (at + 5) depthAt massAt lowAt highAt stack stack′ halt)
+      (end : Stop) (stopped : Stopped count lowest words (halt .depth) (halt .mass) end) where
+    abbrev path : WorksPath
+    path =
+        record {
+          at = halt .at;
+          parent = parentAt;
+          depth = halt .depth;
+          mass = halt .mass;
+          low = lowAt;
+          high = highAt;
+          stop = end .depth;
+          last = end .mass;
+        }
+
+    cancel : {x : End} {xs ys : List End} → x ∷ xs ≡ x ∷ ys → xs ≡ ys
+    cancel e = ap (λ (l : List End). drop 1 l) e
+
+    -- for each threshold: where the walk does not come to the branch, nothing is to come off
+    ends-both : (t : ℕ) → lowest ≤ t → Dec (parentAt < t)
+        → toCome count t words at stack ≡ pathEnds count t words path ++ toCome count t words (halt .at) stack′
+    ends-both t l (yes c) =
+        let same : toCome count t words (at + 5) stack ≡ toCome count t words (halt .at) stack′ =
+        cancel
+        (rw (
+          branch-cut t (eventsOf count words) (branchOf depthAt massAt lowAt highAt) (omega (arith, taken .lighter)),
+          branch-cut t (eventsOf count words) (branchOf (halt .depth) (halt .mass) lowAt highAt) (omega (arith, taken .lighter, d .lighter)),
+        ) at (d .ends t l)) in
+        taken-ends t
+        ∙ rw (
+          entry-none parentAt t (eventsOf count words) (branchOf depthAt massAt lowAt highAt) c,
+          entry-none parentAt t (eventsOf count words) (branchOf (halt .depth) (halt .mass) lowAt highAt) c,
+        ) same
+    ends-both t l (no c) =
+        taken-ends t
+        ∙ rw (
+          entry-some parentAt t (eventsOf count words) (branchOf depthAt massAt lowAt highAt) (omega arith),
+          entry-some parentAt t (eventsOf count words) (branchOf (halt .depth) (halt .mass) lowAt highAt) (omega arith),
+        ) (d .ends t l)
+
+    ends-all : (t : ℕ) → lowest ≤ t → toCome count t words at stack ≡ pathEnds count t words path ++ toCome count t words (halt .at) stack′
+    ends-all t l = ends-both t l (decLt parentAt t)
+
+    -- a branch has an end
+    some : lowest ≤ parentAt → 0 < length (pathEnds count lowest words path)
+    some l =
+        rw (
+          entry-some parentAt lowest (eventsOf count words) (branchOf (halt .depth) (halt .mass) lowAt highAt) l,
+          length-map rest-ends (after (scenarioOf (halt .depth) (joined lowAt highAt))),
+        ) (ends-some lowest (halt .mass) (drop (length (scenarioOf (halt .depth) (joined lowAt highAt))) (eventsOf count words)))
+      where
+        rest-ends : List End
+        rest-ends = ends lowest (halt .mass) (drop (length (scenarioOf (halt .depth) (joined lowAt highAt))) (eventsOf count words))
+
+    fewer : Dec (parentAt < lowest)
+        → length (toCome count lowest words (halt .at) stack′) * 1024 + (640 - halt .at) < length (toCome count lowest words at stack) * 1024 + (640 - at)
+    fewer (yes c) =
+        let none : pathEnds count lowest words path ≡ [] = entry-none parentAt lowest (eventsOf count words) (branchOf (halt .depth) (halt .mass) lowAt highAt) c in
+        let same : toCome count lowest words at stack ≡ toCome count lowest words (halt .at) stack′ =
+        ends-all lowest (omega arith) ∙ ap (λ (l : List End). l ++ toCome count lowest words (halt .at) stack′) none in
+        omega (arith, ap length same, d .still (omega (arith, taken .lighter)), d .held .within)
+    fewer (no c) =
+        omega (
+          arith,
+          ap length (ends-all lowest (omega arith)),
+          length-append (pathEnds count lowest words path) (toCome count lowest words (halt .at) stack′),
+          some (omega arith),
+          d .held .within,
+        )
+
+    pub path-taken : PathTaken count lowest words at stack stack′ path
+    path-taken =
+        record {
+          ends = ends-all;
+          held = d .held;
+          sound =
+              record {
+                deep = d .deep;
+                lighter = omega (arith, d .lighter, taken .lighter);
+                light = taken .light;
+                decided = d .decided;
+                faint = d .faint;
+                stops = stopped;
+              };
+          fewer = fewer (decLt parentAt lowest);
+        }

@@ -1,0 +1,67 @@
+-- The stack of a walk for several thresholds at once (document 02, request U8): what its words denote for any one threshold.
+-- Assumes nothing.
+use mathlib.Core.Path.{_≡_, refl}
+use mathlib.Core.Bool.{true, false}
+use mathlib.Core.List.{List, [], _∷_, _++_}
+use Prim.Native.Nat.{ℕ, _+_, _*_, _%_, _^_, _≤_, _<_}
+use lib.Dec.{ltb}
+use lib.ListN.{length, drop}
+use Rattle.mass.specs.Split.{whole}
+use Rattle.sets.specs.Sets.{joined}
+use Rattle.plan.specs.Plan.{Event}
+use Rattle.plan.specs.Lists.{eventsOf}
+use Rattle.walk.specs.Ends.{End, dropped, relevant, ends}
+use Rattle.walk.specs.Pending.{Branch, branchEnds}
+use Rattle.walk.specs.Stack.{branchOf}
+
+-- the ends of a pending branch in the walk with the threshold t: none where the mass before its last event, `parent`, is below t, since
+-- that walk ended there
+unfoldable pub entryEnds : ℕ → List Event → ℕ → Branch → List End
+entryEnds t events parent b = elim (ltb parent t) [ true ↦ [] | false ↦ branchEnds t events b ]
+
+-- the ends that a list of words stands for in the walk with the threshold t, five words to a branch, the next one first: its depth, its
+-- mass, its failing events in two words, and the mass before its last event
+abbrev pub stackEnds : ℕ → List Event → List ℕ → List End
+stackEnds t events [] = []
+stackEnds t events (a ∷ []) = []
+stackEnds t events (a ∷ b ∷ []) = []
+stackEnds t events (a ∷ b ∷ c ∷ []) = []
+stackEnds t events (a ∷ b ∷ c ∷ d ∷ []) = []
+stackEnds t events (depth ∷ mass ∷ low ∷ high ∷ parent ∷ rest) =
+    entryEnds t events parent (branchOf depth mass low high) ++ stackEnds t events rest
+
+-- example: a branch of mass 4 after a mass of 5, with no event left: relevant at a threshold of 4, dropped at 5, and not come to at 6
+example-stack : (stackEnds 4 [] (0 ∷ 4 ∷ 0 ∷ 0 ∷ 5 ∷ []) ≡ relevant [] 4 ∷ []) × (stackEnds 5 [] (0 ∷ 4 ∷ 0 ∷ 0 ∷ 5 ∷ []) ≡ dropped ∷ [])
+    × (stackEnds 6 [] (0 ∷ 4 ∷ 0 ∷ 0 ∷ 5 ∷ []) ≡ [])
+unfolding entryEnds ends
+example-stack = (refl, refl, refl)
+
+-- the ends still to come in the walk with the threshold t: the stack is the words from `at` on; `count` events in `words`
+abbrev pub toCome : ℕ → ℕ → List ℕ → ℕ → List ℕ → List End
+toCome count t words at stack = stackEnds t (eventsOf count words) (drop at stack)
+
+-- what holds of a branch in five words, and of the words under them: no more entries lie under a branch than its depth says
+pub record SoundEntry (count depth mass low high parent below : ℕ) : Type 0 where
+  pub deep : depth ≤ count
+  pub lighter : mass ≤ parent
+  pub light : parent ≤ whole
+  pub word : low < 2 ^ 64
+  pub decided : joined low high < 2 ^ depth
+  pub room : below ≤ 5 * depth
+
+-- what holds of each entry of the stack
+abbrev pub SoundEntries : ℕ → List ℕ → Type 0
+SoundEntries count [] = Unit {0}
+SoundEntries count (a ∷ []) = ⊥
+SoundEntries count (a ∷ b ∷ []) = ⊥
+SoundEntries count (a ∷ b ∷ c ∷ []) = ⊥
+SoundEntries count (a ∷ b ∷ c ∷ d ∷ []) = ⊥
+SoundEntries count (depth ∷ mass ∷ low ∷ high ∷ parent ∷ rest) =
+    SoundEntry count depth mass low high parent (length rest) × SoundEntries count rest
+
+-- a stack that the walk may go on with
+pub record Stack (count at : ℕ) (stack : List ℕ) : Type 0 where
+  pub fives : at % 5 ≡ 0
+  pub within : at ≤ 640
+  pub sized : length stack ≡ 640
+  pub entries : SoundEntries count (drop at stack)
