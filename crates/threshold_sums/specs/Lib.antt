@@ -1,0 +1,2 @@
+-- What the contracts of the crate `threshold_sums` cite.
+pub mod Walked

@@ -1,0 +1,123 @@
+// The loops of the walk for several thresholds.
+use crate::paths::add_path;
+use crate::paths::count_path;
+use plan::Header;
+use threshold_walk::begin;
+use threshold_walk::next_path;
+ghost use mathlib.Core.Path.{_≡_};
+ghost use mathlib.Core.Logic.{_⊎_};
+ghost use Prim.Native.Nat.{_-_, _*_, _≤_, _<_};
+ghost use lib.ListN.{length, getD};
+ghost use Rattle.plan.specs.Held.{Held};
+ghost use Rattle.network.specs.Table.{LinksAt};
+ghost use Rattle.pairs.specs.Pairs.{pairCount};
+ghost use Rattle.threshold_walk.specs.Stack.{Stack};
+ghost use Rattle.threshold_sums.specs.Walked.{FallingFirst, Places, Ledgers, Kept, Fresh, AllSettled};
+
+// Goes on with the walk for the first `active` thresholds until the lowest of them has reached more ends than the cap, or no branch is
+// pending. Returns where the stack then begins.
+fn walk_with(
+    h: Header,
+    links: &[u8; 256],
+    words: &[u64; 512],
+    table: &[u64; 128],
+    list: &[u64; 16],
+    active: usize,
+    stack: &mut [u64; 640],
+    start: usize,
+    rooms: &mut [u64; 16],
+    counts: &mut [u64; 16],
+    masses: &mut [u64; 16],
+    lower: &mut [u64],
+) -> usize
+    requires { ⌜ Held h (now links) (now words) ⌝ }
+    requires { ⌜ LinksAt (now links) (h .links) (now table) ⌝ }
+    requires { ⌜ FallingFirst active (now list) × (1 ≤ active) × (h .limit < 4294967296) ⌝ }
+    requires { ⌜ Stack (h .events) start (now stack) × (pairCount (h .nodes) * active ≤ length (now lower))
+        × Places (now rooms) (now counts) (now masses) ⌝ }
+    requires { ⌜ Ledgers h (now links) (now words) (now list) active start (now stack) (now rooms) (now counts) (now masses) (now lower) ⌝ }
+    ensures { λ r. ⌜ Stack (h .events) r (now (stack .exit)) ⌝ }
+    ensures { λ r. ⌜ Ledgers h (now (links .entry)) (now (words .entry)) (now (list .entry)) active r (now (stack .exit))
+        (now (rooms .exit)) (now (counts .exit)) (now (masses .exit)) (now (lower .exit)) ⌝ }
+    ensures { λ r. ⌜ Kept h active (now (rooms .entry)) (now (counts .entry)) (now (masses .entry)) (now (lower .entry))
+        (now (rooms .exit)) (now (counts .exit)) (now (masses .exit)) (now (lower .exit)) ⌝ }
+    ensures { λ r. ⌜ (getD (now (rooms .exit)) (active - 1) 0 ≡ 0) ⊎ (r ≡ 640) ⌝ }
+{
+    let lowest = list[active - 1];
+    let mut at = start;
+    // For each of the first `active` thresholds, what was reached and what is to come give its plan's answers; all else is untouched.
+    // Each turn takes a branch off the stack: fewer ends of the lowest threshold are to come, or fewer branches are pending.
+    while at < 640 {
+        if rooms[active - 1] == 0 {
+            return at;
+        }
+        let path = next_path(h.events, lowest, words, &mut *stack, at);
+        at = path.at;
+        add_path(
+            h,
+            links,
+            words,
+            table,
+            list,
+            active,
+            path,
+            rooms,
+            &mut *lower,
+        );
+        count_path(
+            h.events,
+            words,
+            list,
+            active,
+            path,
+            &mut *rooms,
+            &mut *counts,
+            &mut *masses,
+        );
+    }
+    at
+}
+
+// The walk for the first `number` thresholds of a list: one after another reaches more ends than the cap, the lowest first, or no branch is
+// pending.
+pub fn walk_all(
+    h: Header,
+    links: &[u8; 256],
+    words: &[u64; 512],
+    list: &[u64; 16],
+    number: usize,
+    rooms: &mut [u64; 16],
+    counts: &mut [u64; 16],
+    masses: &mut [u64; 16],
+    lower: &mut [u64],
+)
+    requires { ⌜ Held h (now links) (now words) ⌝ }
+    requires { ⌜ FallingFirst number (now list) × (h .limit < 4294967296) ⌝ }
+    requires { ⌜ Fresh h number (now rooms) (now counts) (now masses) (now lower) ⌝ }
+    ensures { λ r. ⌜ AllSettled h (now (links .entry)) (now (words .entry)) (now (list .entry)) number
+        (now (rooms .entry)) (now (counts .entry)) (now (masses .entry)) (now (lower .entry))
+        (now (rooms .exit)) (now (counts .exit)) (now (masses .exit)) (now (lower .exit)) ⌝ }
+{
+    let table = network::links_at(h.nodes as usize, links, h.links as usize);
+    let mut stack = [0u64; 640];
+    let mut at = begin(&mut stack);
+    let mut active = number;
+    // The walks of the thresholds past the first `active` have ended. Each turn ends that of the lowest that is under way.
+    while 0 < active {
+        at = walk_with(
+            h,
+            links,
+            words,
+            &table,
+            list,
+            active,
+            &mut stack,
+            at,
+            &mut *rooms,
+            &mut *counts,
+            &mut *masses,
+            &mut *lower,
+        );
+        active -= 1;
+    }
+}
