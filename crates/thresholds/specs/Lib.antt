@@ -1,0 +1,4 @@
+-- What the contracts of the crate `thresholds` cite.
+pub mod Thresholds
+pub mod Steps
+pub mod Examples
