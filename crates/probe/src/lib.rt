@@ -7,6 +7,7 @@ mod equipment;
 mod further;
 mod list;
 mod reach;
+mod several;
 mod walks;
 mod work;
 

@@ -1,0 +1,98 @@
+-- `threshold_answers::give_places` meets its contract. The loop's invariant: the words of the first i places are laid down. Assumes nothing.
+use mathlib.Core.Path.{_≡_, refl, _∙_}
+use Prim.Native.Nat.{ℕ, _-_}
+use borrow.Author.Needs.{needs, length-unmapped}
+use native.Mathlib.Omega.{arith}
+use lib.ListN.{length, take}
+use lib.Seq.{sets}
+use Rattle.threshold_answers.specs.ThresholdAnswers.{inTurn}
+use Rattle.threshold_answers.proofs.PlaceLaws.{laid-long, place-on, places-all}
+use Rattle.threshold_answers.proofs.give_places.Statement.{statement}
+use Rattle.threshold_answers.proofs.give_places.Tie as tie
+
+abbrev Inv-loop : tie.InvT-loop
+Inv-loop answer result₀ count complete mass i₀ result i = result ≡ sets result₀ 0 (inTurn (take i count) (take i complete) (take i mass))
+
+abbrev μ-loop : tie.MeasureT-loop
+μ-loop answer result₀ count complete mass i₀ result i = 16 - i
+
+-- each list of the answer has 16 places
+count-size : (c : tie.Start Inv-loop μ-loop) → length (c .args .answer .count) ≡ 16
+count-size c = length-unmapped ℕ (c .args .answer .count) 16 (c .good .0 .1 .1 .1 .0 .1 .0 .1)
+
+complete-size : (c : tie.Start Inv-loop μ-loop) → length (c .args .answer .complete) ≡ 16
+complete-size c = length-unmapped ℕ (c .args .answer .complete) 16 (c .good .0 .1 .1 .1 .1 .0 .1 .0 .1)
+
+mass-size : (c : tie.Start Inv-loop μ-loop) → length (c .args .answer .mass) ≡ 16
+mass-size c = length-unmapped ℕ (c .args .answer .mass) 16 (c .good .0 .1 .1 .1 .1 .1 .0 .1 .0 .1)
+
+loop-holds : tie.Need-loop-holds Inv-loop μ-loop
+loop-holds c = refl
+
+mul-give-place : tie.Need-mul-give-place Inv-loop μ-loop
+mul-give-place c = search needs
+
+mul-give-place-2 : tie.Need-mul-give-place-2 Inv-loop μ-loop
+mul-give-place-2 c = search needs
+
+array-read-give-place : tie.Need-array-read-give-place Inv-loop μ-loop
+array-read-give-place c = search needs
+
+mul-give-place-3 : tie.Need-mul-give-place-3 Inv-loop μ-loop
+mul-give-place-3 c = search needs
+
+array-read-give-place-2 : tie.Need-array-read-give-place-2 Inv-loop μ-loop
+array-read-give-place-2 c = search needs
+
+mul-give-place-4 : tie.Need-mul-give-place-4 Inv-loop μ-loop
+mul-give-place-4 c = search needs
+
+array-read-give-place-3 : tie.Need-array-read-give-place-3 Inv-loop μ-loop
+array-read-give-place-3 c = search needs
+
+give-place-requires : tie.Need-give-place-requires Inv-loop μ-loop
+give-place-requires c κs = search needs
+
+add-i : tie.Need-add-i Inv-loop μ-loop
+add-i c = search needs
+
+loop-less : tie.Need-loop-less Inv-loop μ-loop
+loop-less c = search needs
+
+loop-again : tie.Need-loop-again Inv-loop μ-loop
+loop-again c =
+    let in-loop = c .before .before .before .before in
+    let s = in-loop .before .before .before .before .before .before in
+    place-on _ _ _ (count-size s) (complete-size s) (mass-size s) _ _ _ _ (in-loop .loop-test .taken) (in-loop .before .loop .inv) (c .before .before .give-place .ensures)
+
+same-length : tie.Need-same-length Inv-loop μ-loop
+same-length c =
+    let a = c .before .before .before .before .before .before .args in
+    let i = c .before .loop .i in
+    laid-long _ (a .result .now) (inTurn (take i (a .answer .count)) (take i (a .answer .complete)) (take i (a .answer .mass))) (c .before .loop .inv)
+
+returns : tie.Need-returns Inv-loop μ-loop
+returns c =
+    let s = c .before .before .before .before .before .before in
+    (refl, places-all _ _ _ (count-size s) (complete-size s) (mass-size s) _ _ _ (c .loop-test .left) (c .before .loop .inv))
+
+pub give-places-spec : {M : Type 1} → statement M
+give-places-spec =
+    tie.close
+    (tie.spec
+    Inv-loop
+    μ-loop
+    loop-holds
+    mul-give-place
+    mul-give-place-2
+    array-read-give-place
+    mul-give-place-3
+    array-read-give-place-2
+    mul-give-place-4
+    array-read-give-place-3
+    give-place-requires
+    add-i
+    loop-less
+    loop-again
+    same-length
+    returns)
