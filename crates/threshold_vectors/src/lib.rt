@@ -1,0 +1,52 @@
+// What the test programs of several thresholds share: document 02, request U8. The call, with a contract that says nothing (what a program
+// holds an answer to is all written down in it), and holding answers and lists to what they should be.
+// Assumes nothing.
+use thresholds::Answered;
+use thresholds::CommonHeader;
+use thresholds::thresholds;
+use vectors::WORD;
+use vectors::same;
+use vectors::same_at;
+
+pub fn call(
+    h: CommonHeader,
+    links: &[u8],
+    events: &[u64],
+    list: &[u64],
+    lower: &mut [u64],
+    upper: &mut [u64],
+) -> Answered {
+    thresholds(h, links, events, list, lower, upper)
+}
+
+// Holds every word of a list from a place on to one value.
+fn rest(label: &[u8], list: &[u64], from: usize, want: u64) {
+    let mut i = from;
+    while i < list.len() {
+        same_at(label, i, list[i], want);
+        i += 1;
+    }
+}
+
+// An answer's number, and 0 at the places from `from` on.
+pub fn answered(label: &[u8], a: Answered, number: u64, from: usize) {
+    same(label, a.number as u64, number);
+    let counts = a.count;
+    let completes = a.complete;
+    let masses = a.mass;
+    rest(label, &counts, from, 0);
+    rest(label, &completes, from, 0);
+    rest(label, &masses, from, 0);
+}
+
+// Two lists of bounds are untouched from an entry on.
+pub fn untouched(label: &[u8], lower: &[u64], upper: &[u64], from: usize) {
+    rest(label, lower, from, WORD);
+    rest(label, upper, from, WORD);
+}
+
+// A refusal: all 48 numbers are 0, and both lists are untouched.
+pub fn refused(label: &[u8], a: Answered, lower: &[u64], upper: &[u64], number: u64) {
+    answered(label, a, number, 0);
+    untouched(label, lower, upper, 0);
+}
