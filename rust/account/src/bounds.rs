@@ -13,11 +13,27 @@ pub struct Bounds {
 }
 
 /// What a run answers beside its lists.
-#[derive(Clone, Copy, Debug, PartialEq, Eq)]
+#[derive(Clone, Copy, Debug, Default, PartialEq, Eq)]
 pub struct Outcome {
     pub count: u64,
     pub complete: u64,
     pub mass: u64,
+}
+
+impl Outcome {
+    /// The outcome of three words: count, complete and E.
+    pub fn of_words([count, complete, mass]: [u64; 3]) -> Outcome {
+        Outcome {
+            count,
+            complete,
+            mass,
+        }
+    }
+
+    /// The three words of an outcome.
+    pub fn words(self) -> [u64; 3] {
+        [self.count, self.complete, self.mass]
+    }
 }
 
 /// The outcome of a walk.

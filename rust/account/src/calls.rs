@@ -52,10 +52,10 @@ pub fn write(lent: &Lent, out: &mut [u8]) -> Result<usize, Refusal> {
     Ok(bytes.len())
 }
 
-/// The test of the two lists of bounds: 12.
-pub fn test_room(plan: &Plan, lower: &[u64], upper: &[u64]) -> Result<(), Refusal> {
-    let pairs = plan.nodes * (plan.nodes - 1) / 2;
-    demand(lower.len() >= pairs && upper.len() >= pairs, Refusal::Short)
+/// The test of the two lists of bounds: 12 where one is shorter than so many blocks, each as long as the number of pairs.
+pub fn test_room(plan: &Plan, blocks: usize, lower: &[u64], upper: &[u64]) -> Result<(), Refusal> {
+    let room = blocks * (plan.nodes * (plan.nodes - 1) / 2);
+    demand(lower.len() >= room && upper.len() >= room, Refusal::Short)
 }
 
 /// The run over all pairs into two lists that have room for them, with this out in every scenario.
@@ -71,7 +71,7 @@ pub fn run_into(plan: &Plan, out: Out, lower: &mut [u64], upper: &mut [u64]) -> 
 /// The run: the tests of the lists, then 12 for the two lists of bounds.
 pub fn run(lent: &Lent, lower: &mut [u64], upper: &mut [u64]) -> Result<Outcome, Refusal> {
     let plan = lent.plan()?;
-    test_room(&plan, lower, upper)?;
+    test_room(&plan, 1, lower, upper)?;
     Ok(run_into(&plan, Out::NOTHING, lower, upper))
 }
 

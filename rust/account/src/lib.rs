@@ -17,6 +17,7 @@ pub mod refusal;
 pub mod rounds;
 pub mod sheet;
 mod source;
+pub mod thresholds;
 pub mod topology;
 pub mod walk;
 pub mod wide;

@@ -48,6 +48,8 @@ pub enum Refusal {
     Window = 21,
     /// A minute of the week is above 10,079.
     Minute = 22,
+    /// There is no threshold or more than 16, one is outside 1 to 10^18, or one is not below the one before.
+    Thresholds = 23,
 }
 
 impl Refusal {

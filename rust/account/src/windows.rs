@@ -82,7 +82,7 @@ pub fn run_at(
     upper: &mut [u64],
 ) -> Result<Outcome, Refusal> {
     let plan = lent.plan()?;
-    test_room(&plan, lower, upper)?;
+    test_room(&plan, 1, lower, upper)?;
     let windows = windows_of(windows)?;
     for window in &windows {
         window.test(&plan)?;

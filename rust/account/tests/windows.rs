@@ -28,7 +28,7 @@ fn answer(
     let mut lower = vec![BEFORE; plan.pairs().len() + 3];
     let mut upper = lower.clone();
     let outcome = call(&Lists::of(plan), &mut lower, &mut upper);
-    let totals = outcome.map_or([0; 3], |run| [run.count, run.complete, run.mass]);
+    let totals = outcome.map_or([0; 3], Outcome::words);
     (number(&outcome), totals, lower, upper)
 }
 

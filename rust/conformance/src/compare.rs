@@ -5,14 +5,15 @@ use std::fmt::Debug;
 
 use account::bounds::Outcome;
 use account::rounds::{reach as own_reach, Network};
+use account::thresholds::run_thresholds as own_run_thresholds;
 use account::windows::run_at as own_run_at;
-use account::{calls, number, Header, Lent, Refusal};
+use account::{calls, number, Header, Lent, Plan, Refusal};
 use plans::damage::damaged_lists;
 use plans::valid::random_plan;
 use plans::weeks::Week;
 use plans::{Lists, Rng};
 
-use crate::{probe, rounds, windows};
+use crate::{probe, rounds, thresholds, windows};
 
 /// A length for a lent list: most often enough, sometimes too short.
 pub fn lent_length(rng: &mut Rng, needed: usize) -> usize {
@@ -27,10 +28,15 @@ pub fn lent_length(rng: &mut Rng, needed: usize) -> usize {
 /// Random lists, three in four of them valid.
 pub fn mostly_valid_lists(rng: &mut Rng) -> Lists {
     let plan = random_plan(rng);
+    mostly_valid_lists_of(rng, &plan)
+}
+
+/// The lists of a plan, three times in four valid.
+pub fn mostly_valid_lists_of(rng: &mut Rng, plan: &Plan) -> Lists {
     match rng.below(4) {
-        0 => damaged_lists(rng, &plan),
-        1 => Lists::of(&plan).with_spare(rng),
-        _ => Lists::of(&plan),
+        0 => damaged_lists(rng, plan),
+        1 => Lists::of(plan).with_spare(rng),
+        _ => Lists::of(plan),
     }
 }
 
@@ -106,24 +112,23 @@ pub fn write(rng: &mut Rng, lists: &Lists) -> u32 {
     refusal
 }
 
-/// A call that fills two lists of bounds and gives count, complete and E, beside the account's.
-fn compare_runs(
+/// A call that fills two lists of bounds of these lengths and gives count, complete and E, or several of them, beside the
+/// account's.
+fn compare_runs<const N: usize>(
     rng: &mut Rng,
     lists: &Lists,
     told: &dyn Debug,
-    own: impl FnOnce(&Lent, &mut [u64], &mut [u64]) -> Result<Outcome, Refusal>,
-    call: impl FnOnce(&Lent, &mut [u64], &mut [u64]) -> (u32, [u64; 3]),
+    lengths: [usize; 2],
+    own: impl FnOnce(&Lent, &mut [u64], &mut [u64]) -> Result<[u64; N], Refusal>,
+    call: impl FnOnce(&Lent, &mut [u64], &mut [u64]) -> (u32, [u64; N]),
 ) -> u32 {
     let lent = lists.lent();
-    let needed = lent.plan().map_or(10, |plan| plan.pairs().len());
-    let lengths = [lent_length(rng, needed), lent_length(rng, needed)];
-    let (mut lower, mut upper) = (words(rng, lengths[0]), words(rng, lengths[1]));
+    let [mut lower, mut upper] = lengths.map(|length| words(rng, length));
     let (mut own_lower, mut own_upper) = (lower.clone(), upper.clone());
     let expected = own(&lent, &mut own_lower, &mut own_upper);
     let (refusal, result) = call(&lent, &mut lower, &mut upper);
     assert_eq!(refusal, number(&expected), "{told:?} of {lists:?}");
-    let own_result = expected.map_or([0; 3], |run| [run.count, run.complete, run.mass]);
-    assert_eq!(result, own_result, "{told:?} of {lists:?}");
+    assert_eq!(result, expected.unwrap_or([0; N]), "{told:?} of {lists:?}");
     assert_eq!(
         (lower, upper),
         (own_lower, own_upper),
@@ -132,23 +137,49 @@ fn compare_runs(
     refusal
 }
 
+/// Lengths for two lists of bounds: most often enough for so many entries, sometimes too short.
+pub fn two_lengths(rng: &mut Rng, needed: usize) -> [usize; 2] {
+    [lent_length(rng, needed), lent_length(rng, needed)]
+}
+
+/// Lengths for the two lists of one run.
+fn run_lengths(rng: &mut Rng, lists: &Lists) -> [usize; 2] {
+    let plan = lists.lent().plan();
+    two_lengths(rng, plan.map_or(10, |plan| plan.pairs().len()))
+}
+
 /// The run.
 pub fn run(rng: &mut Rng, lists: &Lists) -> u32 {
-    compare_runs(rng, lists, &"run", calls::run, probe::run)
+    let lengths = run_lengths(rng, lists);
+    let own = |lent: &Lent, lower: &mut [u64], upper: &mut [u64]| {
+        calls::run(lent, lower, upper).map(Outcome::words)
+    };
+    compare_runs(rng, lists, &"run", lengths, own, probe::run)
 }
 
 /// The run with windows.
 pub fn run_at(rng: &mut Rng, lists: &Lists, week: &Week) -> u32 {
-    let Week {
-        windows: list,
-        minute,
-    } = week;
+    let (list, minute) = (&week.windows, week.minute);
+    let lengths = run_lengths(rng, lists);
     compare_runs(
         rng,
         lists,
         week,
-        |lent, lower, upper| own_run_at(lent, list, *minute, lower, upper),
-        |lent, lower, upper| windows::run_at(lent, list, *minute, lower, upper),
+        lengths,
+        |lent, lower, upper| own_run_at(lent, list, minute, lower, upper).map(Outcome::words),
+        |lent, lower, upper| windows::run_at(lent, list, minute, lower, upper),
+    )
+}
+
+/// The runs at several thresholds, with lists of bounds of these lengths.
+pub fn run_thresholds(rng: &mut Rng, lists: &Lists, list: &[u64], lengths: [usize; 2]) -> u32 {
+    compare_runs(
+        rng,
+        lists,
+        &list,
+        lengths,
+        |lent, lower, upper| own_run_thresholds(lent, list, lower, upper).map(thresholds::words_of),
+        |lent, lower, upper| thresholds::run_thresholds(lent, list, lower, upper),
     )
 }
 

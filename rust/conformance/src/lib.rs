@@ -11,6 +11,7 @@ pub mod readings;
 pub mod rounds;
 pub mod sheets;
 pub mod tally;
+pub mod thresholds;
 pub mod windows;
 
 pub use met::Met;

@@ -95,9 +95,9 @@ mod raw {
     }
 }
 
-/// Calls a function with a plan's numbers and lists first, then what follows.
-macro_rules! with_lists {
-    ($call:expr, $lent:expr $(, $more:expr)* $(,)?) => {{
+/// Calls a function with a plan's counts first, then these of its other numbers, its lists and what follows.
+macro_rules! with_numbers {
+    ([$($number:ident),*], $call:expr, $lent:expr $(, $more:expr)* $(,)?) => {{
         let lent = $lent;
         let header = lent.header;
         // Safety: every pointer comes with the length of its slice, and no two slices overlap.
@@ -106,8 +106,7 @@ macro_rules! with_lists {
                 header.nodes,
                 header.links,
                 header.events,
-                header.threshold,
-                header.cap,
+                $(header.$number,)*
                 lent.links.as_ptr(),
                 lent.links.len(),
                 lent.events.as_ptr(),
@@ -116,6 +115,14 @@ macro_rules! with_lists {
             )
         }
     }};
+}
+pub(crate) use with_numbers;
+
+/// Calls a function with a plan's five numbers and its lists first, then what follows.
+macro_rules! with_lists {
+    ($($argument:tt)*) => {
+        $crate::probe::with_numbers!([threshold, cap], $($argument)*)
+    };
 }
 pub(crate) use with_lists;
 

@@ -1,13 +1,14 @@
-//! A whole plan by the proved code: its lists from a file, its file, its bounds, at once, at a minute of the week or in steps,
-//! and the lines of its listing; and the events of an equipment sheet.
+//! A whole plan by the proved code: its lists from a file, its file, its bounds, at once, at a minute of the week, at several
+//! thresholds or in steps, and the lines of its listing; and the events of an equipment sheet.
 
 use account::bounds::{Bounds, Outcome};
 use account::listing::text;
 use account::plan::pairs;
+use account::thresholds::MOST_THRESHOLDS;
 use account::{Event, Header, EVENT_WORDS, MOST_EVENTS, MOST_LINKS};
 use plans::Lists;
 
-use crate::{panel, probe, sheets, windows};
+use crate::{panel, probe, sheets, thresholds, windows};
 
 /// The most pairs of a plan.
 pub const MOST_PAIRS: usize = 2016;
@@ -69,25 +70,40 @@ pub fn run_at(lists: &Lists, list: &[u64], minute: u64) -> Result<Run, u32> {
     })
 }
 
+/// The runs at several thresholds, one for each, in one walk, or the refusal's number. The threshold of the lists is not used.
+pub fn run_thresholds(lists: &Lists, list: &[u64]) -> Result<Vec<Run>, u32> {
+    let room = list.len().min(MOST_THRESHOLDS) * MOST_PAIRS;
+    let (mut lower, mut upper) = (vec![0; room], vec![0; room]);
+    let (refusal, totals) = thresholds::run_thresholds(&lists.lent(), list, &mut lower, &mut upper);
+    if refusal != 0 {
+        return Err(refusal);
+    }
+    let outcomes = thresholds::outcomes_of(&totals).into_iter();
+    let run = |(i, outcome)| (outcome, bounds_of(lists, i, &lower, &upper));
+    Ok(outcomes.take(list.len()).enumerate().map(run).collect())
+}
+
 /// What a call lays down in two lists that have room for every plan, or the refusal's number.
 fn run_by(
     lists: &Lists,
     call: impl FnOnce(&mut [u64], &mut [u64]) -> (u32, [u64; 3]),
 ) -> Result<Run, u32> {
     let (mut lower, mut upper) = (vec![0; MOST_PAIRS], vec![0; MOST_PAIRS]);
-    let (refusal, [count, complete, mass]) = call(&mut lower, &mut upper);
+    let (refusal, totals) = call(&mut lower, &mut upper);
     if refusal != 0 {
         return Err(refusal);
     }
+    let bounds = bounds_of(lists, 0, &lower, &upper);
+    Ok((Outcome::of_words(totals), bounds))
+}
+
+/// Block i of two lists: the bounds of every pair.
+fn bounds_of(lists: &Lists, i: usize, lower: &[u64], upper: &[u64]) -> Vec<Bounds> {
     let nodes = lists.header.nodes as usize;
-    let bounds = lower.into_iter().zip(upper).take(nodes * (nodes - 1) / 2);
-    let outcome = Outcome {
-        count,
-        complete,
-        mass,
-    };
-    let bounds = bounds.map(|(lower, upper)| Bounds { lower, upper });
-    Ok((outcome, bounds.collect()))
+    let pairs = nodes * (nodes - 1) / 2;
+    let entries = lower.iter().zip(upper).skip(i * pairs).take(pairs);
+    let bounds = entries.map(|(&lower, &upper)| Bounds { lower, upper });
+    bounds.collect()
 }
 
 /// A walk that is begun and gone on with, in words of its own.
@@ -126,12 +142,7 @@ impl Walk {
         let mut result = [0; 3];
         let refusal = panel::look(&self.words, &mut result);
         assert_eq!(refusal, 0, "a look at a walk");
-        let [count, complete, mass] = result;
-        Outcome {
-            count,
-            complete,
-            mass,
-        }
+        Outcome::of_words(result)
     }
 
     /// The bounds of every pair so far.

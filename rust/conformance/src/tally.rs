@@ -1,7 +1,7 @@
 //! How often each answer was met.
 
-/// The answers of a call: 0, accepted, and each refusal from 1 to 22.
-const ANSWERS: usize = 23;
+/// The answers of a call: 0, accepted, and each refusal from 1 to 23.
+const ANSWERS: usize = 24;
 
 /// A counter for each answer.
 #[derive(Default)]

@@ -3,6 +3,7 @@
 
 use account::credit::Contract;
 use account::{Header, Lent};
+use conformance::thresholds::run_thresholds;
 use conformance::windows::run_at;
 use conformance::{probe, readings};
 
@@ -147,8 +148,18 @@ const WEEKS: [(&[u64], u64); 4] = [
     (&[], 10_080),
 ];
 
-/// Write, run and pair refuse with this number and change nothing; so does a credit, whatever its pair and terms, and a run
-/// with windows, whatever these and its minute.
+/// Thresholds: right, then none, 17 of them, one at 0, one above 10^18, and one that is as the one before.
+const LISTS_OF_T: [&[u64]; 6] = [
+    &[1_000_000_000_000_000_000, 1],
+    &[],
+    &[17, 16, 15, 14, 13, 12, 11, 10, 9, 8, 7, 6, 5, 4, 3, 2, 1],
+    &[1, 0],
+    &[1_000_000_000_000_000_001, 1],
+    &[1, 1],
+];
+
+/// Write, run and pair refuse with this number and change nothing; so does a credit, whatever its pair and terms, a run with
+/// windows, whatever these and its minute, and, but for 5, the runs at several thresholds, whatever these are.
 #[track_caller]
 fn expect_lists(header: Header, links: &[u8], events: &[u64], number: u32) {
     let lent = Lent {
@@ -170,6 +181,10 @@ fn expect_lists(header: Header, links: &[u8], events: &[u64], number: u32) {
     for (windows, minute) in WEEKS {
         let run = run_at(&lent, windows, minute, &mut lower, &mut upper);
         assert_eq!((run, lower, upper), ((number, [0; 3]), [9; 3], [9; 3]));
+    }
+    for list in LISTS_OF_T.into_iter().filter(|_| number != 5) {
+        let runs = run_thresholds(&lent, list, &mut lower, &mut upper);
+        assert_eq!((runs, lower, upper), ((number, [0; 48]), [9; 3], [9; 3]));
     }
 }
 
@@ -290,6 +305,25 @@ fn refusals_of_windows() {
             let (mut lower, mut upper) = (vec![9; lower], vec![9; upper]);
             let short = run_at(&right(), windows, minute, &mut lower, &mut upper);
             assert_eq!(short, (12, [0; 3]), "{windows:?}");
+        }
+    }
+}
+
+/// The plan has one pair, so two thresholds need two entries. A t of 0 beside them is not taken.
+#[test]
+fn refusals_of_thresholds() {
+    let zero = Header {
+        threshold: 0,
+        ..HEADER
+    };
+    for header in [HEADER, zero] {
+        let lent = Lent { header, ..right() };
+        for (lower, upper, number) in [(2, 2, 0), (1, 2, 12), (2, 1, 12), (0, 0, 12)] {
+            let numbers = LISTS_OF_T.map(|list| {
+                let (mut lower, mut upper) = (vec![9; lower], vec![9; upper]);
+                run_thresholds(&lent, list, &mut lower, &mut upper).0
+            });
+            assert_eq!(numbers, [number, 23, 23, 23, 23, 23]);
         }
     }
 }

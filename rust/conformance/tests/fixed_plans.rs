@@ -20,7 +20,7 @@ fn the_example_files() {
             let run = probe::run(&lists.lent(), &mut lower, &mut upper);
             let own = account::calls::run(&lists.lent(), &mut own_lower, &mut own_upper);
             let own = own.expect("a valid plan");
-            assert_eq!(run, (0, [own.count, own.complete, own.mass]));
+            assert_eq!(run, (0, own.words()));
             assert_eq!((lower, upper), (own_lower, own_upper));
         }
     }

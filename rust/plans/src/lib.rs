@@ -1,10 +1,11 @@
-//! Plans, equipment sheets, networks, contracts and windows for the tests and the benchmark: random ones, valid and damaged,
-//! some that are written down by hand, and the example files.
+//! Plans, equipment sheets, networks, contracts, windows and lists of thresholds for the tests and the benchmark: random ones,
+//! valid and damaged, some that are written down by hand, and the example files.
 
 pub mod contracts;
 pub mod credits;
 pub mod damage;
 pub mod examples;
+pub mod falling;
 pub mod faults;
 pub mod lists;
 pub mod networks;
@@ -13,6 +14,7 @@ pub mod rng;
 pub mod sheet_bytes;
 pub mod sheet_damage;
 pub mod sheets;
+pub mod thresholds;
 pub mod valid;
 pub mod walks;
 pub mod weeks;

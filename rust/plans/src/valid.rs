@@ -131,7 +131,7 @@ fn random_events(rng: &mut Rng, nodes: usize, links: usize, count: usize) -> Vec
 }
 
 /// A threshold at its limits, of any magnitude, or at the mass of some scenario or one above it.
-fn random_threshold(rng: &mut Rng, plan: &Plan) -> u64 {
+pub(crate) fn random_threshold(rng: &mut Rng, plan: &Plan) -> u64 {
     let magnitude = 10u64.pow(rng.between(0, 18) as u32);
     match rng.below(8) {
         0 => 1,
@@ -147,7 +147,7 @@ fn random_threshold(rng: &mut Rng, plan: &Plan) -> u64 {
 }
 
 /// How many ends a test affords for a plan: fewer where there are many pairs.
-fn affordable_ends(rng: &mut Rng, plan: &Plan) -> u64 {
+pub(crate) fn affordable_ends(rng: &mut Rng, plan: &Plan) -> u64 {
     let work = plan.nodes * plan.nodes + 4 * plan.links.len() + 4 * plan.events.len() + 20;
     let effort = if rng.one_in(50) { 2_000_000 } else { 200_000 };
     effort / work as u64 + 1

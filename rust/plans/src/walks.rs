@@ -18,7 +18,17 @@ pub struct ByHand {
 }
 
 /// A thousandth of one whole.
-const MILLI: u64 = WHOLE / 1_000;
+pub(crate) const MILLI: u64 = WHOLE / 1_000;
+
+/// Totals and bounds, of which E and the lower bounds are given in thousandths. Upper is lower and what is left of one whole
+/// without E.
+pub(crate) fn in_thousandths<const N: usize>(
+    [count, complete, mass]: [u64; 3],
+    lower: [u64; N],
+) -> ([u64; 3], [[u64; 2]; N]) {
+    let bounds = lower.map(|lower| [lower * MILLI, (lower + 1_000 - mass) * MILLI]);
+    ([count, complete, mass * MILLI], bounds)
+}
 
 /// What is shown at 0 ends.
 fn nothing(pairs: usize) -> Shown {
@@ -78,7 +88,7 @@ fn stills() -> Vec<ByHand> {
 }
 
 /// Two nodes and a link that fails with this probability.
-fn link(probability: u64, threshold: u64, cap: u64) -> Plan {
+pub(crate) fn link(probability: u64, threshold: u64, cap: u64) -> Plan {
     Plan {
         links: vec![(0, 1)],
         events: vec![Event {
@@ -132,23 +142,19 @@ pub fn row(threshold: u64, cap: u64) -> Plan {
 }
 
 /// The ends have 0.375 (nothing fails), 0.125 (1-2 fails), 0.375 (0-1 fails) and 0.125 (both). The pairs are 0 1, 0 2 and
-/// 1 2; upper is lower and what is left of one whole without E. At t = 0.2 the second and the last end are dropped.
+/// 1 2. At t = 0.2 the second and the last end are dropped.
 fn rows() -> Vec<ByHand> {
-    let shown = |[count, complete, mass]: [u64; 3], lower: [u64; 3]| {
-        let bounds = lower.map(|lower| [lower * MILLI, (lower + 1_000 - mass) * MILLI]);
-        ([count, complete, mass * MILLI], bounds)
-    };
     let all = [
-        shown([1, 0, 375], [0, 0, 0]),
-        shown([2, 0, 500], [0, 125, 125]),
-        shown([3, 0, 875], [375, 500, 125]),
-        shown([4, 1, 1_000], [500, 625, 250]),
+        in_thousandths([1, 0, 375], [0, 0, 0]),
+        in_thousandths([2, 0, 500], [0, 125, 125]),
+        in_thousandths([3, 0, 875], [375, 500, 125]),
+        in_thousandths([4, 1, 1_000], [500, 625, 250]),
     ];
     let some = [
-        shown([1, 0, 375], [0, 0, 0]),
-        shown([1, 0, 375], [0, 0, 0]),
-        shown([2, 0, 750], [375, 375, 0]),
-        shown([2, 1, 750], [375, 375, 0]),
+        in_thousandths([1, 0, 375], [0, 0, 0]),
+        in_thousandths([1, 0, 375], [0, 0, 0]),
+        in_thousandths([2, 0, 750], [375, 375, 0]),
+        in_thousandths([2, 1, 750], [375, 375, 0]),
     ];
     vec![
         by_ends("a row", row(1, 100), &all),

@@ -1,5 +1,6 @@
 //! The benchmark: the proved run beside the tuned Rust program, on three plans of `examples/` and on the GEANT core with a
-//! lower threshold; then the proved witness beside the proved run, and the proved walk that is gone on with in parts.
+//! lower threshold; then the proved witness beside the proved run, the proved walk that is gone on with in parts, and the proved
+//! call with ten thresholds beside the proved runs at them.
 //!
 //! Each plan is run once by both to compare their answers, then five times by each in turn, or as often as an
 //! argument says. The best time of each counts: processor time of this thread, so that other work on the machine
@@ -8,6 +9,7 @@
 use account::panel::Quota;
 use account::Lent;
 use conformance::proved::{Walk, MOST_PAIRS};
+use conformance::thresholds::run_thresholds;
 use conformance::{probe, proved, readings};
 use plans::examples::{folder, BENCHMARK};
 use plans::Lists;
@@ -108,7 +110,10 @@ fn compare_witness(name: &str, lists: &Lists, v: u64, w: u64, rounds: usize) {
         let start = processor_time();
         let (refusal, _) = readings::witness(&lent, v, w);
         witness_best = witness_best.min(processor_time() - start);
-        assert_eq!(refusal, 14, "{name}: a set of events cuts the pair {v}, {w}");
+        assert_eq!(
+            refusal, 14,
+            "{name}: a set of events cuts the pair {v}, {w}"
+        );
     }
     let ratio = witness_best / run_best;
     println!("{name}, no witness for {v}, {w}: {witness_best:.2}, the run {run_best:.2}, ratio {ratio:.2}");
@@ -166,6 +171,49 @@ fn compare_go_ons(name: &str, lists: &Lists, rounds: usize) {
     println!("{name}, {calls} go-ons of 1,000 ends: {walk_best:.2}, the run {run_best:.2}, ratio {ratio:.2}");
 }
 
+/// Ten thresholds, from 10^15 down to 10^6, each a tenth of the one before.
+fn ten_thresholds() -> [u64; 10] {
+    std::array::from_fn(|i| 10u64.pow(15 - i as u32))
+}
+
+/// The time of the one call with these thresholds, in milliseconds.
+fn time_at_once(lists: &Lists, thresholds: &[u64]) -> f64 {
+    let room = thresholds.len() * MOST_PAIRS;
+    let (mut lower, mut upper) = (vec![0; room], vec![0; room]);
+    let start = processor_time();
+    let (refusal, _) = run_thresholds(&lists.lent(), thresholds, &mut lower, &mut upper);
+    let time = processor_time() - start;
+    assert_eq!(refusal, 0);
+    time
+}
+
+/// The lists of a plan with another threshold.
+fn at_threshold(lists: &Lists, threshold: u64) -> Lists {
+    let mut other = lists.clone();
+    other.header.threshold = threshold;
+    other
+}
+
+/// The one call with ten thresholds beside the run at the lowest of them and beside the ten runs: the best time of each.
+fn compare_thresholds(name: &str, lists: &Lists, rounds: usize) {
+    let thresholds = ten_thresholds();
+    let each = thresholds.map(|threshold| at_threshold(lists, threshold));
+    let at_once = proved::run_thresholds(lists, &thresholds).expect("ten falling thresholds");
+    let same = at_once.into_iter().eq(each.iter().map(proved::run));
+    assert!(same, "{name}: a block and its run differ");
+    let (mut at_once_best, mut each_best) = (f64::MAX, [f64::MAX; 10]);
+    for _ in 0..rounds {
+        at_once_best = at_once_best.min(time_at_once(lists, &thresholds));
+        for (best, lists) in each_best.iter_mut().zip(&each) {
+            *best = best.min(timed(run_proved, &lists.lent()).3);
+        }
+    }
+    let (lowest, sum) = (each_best[9], each_best.iter().sum::<f64>());
+    let (of_lowest, of_sum) = (at_once_best / lowest, at_once_best / sum);
+    println!("{name}, 10 thresholds at once: {at_once_best:.2}, the run at the lowest {lowest:.2}, ratio {of_lowest:.2} (at most 1.8 is asked for)");
+    println!("{name}, 10 thresholds at once: {at_once_best:.2}, the ten runs {sum:.2}, ratio {of_sum:.2} (at most 0.75 is asked for)");
+}
+
 fn main() {
     let rounds = rounds();
     println!("best of {rounds} alternating runs, milliseconds of processor time");
@@ -180,4 +228,7 @@ fn main() {
     compare_witness(BENCHMARK[1], &mesh, 2, 3, rounds);
     time_one_end(BENCHMARK[1], &mesh, 524_288, rounds);
     compare_go_ons(BENCHMARK[1], &mesh, rounds);
+    let mut mesh_28 = lists_of(BENCHMARK[0]);
+    mesh_28.header.cap = 1_000_000;
+    compare_thresholds(BENCHMARK[0], &mesh_28, rounds);
 }

@@ -5,7 +5,9 @@ mod large;
 mod refusals;
 mod small;
 
-use account::{Plan, WHOLE};
+use account::Plan;
+
+use crate::walks::in_thousandths;
 
 pub use refusals::{numbered, IN_TURN};
 
@@ -39,9 +41,6 @@ type Words = [u64; 5];
 /// Windows, a minute, and for each pair the lower bound and the exact share, in thousandths of one whole.
 type Case<'a, const N: usize> = (&'a [Words], u64, [u64; N], [u64; N]);
 
-/// A thousandth of one whole.
-const MILLI: u64 = WHOLE / 1_000;
-
 /// The last number of all.
 const MOST: u64 = u64::MAX;
 
@@ -53,25 +52,26 @@ pub fn by_hand() -> Vec<ByHand> {
 }
 
 /// The cases of one plan. Count and complete, and E in thousandths, are the same for all of them, since what is out moves
-/// none of the three. Upper is lower and what is left of one whole without E.
+/// none of the three.
 fn on<const N: usize>(
     name: &'static str,
     plan: &Plan,
-    [count, complete, mass]: [u64; 3],
+    totals: [u64; 3],
     cases: &[Case<N>],
 ) -> Vec<ByHand> {
     let all_sets = 1_000_000_000u128.pow(plan.events.len() as u32);
     let exactly = |share: u64| (u128::from(share) * all_sets / 1_000) as u64;
-    let by_hand = |&(windows, minute, lower, exact): &Case<N>| ByHand {
-        name,
-        plan: plan.clone(),
-        windows: windows.concat(),
-        minute,
-        totals: [count, complete, mass * MILLI],
-        bounds: lower
-            .map(|lower| [lower * MILLI, (lower + 1_000 - mass) * MILLI])
-            .to_vec(),
-        exact: exact.map(exactly).to_vec(),
+    let by_hand = |&(windows, minute, lower, exact): &Case<N>| {
+        let (totals, bounds) = in_thousandths(totals, lower);
+        ByHand {
+            name,
+            plan: plan.clone(),
+            windows: windows.concat(),
+            minute,
+            totals,
+            bounds: bounds.to_vec(),
+            exact: exact.map(exactly).to_vec(),
+        }
     };
     cases.iter().map(by_hand).collect()
 }

@@ -2,8 +2,8 @@
 
 use account::{Event, Plan, WHOLE};
 
-use super::{exactly_on, link_0, on, parallel, ByHand, Words, MILLI};
-use crate::walks::row;
+use super::{exactly_on, link_0, on, parallel, ByHand, Words};
+use crate::walks::{row, MILLI};
 
 /// All of them.
 pub fn runs() -> Vec<ByHand> {
