@@ -17,19 +17,12 @@ the credit is that of this downtime, not the mean of the credits of single years
 
 /// The credits of a contract, as the words FEE, LIMIT and RATE say it, for two nodes by name; or what is wrong.
 pub fn credit(named: &Named, nodes: [&str; 2], terms: [&str; 3]) -> Result<String, String> {
-    let (a, b) = (node(named, nodes[0])?, node(named, nodes[1])?);
+    let (a, b) = (named.node(nodes[0])?, named.node(nodes[1])?);
     let contract = contract(terms)?;
     match due(&Lists::of(&named.plan), (a.min(b), a.max(b)), &contract) {
         Ok(due) => Ok(text(nodes, &contract, &due)),
         Err(number) => Err(refused(nodes, &contract, number)),
     }
-}
-
-/// The number of a node.
-fn node(named: &Named, name: &str) -> Result<usize, String> {
-    let place = named.nodes.iter().position(|node| node == name);
-    let nodes = || named.nodes.join(", ");
-    place.ok_or_else(|| format!("the plan has no node `{name}`; its nodes are {}", nodes()))
 }
 
 /// The contract of three words. Whether its numbers are within their limits is for the proved code to say.

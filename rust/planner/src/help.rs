@@ -16,6 +16,15 @@ planner listing PLAN.txt|IN.plan --at 'Tue 14:30'
                                    no scenario that cuts a pair is shown, since only a run takes
                                    windows, and the search for that scenario takes none
 planner bounds PLAN.txt|IN.plan    prints the bounds as the program listing does, line by line
+planner thresholds PLAN.txt|IN.plan [T..] [--svg FILE [--pair NODE NODE]]
+                                   prints a row for each threshold T: how many scenarios are examined,
+                                   complete, E, the gap, which is what the two bounds of every pair
+                                   are apart, and the worst pair with its bounds; T in units of
+                                   10^-18, at most 16 of them, each below the one before; without a T
+                                   they are ten, from 10^15 down to 10^6; the plan's cap counts, its
+                                   own threshold does not; --svg also draws in FILE the two bounds of
+                                   a pair over the thresholds, both axes logarithmic: the pair after
+                                   --pair, or else the worst at the lowest threshold
 planner credit PLAN.txt|IN.plan NODE NODE FEE LIMIT RATE
                                    prints the service credit of a contract for two nodes, at least
                                    and at most, and the headroom: the limit less the upper downtime;
@@ -26,8 +35,8 @@ planner credit PLAN.txt|IN.plan NODE NODE FEE LIMIT RATE
 planner sheet PLAN.txt OUT.sheet   writes the equipment sheet of a plan in text form
 planner events IN.sheet            prints the events of an equipment sheet by falling q, in text form
 
-For listing, bounds and credit a name that ends in .plan is read as a plan file, every other as
-text. The nodes of a plan file are n0, n1 and so on.
+For listing, bounds, thresholds and credit a name that ends in .plan is read as a plan file, every
+other as text. The nodes of a plan file are n0, n1 and so on.
 
 The text form, a line for each thing, what is named standing above; # starts a comment:
   threshold T            scenarios of less mass are left out; units of 10^-18, 1 to 10^18
@@ -46,9 +55,10 @@ The text form, a line for each thing, what is named standing above; # starts a c
 In a text with equipment, events and equipment stand in any order. They are numbered by falling Q,
 equal ones in the order of their lines, and together they are at most 128.
 Only listing --at counts windows. A plan file and an equipment sheet have none: file and sheet leave
-them out. bounds and credit are without them. Each says so on standard error.
+them out. bounds, thresholds and credit are without them. Each says so on standard error.
 
-This is a convenience outside the proof. The bounds, with planned work and without, their seconds,
-the scenarios that cut a pair, credits and headroom, the plan files and the events of a sheet come
-from the proved code; nothing else that it reads or prints is proved.
+This is a convenience outside the proof. The bounds, with planned work and without and at several
+thresholds, their seconds, the scenarios that cut a pair, credits and headroom, the plan files and
+the events of a sheet come from the proved code; nothing else that it reads, prints or draws is
+proved.
 ";

@@ -1,37 +1,48 @@
-//! The text form of plans, with windows of planned work, and a listing and credits for people.
+//! The text form of plans, with windows of planned work, and for people a listing, several thresholds beside each other and
+//! credits.
 //!
 //! A convenience outside the proof: nothing here is proved. Plan files are read, written and run by the proved code
-//! (libprobe.a), which also runs with windows, reads equipment sheets and works out credits; the text form, the names, the
-//! times of the week, the bytes of a sheet, the layout of the listing and the words around credits are plain Rust, held by
-//! tests.
+//! (libprobe.a), which also runs with windows and at several thresholds, reads equipment sheets and works out credits; the text
+//! form, the names, the times of the week, the bytes of a sheet, the layout of tables and pictures and the words around credits
+//! are plain Rust, held by tests.
 
+mod asked;
+mod axis;
 mod credit;
+mod curve;
 mod equipment;
 mod events;
+mod frame;
 mod help;
 mod line;
 mod listing;
 mod named;
 mod names;
+mod picture;
 mod print;
 mod progress;
 mod readings;
 mod refused;
+mod svg;
 mod table;
 mod text;
+mod thresholds;
 mod week;
 mod windows;
 mod work;
 
+pub use asked::{Asked, Drawing};
 pub use credit::credit;
 pub use help::HELP;
 pub use line::Fault;
 pub use listing::listing;
 pub use named::Named;
+pub use picture::{drawn_pair, picture};
 pub use print::{print, print_events};
 pub use progress::Progress;
 pub use refused::{plan_reason, sheet_reason};
 pub use text::{parse, parse_sheet, parse_windows};
+pub use thresholds::{at_thresholds, thresholds_table, AtThreshold};
 pub use week::{minute_of, Wrong};
 pub use windows::{windows_are, NamedWindow};
 pub use work::listing_at;

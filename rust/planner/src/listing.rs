@@ -1,7 +1,7 @@
 //! The listing for people: pairs by falling upper bound, in shares and in seconds a year.
 
 use account::bounds::{Bounds, Outcome};
-use account::WHOLE;
+use account::{Plan, WHOLE};
 use plans::Lists;
 
 use crate::named::Named;
@@ -30,6 +30,12 @@ fn in_steps(named: &Named, progress: &mut Progress) -> Result<String, u32> {
     Ok(head + "\n" + &table(named, &bounds, &witnesses))
 }
 
+/// How many nodes, links and events a plan has.
+pub fn sizes(plan: &Plan) -> String {
+    let (links, events) = (plan.links.len(), plan.events.len());
+    format!("{} nodes, {links} links, {events} events", plan.nodes)
+}
+
 /// The numbers of a plan, and how far its walk went.
 pub fn counts(named: &Named, outcome: &Outcome) -> String {
     let plan = &named.plan;
@@ -38,11 +44,9 @@ pub fn counts(named: &Named, outcome: &Outcome) -> String {
         _ => "complete 0: the walk stopped at the cap",
     };
     format!(
-        "{} nodes, {} links, {} events, threshold {}, cap {}\n\
+        "{}, threshold {}, cap {}\n\
          {} scenarios examined, {completed}; their share, E, is {}\n",
-        plan.nodes,
-        plan.links.len(),
-        plan.events.len(),
+        sizes(plan),
         plan.threshold,
         plan.cap,
         outcome.count,
@@ -74,7 +78,7 @@ fn table(named: &Named, bounds: &[Bounds], witnesses: &[Option<u128>]) -> String
     let rows = order.iter().map(|&i| fields(named, pairs[i], bounds[i]));
     let mut last = vec!["the first scenario that cuts it".to_string()];
     last.extend(order.iter().map(|&i| witness_text(named, witnesses[i])));
-    let lines = columns(FIELDS, rows.collect()).into_iter().zip(last);
+    let lines = columns(FIELDS, rows.collect(), 0).into_iter().zip(last);
     lines
         .map(|(line, last)| line + "  " + &last + "\n")
         .collect()

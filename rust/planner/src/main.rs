@@ -6,6 +6,7 @@ use std::process::ExitCode;
 
 use account::sheet::layout;
 use conformance::proved;
+use planner::{at_thresholds, drawn_pair, picture, thresholds_table, Asked};
 use planner::{credit, listing, listing_at, print, print_events};
 use planner::{minute_of, parse, parse_sheet, parse_windows};
 use planner::{plan_reason, sheet_reason, windows_are};
@@ -24,6 +25,7 @@ fn main() -> ExitCode {
         ["bounds", from] => without_windows(from, |named| {
             Ok(proved::plan_listing(&Lists::of(&named.plan)))
         }),
+        ["thresholds", from, ref words @ ..] => thresholds_of(from, words),
         ["credit", from, first, second, fee, limit, rate] => without_windows(from, |named| {
             credit(named, [first, second], [fee, limit, rate])
         }),
@@ -132,6 +134,23 @@ fn listing_of(
     };
     listing(&named, &mut progress)
         .map_err(|number| format!("{from}: refused {number}, {}", plan_reason(number)))
+}
+
+/// The table of a plan at thresholds. Where a picture is asked for, it is written too.
+fn thresholds_of(from: &str, words: &[&str]) -> Result<String, String> {
+    let Asked {
+        thresholds,
+        drawing,
+    } = Asked::of(words)?;
+    without_windows(from, |named| {
+        let all = at_thresholds(named, &thresholds)?;
+        if let Some(drawing) = &drawing {
+            let place = drawn_pair(named, drawing, &all)?;
+            let svg = picture(from, named, place, &all);
+            write_bytes(drawing.file, svg.into_bytes())?;
+        }
+        Ok(thresholds_table(named, &all))
+    })
 }
 
 /// Writes the plan file of a text, by the proved writer.

@@ -33,6 +33,13 @@ impl Named {
         }
     }
 
+    /// The number of a node, or what is wrong with its name.
+    pub fn node(&self, name: &str) -> Result<usize, String> {
+        let place = self.nodes.iter().position(|node| node == name);
+        let nodes = || self.nodes.join(", ");
+        place.ok_or_else(|| format!("the plan has no node `{name}`; its nodes are {}", nodes()))
+    }
+
     /// The names of a set of events. Event i is bit i.
     pub fn events_in(&self, set: u128) -> Vec<&str> {
         let names = self.events.iter().enumerate();

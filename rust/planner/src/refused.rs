@@ -17,6 +17,7 @@ pub fn plan_reason(number: u32) -> &'static str {
         19 => "the quota of 10000000 ends is used up",
         21 => "a window breaks its range or names a missing element",
         22 => "the minute is above 10079",
+        23 => "thresholds are 1 to 16 numbers from 1 to 10^18, each below the one before",
         _ => "see the table of refusals",
     }
 }
@@ -39,5 +40,16 @@ pub fn credit_reason(number: u32) -> &'static str {
         13 => "a pair is two different nodes of the plan",
         20 => "FEE or RATE is above 10^12 cents, or LIMIT is above 31536000 seconds",
         _ => plan_reason(number),
+    }
+}
+
+#[cfg(test)]
+mod tests {
+    use super::plan_reason;
+
+    #[test]
+    fn refused_thresholds_have_words() {
+        let words = "thresholds are 1 to 16 numbers from 1 to 10^18, each below the one before";
+        assert_eq!(plan_reason(23), words);
     }
 }

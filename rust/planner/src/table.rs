@@ -34,20 +34,21 @@ pub fn fields(named: &Named, (v, w): (usize, usize), bounds: Bounds) -> [String;
     ]
 }
 
-/// A header and rows as lines, without line ends, in columns as wide as the longest field: the first column to the left, the
-/// others, numbers, to the right.
-pub fn columns<const N: usize>(header: [&str; N], rows: Vec<[String; N]>) -> Vec<String> {
+/// A header and rows as lines, without line ends, in columns as wide as the longest field: the column of names to the left,
+/// the others, numbers, to the right.
+pub fn columns<const N: usize>(
+    header: [&str; N],
+    rows: Vec<[String; N]>,
+    names: usize,
+) -> Vec<String> {
     let mut lines = vec![header.map(str::to_string)];
     lines.extend(rows);
     let width = |i: usize| lines.iter().map(|fields| fields[i].chars().count()).max();
     let widths: Vec<usize> = (0..N).map(|i| width(i).unwrap_or(0)).collect();
-    lines.iter().map(|fields| line(fields, &widths)).collect()
-}
-
-fn line(fields: &[String], widths: &[usize]) -> String {
-    let mut text = format!("{:<1$}", fields[0], widths[0]);
-    for (field, width) in fields.iter().zip(widths).skip(1) {
-        text += &format!("  {field:>width$}");
-    }
-    text
+    let placed = |(i, field): (usize, &String)| match i == names {
+        true => format!("{field:<0$}", widths[i]),
+        false => format!("{field:>0$}", widths[i]),
+    };
+    let line = |fields: &[String; N]| fields.iter().enumerate().map(placed).collect::<Vec<_>>();
+    lines.iter().map(|fields| line(fields).join("  ")).collect()
 }

@@ -82,5 +82,5 @@ fn table(named: &Named, bounds: &[Bounds], without: &[Bounds]) -> String {
     let (without, without_s) = ("upper without work", "upper s without work");
     let header = [pair, lower, upper, lower_s, upper_s, without, without_s];
     let rows = worst_first(bounds).into_iter().map(row);
-    columns(header, rows.collect()).join("\n") + "\n"
+    columns(header, rows.collect(), 0).join("\n") + "\n"
 }

@@ -1,6 +1,6 @@
 //! Credits: each wording on plans whose downtimes were worked out by hand, and each refusal.
 
-use crate::{planner, scratch, scratch_with};
+use crate::{expect_failure, planner, scratch, scratch_with};
 
 /// The link CB has q = 62,500. Both ends of the walk keep all their mass, so Control and Birch, and Control and Depot, are
 /// apart for 62,500 × 10^9 of 10^18 units of a year: 62,500 × 0.031536 = 1,971 seconds. Birch and Depot never are, and no
@@ -258,14 +258,12 @@ fn the_nodes_of_a_plan_file_go_by_their_numbers() {
     expect(plan, &[case]);
 }
 
-/// A call that ends with a failure and tells why.
+/// A credit that ends with a failure, which is told.
 #[track_caller]
-fn expect_failure(plan: &str, words: &str, told: &str) {
+fn expect_wrong(plan: &str, words: &str, told: &str) {
     let mut call = vec!["credit", plan];
     call.extend(words.split(' '));
-    let call = planner(&call);
-    assert_eq!((call.status, call.out.as_str()), (1, ""), "{words}");
-    assert_eq!(call.err, format!("planner: {told}\n"), "{words}");
+    expect_failure(&call, told);
 }
 
 #[test]
@@ -306,11 +304,11 @@ fn what_the_proved_code_refuses() {
         ),
     ];
     for (words, asked, reason) in cases {
-        expect_failure(&path, words, &format!("{asked}: {reason}"));
+        expect_wrong(&path, words, &format!("{asked}: {reason}"));
     }
     let rising = "refused-rising-probability.plan";
     let reason = "refused 9, a probability is above that of the event before";
-    expect_failure(rising, "n0 n1 1 2 3", &format!("{rising}: {reason}"));
+    expect_wrong(rising, "n0 n1 1 2 3", &format!("{rising}: {reason}"));
 }
 
 #[test]
@@ -319,7 +317,7 @@ fn names_and_numbers_that_are_none() {
     let nodes = "its nodes are Control, Birch, Depot, Elm";
     for (words, name) in [("Brich Elm 1 2 3", "Brich"), ("Elm CB x 2 3", "CB")] {
         let told = format!("the plan has no node `{name}`; {nodes}");
-        expect_failure(&path, words, &told);
+        expect_wrong(&path, words, &told);
     }
     let fee = "expected FEE in cents as a whole number from 0 to 1000000000000";
     let limit = "expected LIMIT in seconds as a whole number from 0 to 31536000";
@@ -327,7 +325,7 @@ fn names_and_numbers_that_are_none() {
     for word in ["12.50", "-1", "1e3", "_", "18446744073709551616"] {
         let at = |words: &str, expected: &str| {
             let words = words.replace('?', word);
-            expect_failure(&path, &words, &format!("{expected}; found `{word}`"));
+            expect_wrong(&path, &words, &format!("{expected}; found `{word}`"));
         };
         at("Elm Birch ? 2 3", fee);
         at("Elm Birch 1 ? 3", limit);

@@ -1,8 +1,11 @@
 //! The command line: what it prints, and how it ends.
 
 mod credit;
+mod picture;
 mod sheets;
+mod thresholds;
 mod windows;
+mod xml;
 
 use std::path::{Path, PathBuf};
 use std::process::Command;
@@ -28,6 +31,22 @@ fn planner(words: &[&str]) -> Call {
         err: text(output.stderr),
         status: output.status.code().expect("an exit status"),
     }
+}
+
+/// What a call prints that succeeds and tells nothing on standard error.
+#[track_caller]
+fn printed(words: &[&str]) -> String {
+    let call = planner(words);
+    assert_eq!((call.status, call.err.as_str()), (0, ""), "{words:?}");
+    call.out
+}
+
+/// A call that ends with a failure and tells why.
+#[track_caller]
+fn expect_failure(words: &[&str], told: &str) {
+    let call = planner(words);
+    assert_eq!((call.status, call.out.as_str()), (1, ""), "{words:?}");
+    assert_eq!(call.err, format!("planner: {told}\n"), "{words:?}");
 }
 
 /// A file of this test in the folder that cargo keeps for tests.

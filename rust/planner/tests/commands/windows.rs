@@ -1,6 +1,6 @@
 //! Planned work: the listing at a minute of the week, and the commands that take no windows.
 
-use crate::{planner, scratch, scratch_with};
+use crate::{expect_failure, planner, printed, scratch, scratch_with};
 
 /// A triangle. Of its links AB fails with 1/2, AC with 1/4 and BC never, and no mass is lost in the four scenarios.
 const TRIANGLE: &str = "threshold 1\ncap 100\nnode A\nnode B\nnode C\n\
@@ -12,14 +12,6 @@ const WINDOWS: &str = "window morning Tue 08:00 Tue 12:00 BC\nwindow noon Tue 12
 /// A file with the triangle and these windows.
 fn triangle_with(name: &str, windows: &str) -> String {
     scratch_with(name, format!("{TRIANGLE}{windows}").as_bytes())
-}
-
-/// What a call prints that succeeds and tells nothing on standard error.
-#[track_caller]
-fn printed(words: &[&str]) -> String {
-    let call = planner(words);
-    assert_eq!((call.status, call.err.as_str()), (0, ""), "{words:?}");
-    call.out
 }
 
 /// The head of a listing, after the line of its examined scenarios, and the words of each row of its table.
@@ -245,6 +237,7 @@ fn the_commands_without_windows() {
     same_but_for(left_out, "sheet", &[sheet], Some(sheet));
     let not_counted = "not counted: only listing --at takes windows";
     same_but_for(not_counted, "bounds", &[], None);
+    same_but_for(not_counted, "thresholds", &["1000", "1"], None);
     let contract = ["A", "B", "120000", "3600", "5000"];
     same_but_for(not_counted, "credit", &contract, None);
 }
@@ -258,14 +251,6 @@ fn a_text_with_equipment_has_windows_too() {
     let listing = printed(&["listing", &path, "--at", "Fri 17:59"]);
     assert!(listing.contains("dig (Fri 06:00 to Fri 18:00).\nOut: two.\n"));
     expect_rows(&listing, &[("A B", 0.25, 0.125)]);
-}
-
-/// A call that ends with a failure and tells why.
-#[track_caller]
-fn expect_failure(words: &[&str], told: &str) {
-    let call = planner(words);
-    assert_eq!((call.status, call.out.as_str()), (1, ""), "{words:?}");
-    assert_eq!(call.err, format!("planner: {told}\n"), "{words:?}");
 }
 
 #[test]
@@ -312,6 +297,7 @@ fn a_bad_window_is_told_by_every_command() {
         &["listing", &path][..],
         &["listing", &path, "--at", "Sun 23:00"],
         &["bounds", &path],
+        &["thresholds", &path, "--svg", out],
         &["credit", &path, "A", "B", "1", "2", "3"],
         &["file", &path, out],
         &["sheet", &path, out],
@@ -332,7 +318,7 @@ fn the_help_tells_of_windows() {
         "since only a run takes",
         "window NAME START END MEMBER..",
         "one up to Sun 24:00 and one from Mon 00:00",
-        "file and sheet leave\nthem out. bounds and credit are without them",
+        "file and sheet leave\nthem out. bounds, thresholds and credit are without them",
         "The bounds, with planned work and without",
     ] {
         assert!(help.contains(told), "{told}");
