@@ -10,7 +10,6 @@ use lib.ListN.{length, getD, take, set}
 use lib.Seq.{sets, length-sets, take-all}
 use Rattle.lent.proofs.ListLaws.{sets-append}
 use Rattle.thresholds.specs.Thresholds.{thresholdsAnswer}
-use Rattle.thresholds.specs.declared.Answered.{Answered}
 use Rattle.plan.specs.Plan.{Plan}
 use Rattle.threshold_answers.specs.ThresholdAnswers.{inTurn}
 

@@ -9,18 +9,17 @@ use native.Mathlib.Omega.{arith}
 use borrow.Author.Tests.{le-leb, lt-leb, lt-ltb, le-ltb}
 use lib.Dec.{leb, ltb}
 use lib.ListN.{length, getD, take, replicate, length-append, length-replicate}
-use Rattle.mass.specs.Split.{whole}
 use Rattle.sets.specs.Sets.{joined, digit}
 use Rattle.plan.specs.Plan.{Plan}
 use Rattle.network.specs.Outage.{intact}
 use Rattle.walk.specs.Scenario.{Scenario, scenarioOf}
 use Rattle.walk.specs.Ends.{End, dropped, sumEnds}
-use Rattle.walk.specs.Walk.{count, complete, massExamined}
+use Rattle.walk.specs.Walk.{count, massExamined}
 use Rattle.walk.specs.Steps.{endOf}
 use Rattle.walk.proofs.EndsLaws.{take-append, sumEnds-append}
 use Rattle.pairs.specs.Pairs.{place}
 use Rattle.pairs.proofs.Row.{at-most}
-use Rattle.bounds.specs.Bounds.{cuts, lowerOf}
+use Rattle.bounds.specs.Bounds.{cuts}
 use Rattle.threshold_walk.specs.Paths.{handed}
 use Rattle.threshold_walk.specs.declared.WorksPath.{WorksPath}
 use Rattle.threshold_sums.specs.Walked.{Ledger, Settled, examinedBy}

@@ -3,7 +3,7 @@
 use mathlib.Core.Path.{_≡_, refl, ap, sym, subst, _∙_}
 use mathlib.Core.List.{List, [], _∷_, _++_}
 use mathlib.Core.Logic.{_⊎_, inl, inr}
-use Prim.Native.Nat.{ℕ, zero, suc, _+_, _-_, _*_, _^_, _≤_, _<_}
+use Prim.Native.Nat.{ℕ, _+_, _-_, _*_, _^_, _≤_, _<_}
 use native.Mathlib.Decide.{ℕ-discrete, decLt}
 use native.Mathlib.Nat.{mul-le-mul-left}
 use native.Mathlib.Omega.{arith}
@@ -19,9 +19,8 @@ use Rattle.plan.specs.LentLists.{planOfLists}
 use Rattle.plan.specs.Held.{Held}
 use Rattle.plan.specs.declared.Header.{Header}
 use Rattle.network.specs.Outage.{intact}
-use Rattle.walk.specs.Scenario.{Scenario}
 use Rattle.walk.specs.Ends.{End, dropped, relevant, sumEnds}
-use Rattle.walk.specs.Walk.{planEnds, firstEnds, count, complete, massExamined}
+use Rattle.walk.specs.Walk.{planEnds, firstEnds, count, massExamined}
 use Rattle.walk.proofs.EndsLaws.{count-sum}
 use Rattle.walk.proofs.Theorems.{massExamined-le}
 use Rattle.walk.proofs.Valid.{held-probable}

@@ -12,12 +12,12 @@ use Rattle.plan.specs.Plan.{Plan}
 use Rattle.plan.specs.LentLists.{planOfLists}
 use Rattle.plan.specs.declared.Header.{Header}
 use Rattle.network.specs.Outage.{intact}
-use Rattle.walk.specs.Scenario.{Scenario, scenarioOf}
+use Rattle.walk.specs.Scenario.{scenarioOf}
 use Rattle.walk.specs.Ends.{End, sumEnds, weighed}
 use Rattle.walk.specs.Walk.{count, complete, massExamined}
 use Rattle.pairs.specs.Pairs.{place, pairCount}
 use Rattle.bounds.specs.Bounds.{cuts, lowerOf}
-use Rattle.threshold_walk.specs.Stack.{toCome, Stack}
+use Rattle.threshold_walk.specs.Stack.{toCome}
 use Rattle.threshold_walk.specs.Paths.{pathEnds, handed}
 use Rattle.threshold_walk.specs.declared.WorksPath.{WorksPath}
 

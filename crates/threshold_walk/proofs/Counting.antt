@@ -1,7 +1,7 @@
 -- How many ends a path has in the walk with one threshold.
 -- Assumes nothing.
-use mathlib.Core.Path.{_≡_, refl, sym, _∙_}
-use mathlib.Core.List.{List, [], _∷_}
+use mathlib.Core.Path.{_≡_, sym, _∙_}
+use mathlib.Core.List.{List, _∷_}
 use Prim.Native.Nat.{ℕ, _+_, _-_, _≤_, _<_}
 use native.Mathlib.Numerals.{add-one}
 use native.Mathlib.Omega.{arith}
@@ -12,10 +12,9 @@ use Rattle.mass.specs.Split.{certain}
 use Rattle.plan.specs.Lists.{eventsOf}
 use Rattle.plan.specs.Held.{Falling}
 use Rattle.walk.specs.Ends.{dropped}
-use Rattle.walk.specs.Pending.{Branch, branchEnds}
+use Rattle.walk.specs.Pending.{Branch}
 use Rattle.walk.specs.Stack.{branchOf}
 use Rattle.walk.specs.Steps.{Stopped, endOf}
-use Rattle.walk.specs.WorksPath.{pathSteps, pathMass}
 use Rattle.walk.specs.declared.Stop.{Stop}
 use Rattle.threshold_walk.specs.Paths.{Faint, pathEnds, SoundPath, handed}
 use Rattle.threshold_walk.specs.declared.WorksPath.{WorksPath}

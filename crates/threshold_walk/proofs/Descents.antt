@@ -1,8 +1,8 @@
 -- From a branch in hand down to where no "fails" side is left pending, as laws of the stack's words, for every threshold at once.
 -- Assumes nothing.
-use mathlib.Core.Path.{_≡_, refl, ap, sym, _∙_}
+use mathlib.Core.Path.{_≡_, ap, _∙_}
 use mathlib.Core.List.{List, [], _∷_, _++_, append-assoc}
-use Prim.Native.Nat.{ℕ, suc, _+_, _-_, _*_, _^_, _≤_, _<_}
+use Prim.Native.Nat.{ℕ, _+_, _-_, _*_, _^_, _≤_, _<_}
 use native.Mathlib.Decide.{decLt}
 use native.Mathlib.Nat.{pow-succ'}
 use native.Mathlib.Numerals.{add-one}
@@ -15,15 +15,15 @@ use Rattle.plan.specs.Plan.{Event}
 use Rattle.plan.specs.Lists.{eventsOf}
 use Rattle.plan.specs.Held.{Falling}
 use Rattle.walk.specs.Scenario.{scenarioOf}
-use Rattle.walk.specs.Ends.{End, dropped, after, ends}
-use Rattle.walk.specs.Pending.{Branch, branchEnds}
+use Rattle.walk.specs.Ends.{End, after, ends}
+use Rattle.walk.specs.Pending.{branchEnds}
 use Rattle.walk.specs.Stack.{branchOf}
 use Rattle.walk.specs.Steps.{Stopped}
 use Rattle.walk.specs.declared.Stop.{Stop}
 use Rattle.walk.proofs.Descents.{probable, branch-parts}
 use Rattle.walk.proofs.Resume.{ends-some}
-use Rattle.threshold_walk.specs.Stack.{entryEnds, stackEnds, toCome, SoundEntry, SoundEntries, Stack}
-use Rattle.threshold_walk.specs.Paths.{Pushed, Faint, Halted, pathEnds, SoundPath, PathTaken}
+use Rattle.threshold_walk.specs.Stack.{entryEnds, toCome, SoundEntry, SoundEntries, Stack}
+use Rattle.threshold_walk.specs.Paths.{Pushed, Faint, Halted, pathEnds, PathTaken}
 use Rattle.threshold_walk.specs.declared.Halt.{Halt}
 use Rattle.threshold_walk.specs.declared.WorksPath.{WorksPath}
 use Rattle.threshold_walk.proofs.Words.{words-at, laid-size, laid-words}

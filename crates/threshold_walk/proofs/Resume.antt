@@ -1,14 +1,14 @@
 -- A walk begun at the root, and one whose stack is empty.
 -- Assumes nothing.
-use mathlib.Core.Path.{_≡_, refl, ap, _∙_}
-use mathlib.Core.List.{List, [], _∷_, _++_, append-nil}
-use Prim.Native.Nat.{ℕ, _+_, _≤_}
+use mathlib.Core.Path.{_≡_}
+use mathlib.Core.List.{List, [], _∷_, append-nil}
+use Prim.Native.Nat.{ℕ, _≤_}
 use native.Mathlib.Omega.{arith}
 use lib.ListN.{length, drop, drop-of-length-le}
 use lib.Seq.{sets}
 use Rattle.mass.specs.Split.{whole}
 use Rattle.plan.specs.Lists.{eventsOf}
-use Rattle.walk.specs.Ends.{End, ends}
+use Rattle.walk.specs.Ends.{ends}
 use Rattle.walk.specs.Stack.{branchOf}
 use Rattle.walk.proofs.StackLaws.{root-ends}
 use Rattle.threshold_walk.specs.Stack.{toCome, Stack}

@@ -1,22 +1,22 @@
 -- Where the "works" path of a branch stops for two thresholds, and the ends of a branch from which no "fails" side is pending.
 -- Assumes nothing.
-use mathlib.Core.Path.{_≡_, refl, ap, sym, _∙_}
-use mathlib.Core.Bool.{Bool, true, false}
+use mathlib.Core.Path.{_≡_, ap, sym, _∙_}
+use mathlib.Core.Bool.{false}
 use mathlib.Core.List.{List, [], _∷_, _++_}
 use Prim.Native.Nat.{ℕ, suc, _+_, _-_, _*_, _^_, _≤_, _<_}
 use native.Mathlib.Decide.{decLt}
 use native.Mathlib.Omega.{arith}
 use borrow.Author.Tests.{le-leb, lt-leb, lt-ltb, le-ltb}
-use lib.Dec.{leb, ltb}
+use lib.Dec.{leb}
 use lib.ListN.{length, getD, drop, replicate, drop-of-length-le}
-use Rattle.mass.specs.Split.{certain, failing, working}
+use Rattle.mass.specs.Split.{certain, working}
 use Rattle.mass.proofs.Theorems.{works-le}
 use Rattle.sets.specs.Sets.{joined}
 use Rattle.plan.specs.Plan.{Event}
 use Rattle.plan.specs.Lists.{eventsOf}
 use Rattle.plan.specs.Held.{Falling, Probabilities}
 use Rattle.walk.specs.Scenario.{Scenario, scenarioOf}
-use Rattle.walk.specs.Ends.{End, dropped, relevant, after, ends}
+use Rattle.walk.specs.Ends.{dropped, after, ends}
 use Rattle.walk.specs.Pending.{Branch, branchEnds}
 use Rattle.walk.specs.Stack.{branchOf}
 use Rattle.walk.specs.Steps.{Stopped, endOf}

@@ -1,7 +1,6 @@
 -- `threshold_answers::give_place` meets its contract: one number after the other. Assumes nothing.
 use mathlib.Core.Path.{_∙_}
 use borrow.Author.Needs.{needs}
-use native.Mathlib.Omega.{arith}
 use Rattle.threshold_answers.proofs.PlaceLaws.{three-put}
 use Rattle.threshold_answers.proofs.give_place.Statement.{statement}
 use Rattle.threshold_answers.proofs.give_place.Tie as tie

@@ -1,8 +1,7 @@
 -- `threshold_answers::give_places` meets its contract. The loop's invariant: the words of the first i places are laid down. Assumes nothing.
-use mathlib.Core.Path.{_≡_, refl, _∙_}
+use mathlib.Core.Path.{_≡_, refl}
 use Prim.Native.Nat.{ℕ, _-_}
 use borrow.Author.Needs.{needs, length-unmapped}
-use native.Mathlib.Omega.{arith}
 use lib.ListN.{length, take}
 use lib.Seq.{sets}
 use Rattle.threshold_answers.specs.ThresholdAnswers.{inTurn}

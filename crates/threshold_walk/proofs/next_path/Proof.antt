@@ -1,6 +1,6 @@
 -- `threshold_walk::next_path` meets its contract: the branch taken off the stack is gone down from. Assumes nothing.
 use native.Mathlib.Omega.{arith}
-use Rattle.threshold_walk.proofs.Descents.{under, taken, taken-whole, path-taken}
+use Rattle.threshold_walk.proofs.Descents.{under, taken-whole, path-taken}
 use Rattle.threshold_walk.proofs.next_path.Statement.{statement}
 use Rattle.threshold_walk.proofs.next_path.Tie as tie
 

@@ -1,6 +1,5 @@
 -- `threshold_sums::paths::examined_by` meets its contract. Assumes nothing.
 use mathlib.Core.Path.{sym}
-use native.Mathlib.Omega.{arith}
 use Rattle.threshold_sums.proofs.Examined.{not-met, no-room, is-examined}
 use Rattle.threshold_sums.proofs.paths.examined_by.Statement.{statement}
 use Rattle.threshold_sums.proofs.paths.examined_by.Tie as tie

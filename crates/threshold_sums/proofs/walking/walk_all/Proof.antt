@@ -1,6 +1,6 @@
 -- `threshold_sums::walking::walk_all` meets its contract. The loop's invariant is `Walking`: the first `active` thresholds are under way, and
 -- the others have ended. The measure is `active`. Assumes nothing.
-use mathlib.Core.Path.{refl, _∙_}
+use mathlib.Core.Path.{refl}
 use borrow.Author.Needs.{needs}
 use native.Mathlib.Nat.{mul-le-mul-left}
 use native.Mathlib.Omega.{arith}

@@ -1,10 +1,8 @@
 -- `threshold_sums::walking::walk_with` meets its contract. The loop's invariant: for each threshold under way, what was reached and what is to
 -- come give its plan's answers; all else is untouched. The measure: how many ends of the lowest are to come, then how many branches are
 -- pending. Assumes nothing.
-use mathlib.Core.Path.{refl, _∙_}
 use mathlib.Core.Logic.{inl, inr}
 use Prim.Native.Nat.{_+_, _-_, _*_}
-use borrow.Author.Needs.{needs}
 use native.Mathlib.Omega.{arith}
 use lib.ListN.{length}
 use Rattle.threshold_walk.specs.Stack.{toCome, Stack}
