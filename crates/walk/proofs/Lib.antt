@@ -1,4 +1,4 @@
--- Laws that the proofs of the crate `walk` share.
+-- Laws that the proofs of the crate `walk` share, and after them the computed examples.
 pub mod Words
 pub mod Parts
 pub mod Dropped
@@ -15,3 +15,4 @@ pub mod Laws
 pub mod PendingMass
 pub mod Valid
 pub mod Theorems
+pub mod Examples
