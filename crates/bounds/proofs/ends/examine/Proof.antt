@@ -8,7 +8,6 @@ use native.Mathlib.Omega.{arith}
 use lib.Dec.{eqb}
 use Rattle.sets.specs.Sets.{bit}
 use Rattle.network.specs.Outage.{Outage}
-use Rattle.network.specs.Code.{outage}
 use Rattle.bounds.proofs.Examining.{Shown, shown-by, BlocksTurn, blocks-begin, blocks-done, low-base, block-asked, blocks-turned}
 use Rattle.bounds.proofs.ends.examine.Statement.{statement}
 use Rattle.bounds.proofs.ends.examine.Tie as tie
@@ -49,7 +48,7 @@ mul-add-cut c =
     let loop = c .before .before .before in
     let near = loop .before .before in
     let start = near .before .before .before .before in
-    let s = shown-by (outage (start .args .out)) _ _ _ _ _ _ _ _ (near .before .before .failed-by .ensures) (near .before .working-nodes .ensures) (near .neighbours .ensures) in
+    let s = shown-by _ _ _ _ _ _ _ _ _ (near .before .before .failed-by .ensures) (near .before .working-nodes .ensures) (near .neighbours .ensures) in
     let inside = start .pre .1 .1 .1 .few _ (loop .loop .inv _ s .sub _ (c .lowest .ensures .1 .1 .0)) in
     record { fits = rw (loop .before .start-of .ensures) (omega (arith, low-base (start .args .h .nodes) (c .lowest .result) (start .pre .0 .links-held .nodes-fit) inside)) }
 
