@@ -1,6 +1,6 @@
 -- What the calls of the crate `panel` answer, for every input: document 02, request U4.
 -- Assumes nothing.
-use mathlib.Core.Path.{_≡_, refl}
+use mathlib.Core.Path.{_≡_}
 use mathlib.Core.Bool.{Bool, true, false, _&&_}
 use Prim.Native.Nat.{ℕ, _+_, _-_, min}
 use lib.Dec.{ltb, leb, eqb}
@@ -62,12 +62,6 @@ boundsShown nodes mass sum =
       | true ↦ record { lower = sum; upper = (whole - mass) + sum }
       | false ↦ record { lower = 0; upper = whole }
     ]
-
--- examples: a mass of 600 units of which 200 cut the pair off; more nodes than a plan has
-example-shown : (boundsShown 3 600 200 ≡ record { lower = 200; upper = 999999999999999600 })
-    × (boundsShown 65 600 200 ≡ record { lower = 0; upper = whole })
-unfolding boundsShown mayShow
-example-shown = (refl, refl)
 
 -- the bounds of the pair (v, x) that a look at it shows
 abbrev pub lookPairOf : Walk → ℕ → ℕ → PairBounds
