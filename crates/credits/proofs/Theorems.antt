@@ -68,7 +68,7 @@ module _ (p : Plan) (valid : planRefusal p ≡ 0) (v w fee limit rate : ℕ) whe
   pub credits-enclose : v < w → w < p .nodes → CreditWithin (exactCredit intact p v w fee limit rate) (creditsOf fee limit rate seconds)
   credits-enclose l k =
       let within : DowntimeWithin (length (p .events)) (exactCut p (cuts intact p v w)) seconds =
-      bounds-enclose intact (lowerOf intact p v w) (upperOf intact p v w) p valid v w l k refl refl in
+      bounds-enclose (lowerOf intact p v w) (upperOf intact p v w) intact p valid v w l k refl refl in
       let n : ℕ = length (p .events) in
       let time : ℕ = exactCut p (cuts intact p v w) * year in
       record {

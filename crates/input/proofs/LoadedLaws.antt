@@ -1,6 +1,6 @@
 -- An accepted file read into the arrays: there is always room, no test of the lists refuses them, and they denote the file's plan.
 -- Assumes nothing.
-use mathlib.Core.Path.{_≡_, refl, sym, subst, _∙_}
+use mathlib.Core.Path.{_≡_, refl, sym, ap, subst, _∙_}
 use mathlib.Core.List.{List, [], _∷_}
 use Prim.Native.Nat.{ℕ, zero, suc, _+_, _*_, _<_, _≤_}
 use native.Mathlib.Omega.{arith}
@@ -61,7 +61,10 @@ module _ (b links words : List ℕ) (bytes : Bytes b) (e : refusal b ≡ 0) (l :
         denoted = denoted;
       }
 
--- what a reading leaves in the arrays
+-- what a reading leaves in the arrays: a file has the same number with room for every plan as by itself
+pub left-same : (b new old left : List ℕ) → left ≡ filled (readRefusal 256 128 b) new old → left ≡ filled (refusal b) new old
+left-same b new old left e = e ∙ ap (λ (n : ℕ). filled n new old) (same-refusal b)
+
 pub left-loaded : (b links words left-links left-words : List ℕ)
     → Bytes b → length links ≡ 256 → length words ≡ 512
     → left-links ≡ filled (readRefusal 256 128 b) (linkBytes ((planOf b) .links)) links

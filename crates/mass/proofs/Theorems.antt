@@ -4,6 +4,7 @@ use mathlib.Core.Path.{_≡_, ap}
 use Prim.Native.Nat.{ℕ, _+_, _-_, _*_, _≤_}
 use native.Mathlib.Omega.{arith}
 use Rattle.mass.specs.Split.{certain, failing, working}
+use Rattle.mass.specs.declared.BothParts.{BothParts}
 
 whole-of : (q : ℕ) → q ≤ certain → q + (certain - q) ≡ certain
 whole-of q h = omega arith
@@ -27,3 +28,10 @@ module _ (m q : ℕ) (fits : q ≤ certain) where
 
   pub works-le : working m q ≤ m
   works-le = omega (arith, parts-le)
+
+-- splits that are equal have equal parts
+pub same-fails : {r s : BothParts} → r ≡ s → r .fails .units ≡ s .fails .units
+same-fails e = ap (λ (b : BothParts). b .fails .units) e
+
+pub same-works : {r s : BothParts} → r ≡ s → r .works .units ≡ s .works .units
+same-works e = ap (λ (b : BothParts). b .works .units) e

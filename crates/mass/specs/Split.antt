@@ -7,6 +7,7 @@ use native.Mathlib.Omega.{arith}
 use lib.Dec.{ltb}
 use Rattle.mass.specs.Refusal.{refuse, first}
 use Rattle.mass.specs.declared.Mass.{Mass}
+use Rattle.mass.specs.declared.BothParts.{BothParts}
 use Rattle.mass.specs.declared.Parts.{Parts}
 use Rattle.mass.specs.declared.Parts.the-variants.{Refused, Split}
 
@@ -41,6 +42,10 @@ splitRefusal m q = first (massTest m ∷ probabilityTest q ∷ [])
 -- a mass of m units
 abbrev pub units : ℕ → Mass
 units m = record { units = m }
+
+-- the split itself: both parts of the mass m at an event of probability q
+abbrev pub bothParts : ℕ → ℕ → BothParts
+bothParts m q = record { fails = units (failing m q); works = units (working m q) }
 
 -- the case of the answer that a number and the two parts stand for: `Refused` with a number that is not 0, else the parts
 abbrev pub partsAnswer : ℕ → ℕ → ℕ → Parts

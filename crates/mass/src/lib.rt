@@ -2,7 +2,7 @@
 // Assumes nothing.
 ghost use mathlib.Core.Path.{_≡_};
 ghost use Prim.Native.Nat.{_*_, _/_, _≤_};
-ghost use Rattle.mass.specs.Split.{certain, whole, splitOf, massTest, probabilityTest};
+ghost use Rattle.mass.specs.Split.{certain, whole, bothParts, splitOf, massTest, probabilityTest};
 
 // An event probability of 1, in units of 10^-9.
 pub const CERTAIN: u64 = 1_000_000_000;
@@ -10,6 +10,12 @@ pub const CERTAIN: u64 = 1_000_000_000;
 // A share of time, in units of 10^-18.
 pub struct Mass {
     pub units: u64,
+}
+
+// The two parts of a mass at an event.
+pub struct BothParts {
+    pub fails: Mass,
+    pub works: Mass,
 }
 
 // What a split answers: the number of the refusal, or the two parts.
@@ -25,7 +31,7 @@ impl Mass {
     };
 
     // The part of the mass that falls to a share of q in 10^9, rounded down: with no wider integer, by the mass's quotient and remainder.
-    pub fn share(self, q: u64) -> Mass
+    fn share(self, q: u64) -> Mass
         requires { ⌜ (self .units ≤ whole) × (q ≤ certain) ⌝ }
         ensures { λ r. ⌜ r .units ≡ self .units * q / certain ⌝ }
     {
@@ -35,7 +41,19 @@ impl Mass {
         }
     }
 
-    // The parts that go to "fails" and to "works" at an event of probability q.
+    // The split itself, of a mass and a probability that are in range: the parts that go to "fails" and to "works" at an event of
+    // probability q. The walk takes the two sides of a branch from it.
+    pub fn both_parts(self, q: u64) -> BothParts
+        requires { ⌜ (self .units ≤ whole) × (q ≤ certain) ⌝ }
+        ensures { λ r. ⌜ r ≡ bothParts (self .units) q ⌝ }
+    {
+        BothParts {
+            fails: self.share(q),
+            works: self.share(CERTAIN - q),
+        }
+    }
+
+    // The split of any mass at any probability: the tests, then the split itself.
     pub fn split(self, q: u64) -> Parts
         ensures { λ r. ⌜ r ≡ splitOf (self .units) q ⌝ }
     {
@@ -47,10 +65,10 @@ impl Mass {
         if above != 0 {
             return Parts::Refused(above);
         }
-        Parts::Split {
-            fails: self.share(q),
-            works: self.share(CERTAIN - q),
-        }
+        let both = self.both_parts(q);
+        let fails = both.fails;
+        let works = both.works;
+        Parts::Split { fails, works }
     }
 }
 

@@ -14,7 +14,7 @@ use Rattle.mass.proofs.RefusalLaws.{first-none, refuse-none}
 use Rattle.plan.specs.Plan.{Plan}
 use Rattle.plan.specs.LentLists.{planOfLists}
 use Rattle.plan.specs.declared.Header.{Header}
-use Rattle.network.specs.Outage.{Outage, intact}
+use Rattle.network.specs.Outage.{intact}
 use Rattle.walk.specs.Scenario.{Scenario, number}
 use Rattle.walk.specs.Walk.{examined, isExamined}
 use Rattle.walk.specs.WalkOrder.{earlier}
@@ -64,8 +64,8 @@ within n d lower upper h k =
     }
 
 -- the exact downtime of a pair lies between the seconds of its two bounds, whatever is out before the first event
-pub bounds-enclose : (out : Outage) (lower upper : ℕ) → EnclosesDowntime out lower upper (secondsOf lower upper)
-bounds-enclose out lower upper p valid v w l k is-lower is-upper =
+pub bounds-enclose : (lower upper : ℕ) → EnclosesDowntime lower upper (secondsOf lower upper)
+bounds-enclose lower upper out p valid v w l k is-lower is-upper =
     let held = demand3-valid p valid (cuts out p v w) in
     let n : ℕ = length (p .events) in
     let d : ℕ = exactCut p (cuts out p v w) in

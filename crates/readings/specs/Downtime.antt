@@ -51,11 +51,11 @@ pub record DowntimeWithin (n d : ℕ) (seconds : Seconds) : Type 0 where
   pub below : seconds .lower * scale n ≤ d * year
   pub above : d * year ≤ seconds .upper * scale n
 
--- "Where the two masses are the bounds of a pair, its exact downtime must lie between the two": for every plan that meets no refusal, and
--- every pair of it whose lower and upper bound they are
-abbrev pub EnclosesDowntime : Outage → ℕ → ℕ → Seconds → Type 0
-EnclosesDowntime out lower upper seconds =
-    (p : Plan) → planRefusal p ≡ 0 → (v w : ℕ) → v < w → w < p .nodes → lowerOf out p v w ≡ lower → upperOf out p v w ≡ upper
+-- "Where the two masses are the bounds of a pair, its exact downtime must lie between the two": whatever is out before the first event, for
+-- every plan that meets no refusal, and every pair of it whose lower and upper bound they are
+abbrev pub EnclosesDowntime : ℕ → ℕ → Seconds → Type 0
+EnclosesDowntime lower upper seconds =
+    (out : Outage) (p : Plan) → planRefusal p ≡ 0 → (v w : ℕ) → v < w → w < p .nodes → lowerOf out p v w ≡ lower → upperOf out p v w ≡ upper
     → DowntimeWithin (length (p .events)) (exactCut p (cuts out p v w)) seconds
 
 -- examples: nothing; the whole year; 62,500,000,000,000 units, which make 1,971 seconds and are not raised

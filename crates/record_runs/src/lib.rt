@@ -7,6 +7,7 @@ use bounds::Ran;
 use plan::Header;
 use records::Event;
 use records::flatten;
+use records::used_words;
 pub use running::run_plan;
 ghost use mathlib.Core.Path.{_≡_};
 ghost use Prim.Native.Nat.{_*_};
@@ -40,9 +41,7 @@ pub fn run_words(
         → EnclosesAll intact (planOfLists h (now (links .entry)) (wordsUsed count (now (words .entry))))
         (now (lower .exit)) (now (upper .exit)) (totalsIn r .count)) ⌝ }
 {
-    let used = 4 * lent::smaller(count, 128);
-    let all = &words[..];
-    bounds::run(h, links, &all[0..used], lower, upper)
+    bounds::run(h, links, used_words(words, count), lower, upper)
 }
 
 // The run over all pairs: fills the two lists with the bounds of the pairs, in order, and answers the examined count, complete and E.

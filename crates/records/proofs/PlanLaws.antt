@@ -8,7 +8,7 @@ use Prim.Native.Nat.{ℕ, zero, suc, _*_, _/_, _≤_, _<_, min}
 use native.Mathlib.Omega.{arith}
 use borrow.Author.Tests.{ltb-true, ltb-false, lt-ltb, le-ltb}
 use lib.Dec.{ltb}
-use lib.ListN.{length, take, length-take}
+use lib.ListN.{length, take, replicate, length-take}
 use lib.Seq.{sets, sets-eq, take-at, take-take}
 use Rattle.mass.specs.Refusal.{refuse, first}
 use Rattle.mass.proofs.RefusalLaws.{first-none}
@@ -25,7 +25,7 @@ use Rattle.plan.specs.declared.Writing.{Writing}
 use Rattle.refusals.proofs.TestLaws.{Ranges, counts-none, room-none}
 use Rattle.lent.proofs.CopyLaws.{same-plan}
 use Rattle.writer.proofs.WriterAnswer.{Outcome}
-use Rattle.records.specs.Events.{wordsOf}
+use Rattle.records.specs.Events.{wordsOf, wordsUsed}
 use Rattle.records.specs.declared.Event.{Event}
 use Rattle.records.proofs.EventLaws.{length-words, take-words}
 
@@ -98,6 +98,20 @@ module _ (h : Header) (ks : List ℕ) (es : List Event) (room : ℕ) (is : room 
       go : (n : ℕ) → (n ≡ 0 → planOfLists h ks few ≡ planOfLists h ks all) → f n (planOfLists h ks few) ≡ f n (planOfLists h ks all)
       go zero same = ap (f zero) (same refl)
       go (suc n) same = silent n _ _
+
+-- from records to a call on words: the used part of the words that `flatten` leaves is refused with the number that the records have, 12
+-- for a header with more events than records among them
+pub bridged : (h : Header) (links : List ℕ) (es : List Event) (room : List ℕ) → length room ≡ 512
+    → listsNumber h links (wordsUsed (length es) (sets room 0 (wordsOf (take 128 es)))) ≡ listsRefusal h (length links) (length es) links (wordsOf es)
+bridged h links es room long = ap (listsNumber h links) (used-words es room long) ∙ lists-same h links es (length es) refl
+
+-- computed: three records, all zeros, beside a header with five events. The used part of the words meets 12; all 512 of them would be accepted.
+abbrev five : Header
+five = record { nodes = 1; links = 0; events = 5; threshold = 1; limit = 1 }
+
+example-bridged : (listsNumber five [] (wordsUsed 3 (replicate 512 0)) ≡ 12) × (listsNumber five [] (replicate 512 0) ≡ 0)
+unfolding listsRefusal linkListRefusal eventListRefusal linksOf eventsOf first
+example-bridged = (refl, refl)
 
 -- a plan written from the words of the first 128 records is that of all of them
 pub written-list : (h : Header) (links out left : List ℕ) (es : List Event) (answer : Writing)

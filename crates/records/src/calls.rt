@@ -1,6 +1,7 @@
 // Writing a plan file with the events in a lent list of records. The call on records is thin: an array of words of its own, and two calls.
 use crate::Event;
 use crate::lists::flatten;
+use crate::lists::used_words;
 use plan::Header;
 use plan::Writing;
 ghost use mathlib.Core.Path.{_≡_};
@@ -27,9 +28,7 @@ pub fn write_words(
         (writeNumber h (now (links .entry)) (wordsUsed count (now (words .entry))) (now (out .entry)))
         (layout (planOfLists h (now (links .entry)) (wordsUsed count (now (words .entry))))) (now (out .entry)) ⌝ }
 {
-    let used = 4 * lent::smaller(count, 128);
-    let all = &words[..];
-    writer::write(h, links, &all[0..used], out)
+    writer::write(h, links, used_words(words, count), out)
 }
 
 // Writes a plan from lent lists: links two bytes each, events a record each.

@@ -5,7 +5,7 @@ ghost use mathlib.Core.List.{[], _∷_};
 ghost use Prim.Native.Nat.{_*_, _<_, _≤_};
 ghost use lib.ListN.{length, take, drop};
 ghost use lib.Seq.{sets};
-ghost use Rattle.records.specs.Events.{wordsOf, recordIn, recordsOf};
+ghost use Rattle.records.specs.Events.{wordsOf, wordsUsed, recordIn, recordsOf};
 
 // The record whose words stand at place `i`.
 pub fn event_at(words: &[u64; 512], i: usize) -> Event
@@ -44,7 +44,8 @@ pub fn fill(words: &[u64; 512], events: &mut [Event], count: usize)
     }
 }
 
-// The words of the first 128 records, or of all where there are fewer, laid down from the start of the array.
+// The words of the first 128 records, or of all where there are fewer, laid down from the start of the array. What a call on words is given
+// of them is `used_words`.
 pub fn flatten(events: &[Event], words: &mut [u64; 512])
     ensures { λ r. ⌜ now (words .exit) ≡ sets (now (words .entry)) 0 (wordsOf (take 128 (now (events .entry)))) ⌝ }
 {
@@ -55,4 +56,14 @@ pub fn flatten(events: &[Event], words: &mut [u64; 512])
         put_event(&mut *words, i, events[i]);
         i += 1;
     }
+}
+
+// The part of the words that a list of `count` records fills, or its first 128. A call that takes words is given this part and no more: then
+// it meets 12 where the header has more events than the list has records.
+pub fn used_words(words: &[u64; 512], count: usize) -> &[u64]
+    ensures { λ r. ⌜ now r ≡ wordsUsed count (now (words .entry)) ⌝ }
+{
+    let used = 4 * lent::smaller(count, 128);
+    let all = &words[..];
+    &all[0..used]
 }

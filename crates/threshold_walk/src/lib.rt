@@ -110,7 +110,8 @@ fn go_down(
                 mass: m,
             };
         }
-        let f = walk::fails(events, d, m);
+        let parts = walk::split_at(events, d, m);
+        let f = parts.fails.units;
         if f < lowest {
             return Halt {
                 at: top,
@@ -120,7 +121,7 @@ fn go_down(
         }
         top -= 5;
         push(&mut *stack, top, d, f, low, high, m);
-        m = walk::works(events, d, m);
+        m = parts.works.units;
         d += 1;
     }
 }

@@ -3,7 +3,7 @@
 -- Assumes nothing.
 use mathlib.Core.Path.{_≡_, refl, ap, _∙_}
 use mathlib.Core.List.{List, [], _∷_, _++_}
-use Prim.Native.Nat.{ℕ, _+_, _*_, _/_, _≤_, _<_}
+use Prim.Native.Nat.{ℕ, _+_, _-_, _*_, _/_, _≤_, _<_}
 use native.Mathlib.Nat.{zero-add}
 use native.Mathlib.Omega.{arith}
 use lib.ListN.{length, drop}
@@ -14,27 +14,24 @@ use Rattle.plan.specs.Plan.{Plan}
 use Rattle.plan.specs.LentLists.{listsRefusal, planOfLists}
 use Rattle.plan.specs.declared.Header.{Header}
 use Rattle.layout.proofs.ListLaws.{length-links-of}
-use Rattle.lent.proofs.Accepted.{lists-counted, lists-held}
-use Rattle.plan.specs.Held.{Probabilities}
-use Rattle.walk.proofs.Valid.{held-probable}
+use Rattle.lent.proofs.Accepted.{lists-counted}
 use Rattle.walk.specs.Walk.{firstEnds, massExamined}
 use Rattle.bounds.specs.Bounds.{lowerOf, upperOf, topologyOf, cuts}
 use Rattle.entries.specs.Entries.{Entry, massesIn, TopologyList, topologyList, entryWords}
 use Rattle.topology_list.specs.TopologyList.{topologyAfter, topologyListOf}
 use Rattle.topology_list.specs.Different.{Different, differentOf}
 use Rattle.topology_list.proofs.ListLaws.{different-placed, never-over, sum-placed, masses-are}
-use Rattle.topology_list.specs.ListBounds.{lowerFrom, sumEntries, cutIn}
+use Rattle.topology_list.specs.ListBounds.{lowerFrom, upperFrom, sumEntries, cutIn}
 use Rattle.entries.specs.Words.{entriesOf}
 use Rattle.topology_list.specs.Calls.{topologyListIn, topologiesRefusal, topologiesNumber, listedAnswer, countIn, listAfter}
 use Rattle.entries.proofs.EntryLaws.{entry-words-length}
 use mathlib.Core.Logic.{_↔_}
 use native.Mathlib.Decide.{decLe}
 use Rattle.topology_list.proofs.RoomLaws.{room-for-all, no-room-for-all}
-use mathlib.Core.Bool.{Bool}
+use mathlib.Core.Bool.{Bool, not}
 use Rattle.sets.specs.Sets.{digit}
 use Rattle.network.specs.Outage.{intact}
-use Rattle.walk.specs.Ends.{sumEnds}
-use Rattle.sums.proofs.BoundsLaws.{upper-lower}
+use Rattle.walk.specs.Ends.{sumEnds, weighed}
 use Rattle.entries.specs.declared.Topology.{Topology}
 use Rattle.topology_list.proofs.ListBounds.{same-cut, same-sum}
 
@@ -55,17 +52,20 @@ module _ (p : Plan) (room : ℕ) (placed-all : topologyListOf intact room p .num
       one m = omega arith
 
   module _ (few : p .nodes ≤ 64) (fewLinks : length (p .links) ≤ 128) (v w : ℕ) where
-    -- and the lower bound of every pair taken from it is the run's
-    pub list-lower : lowerFrom p entries v w ≡ lowerOf intact p v w
-    list-lower =
-        sum-is (λ t. digit (cutIn p v w t))
+    -- a sum of mass × weight by whether the pair is disconnected is that over the examined scenarios
+    cut-sum : (weight : Bool → ℕ) → sumEntries (λ t. weight (cutIn p v w t)) entries ≡ weighed (λ s. weight (cuts intact p v w s)) (firstEnds p)
+    cut-sum weight =
+        sum-is (λ t. weight (cutIn p v w t))
         ∙ same-sum _ _
-        (λ s m. ap (λ (b : Bool). m * digit b) (same-cut (p .nodes) (p .links) (topologyOf intact p s .out) few fewLinks v w))
+        (λ s m. ap (λ (b : Bool). m * weight b) (same-cut (p .nodes) (p .links) (topologyOf intact p s .out) few fewLinks v w))
         (firstEnds p)
 
-    -- and so is the upper bound, 10^18 less the list's masses and the lower bound added
-    pub list-upper : Probabilities (p .events) → upperOf intact p v w + massesIn entries ≡ lowerFrom p entries v w + whole
-    list-upper q = omega (arith, list-sums, list-lower, upper-lower p q (cuts intact p v w))
+    -- so the bounds of every pair taken from it are the run's
+    pub list-lower : lowerFrom p entries v w ≡ lowerOf intact p v w
+    list-lower = cut-sum digit
+
+    pub list-upper : upperFrom p entries v w ≡ upperOf intact p v w
+    list-upper = ap (λ (n : ℕ). whole - n) (cut-sum (λ b. digit (not b)))
 
 module _ (room : ℕ) (p : Plan) where
   -- with an entry for each different topology the list has them all, and with fewer entries 15 is met
@@ -152,10 +152,6 @@ module _ (h : Header) (links events list : List ℕ) (accepted : topologiesNumbe
   unfolding planOfLists
   few-links = omega (arith, length-links-of (h .links) links, lists-counted h (length links) (length events / 4) links events lists-fine .links-fit)
 
-  probable : Probabilities (p .events)
-  unfolding planOfLists
-  probable = held-probable h links events (lists-held h (length links) (length events / 4) links events lists-fine)
-
   -- their masses sum to E
   pub written-sums : massesIn written ≡ massExamined p
   written-sums = ap massesIn written-is ∙ list-sums p (length list / 4) all-placed
@@ -165,5 +161,6 @@ module _ (h : Header) (links events list : List ℕ) (accepted : topologiesNumbe
   written-lower v w =
       ap (λ (es : List Entry). lowerFrom p es v w) written-is ∙ list-lower p (length list / 4) all-placed few few-links v w
 
-  pub written-upper : (v w : ℕ) → upperOf intact p v w + massesIn written ≡ lowerFrom p written v w + whole
-  written-upper v w = rw written-is (list-upper p (length list / 4) all-placed few few-links v w probable)
+  pub written-upper : (v w : ℕ) → upperFrom p written v w ≡ upperOf intact p v w
+  written-upper v w =
+      ap (λ (es : List Entry). upperFrom p es v w) written-is ∙ list-upper p (length list / 4) all-placed few few-links v w

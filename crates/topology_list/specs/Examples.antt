@@ -1,7 +1,7 @@
 -- Examples of the topology list: two nodes and one link between them, and two events of probability 1/2.
 -- Assumes nothing.
 use mathlib.Core.Path.{_≡_, refl}
-use mathlib.Core.List.{[], _∷_}
+use mathlib.Core.List.{List, [], _∷_}
 use Prim.Native.Nat.{ℕ}
 use Rattle.sets.specs.Sets.{bit, setWhere, anyBelow}
 use Rattle.plan.specs.Plan.{Plan, Event}
@@ -9,9 +9,9 @@ use Rattle.network.specs.Outage.{intact, unionOf}
 use Rattle.network.specs.Topology.{nodeWorks, linkWorks, joins, adjacent}
 use Rattle.topology.specs.Paths.{via, disconnected}
 use Rattle.walk.specs.Ends.{ends}
-use Rattle.entries.specs.Entries.{entry, sameTopology, topologyList, entryWords}
+use Rattle.entries.specs.Entries.{Entry, entry, sameTopology, topologyList, entryWords}
 use Rattle.topology_list.specs.TopologyList.{topologyIn, topologyListOf}
-use Rattle.topology_list.specs.ListBounds.{lowerFrom}
+use Rattle.topology_list.specs.ListBounds.{lowerFrom, upperFrom}
 use Rattle.entries.specs.declared.Topology.{Topology}
 
 abbrev event : ℕ → ℕ → Event
@@ -48,11 +48,18 @@ example-none : topologyListOf intact 0 (example 250000000000000001) ≡ topology
 unfolding topologyListOf ends
 example-none = refl
 
--- the four words of an entry, and the lower bound taken from the list
+-- the four words of an entry, and the bounds taken from the list and from its first entry alone
 example-words : entryWords (entry up 5 ∷ []) ≡ 3 ∷ 1 ∷ 0 ∷ 5 ∷ []
 unfolding entryWords
 example-words = refl
 
-example-lower : lowerFrom (example 1) (entry up 250000000000000000 ∷ entry down 750000000000000000 ∷ []) 0 1 ≡ 750000000000000000
+abbrev first : List Entry
+first = entry up 250000000000000000 ∷ []
+
+abbrev both : List Entry
+both = entry up 250000000000000000 ∷ entry down 750000000000000000 ∷ []
+
+example-bounds : (lowerFrom (example 1) both 0 1 ≡ 750000000000000000) × (upperFrom (example 1) both 0 1 ≡ 750000000000000000)
+    × (lowerFrom (example 1) first 0 1 ≡ 0) × (upperFrom (example 1) first 0 1 ≡ 750000000000000000)
 unfolding setWhere nodeWorks linkWorks joins adjacent anyBelow bit via disconnected
-example-lower = refl
+example-bounds = (refl, refl, refl, refl)

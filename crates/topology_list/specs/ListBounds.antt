@@ -2,8 +2,9 @@
 -- Assumes nothing.
 use mathlib.Core.Bool.{Bool, not}
 use mathlib.Core.List.{List, [], _∷_}
-use Prim.Native.Nat.{ℕ, _+_, _*_}
+use Prim.Native.Nat.{ℕ, _+_, _-_, _*_}
 use Rattle.sets.specs.Sets.{bit, joined, digit, setWhere}
+use Rattle.mass.specs.Split.{whole}
 use Rattle.plan.specs.Plan.{Plan}
 use Rattle.network.specs.Outage.{Outage}
 use Rattle.network.specs.Topology.{networkOf}
@@ -27,3 +28,7 @@ cutIn p v w t = disconnected (networkOf (p .nodes) (p .links) (downIn t)) v w
 -- lower, taken from the list: the masses of the entries whose topology disconnects the pair
 abbrev pub lowerFrom : Plan → List Entry → ℕ → ℕ → ℕ
 lowerFrom p entries v w = sumEntries (λ t. digit (cutIn p v w t)) entries
+
+-- upper, taken from the list: 10^18 less the masses of the entries whose topology does not
+abbrev pub upperFrom : Plan → List Entry → ℕ → ℕ → ℕ
+upperFrom p entries v w = whole - sumEntries (λ t. digit (not (cutIn p v w t))) entries

@@ -9,7 +9,7 @@ use crate::with_event;
 ghost use mathlib.Core.Path.{_≡_};
 ghost use Prim.Native.Nat.{_+_, _*_, _^_, _≤_, _<_, min};
 ghost use lib.ListN.{length, getD, drop};
-ghost use Rattle.mass.specs.Split.{certain, whole, failing, working};
+ghost use Rattle.mass.specs.Split.{certain, whole, bothParts, working};
 ghost use Rattle.sets.specs.Sets.{joined};
 ghost use Rattle.plan.specs.Lists.{eventsOf};
 ghost use Rattle.plan.specs.Held.{Falling};
@@ -22,26 +22,14 @@ ghost use Rattle.walk.specs.Steps.{Handed, TwoParts, Stopped, Pushed, De
 // The first word of an entry that is a number of dropped ends, and no branch.
 const RUN: u64 = 129;
 
-// The mass that the event at a depth leaves where it fails.
-pub fn fails(events: &[u64; 512], depth: u64, mass: u64) -> u64
+// What the event at a depth leaves of a mass where it fails and where it works: the split of the mass type.
+pub fn split_at(events: &[u64; 512], depth: u64, mass: u64) -> mass::BothParts
     requires { ⌜ (depth < 128) × (mass ≤ whole) × (getD (now events) (depth * 4) 0 ≤ certain) ⌝ }
-    ensures { λ r. ⌜ r ≡ failing mass (getD (now (events .entry)) (depth * 4) 0) ⌝ }
+    ensures { λ r. ⌜ r ≡ bothParts mass (getD (now (events .entry)) (depth * 4) 0) ⌝ }
 {
     let q = events[depth as usize * 4];
     let all = mass::Mass { units: mass };
-    let part = all.share(q);
-    part.units
-}
-
-// The mass that the event at a depth leaves where it works.
-pub fn works(events: &[u64; 512], depth: u64, mass: u64) -> u64
-    requires { ⌜ (depth < 128) × (mass ≤ whole) × (getD (now events) (depth * 4) 0 ≤ certain) ⌝ }
-    ensures { λ r. ⌜ r ≡ working mass (getD (now (events .entry)) (depth * 4) 0) ⌝ }
-{
-    let q = events[depth as usize * 4];
-    let all = mass::Mass { units: mass };
-    let part = all.share(mass::CERTAIN - q);
-    part.units
+    all.both_parts(q)
 }
 
 // A mass in two parts.
@@ -56,8 +44,8 @@ fn parted(mass: u64) -> Parted
     }
 }
 
-// What the event at a depth leaves of a mass where it works. Each part is gone on with by itself, so that no division waits for another;
-// the low part may grow to 16 × 10^9 before it is carried over.
+// What the event at a depth leaves of a mass where it works: the same as `split_at`. Each part is gone on with by itself, so that no division
+// waits for another; the low part may grow to 16 × 10^9 before it is carried over.
 fn works_on(events: &[u64; 512], depth: u64, m: Parted) -> Parted
     requires { ⌜ (depth < 128) × TwoParts (m .units) m × (getD (now events) (depth * 4) 0 ≤ certain) ⌝ }
     ensures { λ r. ⌜ TwoParts (working (m .units) (getD (now (events .entry)) (depth * 4) 0)) r ⌝ }
@@ -173,8 +161,9 @@ fn go_down(
         if d >= count {
             return come_to(threshold, top, m, low, high, 0);
         }
-        let f = fails(events, d, m);
-        let w = works(events, d, m);
+        let parts = split_at(events, d, m);
+        let f = parts.fails.units;
+        let w = parts.works.units;
         if f < threshold {
             let stop = straight(count, threshold, events, d + 1, w);
             return come_to(threshold, top, stop.mass, low, high, stop.depth - d);

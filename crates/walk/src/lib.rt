@@ -9,10 +9,9 @@ ghost use Rattle.walk.specs.Stack.{Begun};
 
 mod ahead;
 
-pub use ahead::fails;
 pub use ahead::next_relevant;
+pub use ahead::split_at;
 pub use ahead::straight;
-pub use ahead::works;
 
 // A set of events in two words, events 64 to 127 in the high one.
 pub struct Failing {

@@ -4,7 +4,7 @@ use Prim.Native.Nat.{ℕ}
 use native.Mathlib.Omega.{arith}
 use borrow.Author.Needs.{needs}
 use Rattle.plan.specs.Calls.{headerOf, readAnswer}
-use Rattle.input.proofs.LoadedLaws.{bytes-each, same-refusal, left-loaded}
+use Rattle.input.proofs.LoadedLaws.{bytes-each, same-refusal, left-same, left-loaded}
 use Rattle.input.proofs.read_input.Statement.{statement}
 use Rattle.input.proofs.read_input.Tie as tie
 
@@ -14,9 +14,16 @@ read-core-requires c κs = search needs
 returns : tie.Need-returns
 returns c =
     let a = c .before .before .before .before .args in
-    let r = c .read-core .ensures in (
+    let r = c .read-core .ensures in
+    let bytes = bytes-each (a .s .now) (λ i. omega (arith, c .before .before .before .shared-slice-known .given i)) in (
       r .0 ∙ ap (λ (n : ℕ). readAnswer n (headerOf (a .s .now))) (same-refusal (a .s .now)),
-      left-loaded (a .s .now) _ _ _ _ (bytes-each (a .s .now) (λ i. omega (arith, c .before .before .before .shared-slice-known .given i))) (c .before .before .before .before .pre .0) (c .before .before .before .before .pre .1) (r .1 .0) (r .1 .1),
+      (
+        left-same (a .s .now) _ _ _ (r .1 .0),
+        (
+          left-same (a .s .now) _ _ _ (r .1 .1),
+          left-loaded (a .s .now) _ _ _ _ bytes (c .before .before .before .before .pre .0) (c .before .before .before .before .pre .1) (r .1 .0) (r .1 .1),
+        ),
+      ),
     )
 
 pub read-input-spec : {M : Type 1} → statement M

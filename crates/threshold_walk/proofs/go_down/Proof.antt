@@ -3,6 +3,7 @@
 use mathlib.Core.Path.{refl}
 use Prim.Native.Nat.{_-_}
 use native.Mathlib.Omega.{arith}
+use Rattle.mass.proofs.Theorems.{same-fails, same-works}
 use Rattle.walk.proofs.Descents.{probable}
 use Rattle.threshold_walk.proofs.Descents.{Going, halts, room, room-next, down}
 use Rattle.threshold_walk.proofs.go_down.Statement.{statement}
@@ -24,12 +25,12 @@ returns c = halts _ _ _ _ _ _ _ _ _ _ _ _ _ (c .before .loop .inv) (λ a b. absu
 returns-2 : tie.Need-returns-2 Inv-loop μ-loop
 returns-2 c = halts _ _ _ _ _ _ _ _ _ _ _ _ _ (c .before .before .loop .inv) (λ a b. absurd (omega (arith, c .if2 .taken)))
 
-fails-requires : tie.Need-fails-requires Inv-loop μ-loop
-fails-requires c κs = (omega arith, c .before .before .loop .inv .hand .lighter, probable _ _ (c .before .before .before .pre .0 .1) _ (c .if2 .left))
+split-at-requires : tie.Need-split-at-requires Inv-loop μ-loop
+split-at-requires c κs = (omega arith, c .before .before .loop .inv .hand .lighter, probable _ _ (c .before .before .before .pre .0 .1) _ (c .if2 .left))
 
 returns-3 : tie.Need-returns-3 Inv-loop μ-loop
 returns-3 c =
-    halts _ _ _ _ _ _ _ _ _ _ _ _ _ (c .before .before .before .before .loop .inv) (λ a b. rw (c .before .fails .ensures) at (c .if3 .taken))
+    halts _ _ _ _ _ _ _ _ _ _ _ _ _ (c .before .before .before .before .loop .inv) (λ a b. rw (c .before .split-at .ensures) at (c .if3 .taken))
 
 sub-top : tie.Need-sub-top Inv-loop μ-loop
 sub-top c =
@@ -44,11 +45,6 @@ push-requires c κs =
     let g = two .before .before .loop .inv in
     (omega arith, g .hand .word, g .hand .decided, room-next _ _ _ _ _ _ _ _ _ _ _ _ _ g (s .pre .0 .0) (s .pre .0 .1) (two .before .if1 .left) (two .if2 .left))
 
-works-requires : tie.Need-works-requires Inv-loop μ-loop
-works-requires c κs =
-    let two = c .before .before .before .before in
-    (omega arith, two .before .before .loop .inv .hand .lighter, probable _ _ (two .before .before .before .pre .0 .1) _ (two .if2 .left))
-
 add-d : tie.Need-add-d Inv-loop μ-loop
 add-d c = omega arith
 
@@ -57,12 +53,11 @@ loop-less c = omega arith
 
 loop-again : tie.Need-loop-again Inv-loop μ-loop
 loop-again c =
-    let pushed = c .before in
-    let fell = pushed .before .before .before in
-    let two = fell .before in
+    let parts = c .before .before .before in
+    let two = parts .before in
     let s = two .before .before .before in
     down _ _ _ _ _ _ _ _ _ _ _ _ _ (two .before .before .loop .inv) (s .pre .0 .0) (s .pre .0 .1) (two .before .if1 .left) (two .if2 .left) _ _ _
-    (fell .fails .ensures) (c .works .ensures) (pushed .push .ensures)
+    (same-fails (parts .split-at .ensures)) (same-works (parts .split-at .ensures)) (c .push .ensures)
 
 pub go-down-spec : {M : Type 1} → statement M
 go-down-spec =
@@ -73,11 +68,10 @@ go-down-spec =
     loop-holds
     returns
     returns-2
-    fails-requires
+    split-at-requires
     returns-3
     sub-top
     push-requires
-    works-requires
     add-d
     loop-less
     loop-again)

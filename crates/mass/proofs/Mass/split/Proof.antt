@@ -1,9 +1,7 @@
 -- `mass::Mass::split` meets its contract: at each `return` the tests that led there say which case of `splitOf` holds. Assumes nothing.
 use borrow.Author.Needs.{needs}
-use mathlib.Core.Path.{sym, _∙_, ap₂}
-use Prim.Native.Nat.{ℕ}
-use native.Mathlib.Omega.{arith}
-use Rattle.mass.specs.Split.{units}
+use mathlib.Core.Path.{sym, _∙_, ap}
+use Rattle.mass.specs.declared.BothParts.{BothParts}
 use Rattle.mass.specs.declared.Parts.the-variants.{Split}
 use Rattle.mass.proofs.Answer.{too-heavy, too-probable, parted, mass-fits, probability-fits}
 use Rattle.mass.proofs.Mass.split.Statement.{statement}
@@ -26,24 +24,18 @@ returns-2 c =
     (c .before .probability-test .ensures)
     (c .if2 .taken)
 
-share-requires : tie.Need-share-requires
-share-requires c κs = (
+both-parts-requires : tie.Need-both-parts-requires
+both-parts-requires c κs = (
   mass-fits _ (sym (c .before .before .before .mass-test .ensures) ∙ c .before .before .if1 .left),
   probability-fits _ (sym (c .before .probability-test .ensures) ∙ c .if2 .left),
 )
 
-sub-share : tie.Need-sub-share
-sub-share c = omega (arith, probability-fits (c .before .before .before .before .before .args .q) (sym (c .before .before .probability-test .ensures) ∙ c .before .if2 .left))
-
-share-requires-2 : tie.Need-share-requires-2
-share-requires-2 c κs = (share-requires (c .before) κs .0, omega arith)
-
 returns-3 : tie.Need-returns-3
 returns-3 c =
-    ap₂ (λ (f w : ℕ). Split (units f) (units w)) (c .before .share .ensures) (c .share2 .ensures)
+    ap (λ (b : BothParts). Split (b .fails) (b .works)) (c .before .before .both-parts .ensures)
     ∙ parted _ _
-    (sym (c .before .before .before .before .before .mass-test .ensures) ∙ c .before .before .before .before .if1 .left)
-    (sym (c .before .before .before .probability-test .ensures) ∙ c .before .before .if2 .left)
+    (sym (c .before .before .before .before .before .before .mass-test .ensures) ∙ c .before .before .before .before .before .if1 .left)
+    (sym (c .before .before .before .before .probability-test .ensures) ∙ c .before .before .before .if2 .left)
 
 pub split-spec : {M : Type 1} → statement M
 split-spec =
@@ -53,7 +45,5 @@ split-spec =
     returns
     probability-test-requires
     returns-2
-    share-requires
-    sub-share
-    share-requires-2
+    both-parts-requires
     returns-3)

@@ -8,7 +8,6 @@ use lib.ListN.{length}
 use Rattle.mass.specs.Split.{massTest}
 use Rattle.mass.proofs.Answer.{mass-fits}
 use Rattle.refusals.proofs.OrderLaws.{stop, skip}
-use Rattle.network.specs.Outage.{intact}
 use Rattle.sums.specs.Exact.{exactCut}
 use Rattle.bounds.specs.Bounds.{cuts}
 use Rattle.readings.specs.Downtime.{downtimeAnswer, downtimeRefusal, secondsOf, secondsIn}
@@ -29,16 +28,16 @@ module _ (lower upper : ℕ) where
   answer = downtimeAnswer (downtimeRefusal lower upper) (secondsOf lower upper)
 
   -- the bounds of a pair are accepted, so the answer has their seconds
-  answer-encloses : EnclosesDowntime intact lower upper (secondsIn answer)
-  answer-encloses p valid v w l k is-lower is-upper =
-      let accepted : downtimeRefusal lower upper ≡ 0 = ap₂ downtimeRefusal (sym is-lower) (sym is-upper) ∙ bounds-fit intact p valid v w in
+  answer-encloses : EnclosesDowntime lower upper (secondsIn answer)
+  answer-encloses out p valid v w l k is-lower is-upper =
+      let accepted : downtimeRefusal lower upper ≡ 0 = ap₂ downtimeRefusal (sym is-lower) (sym is-upper) ∙ bounds-fit out p valid v w in
       subst
-      (λ (n : ℕ). DowntimeWithin (length (p .events)) (exactCut p (cuts intact p v w)) (secondsIn (downtimeAnswer n (secondsOf lower upper))))
+      (λ (n : ℕ). DowntimeWithin (length (p .events)) (exactCut p (cuts out p v w)) (secondsIn (downtimeAnswer n (secondsOf lower upper))))
       (sym accepted)
-      (bounds-enclose intact lower upper p valid v w l k is-lower is-upper)
+      (bounds-enclose lower upper out p valid v w l k is-lower is-upper)
 
-  concluded : (r : Timed) → r ≡ answer → (r ≡ answer) × EnclosesDowntime intact lower upper (secondsIn r)
-  concluded r e = (e, subst (λ (t : Timed). EnclosesDowntime intact lower upper (secondsIn t)) (sym e) answer-encloses)
+  concluded : (r : Timed) → r ≡ answer → (r ≡ answer) × EnclosesDowntime lower upper (secondsIn r)
+  concluded r e = (e, subst (λ (t : Timed). EnclosesDowntime lower upper (secondsIn t)) (sym e) answer-encloses)
 
   given : (s : Seconds) → massTest lower ≡ 0 → massTest upper ≡ 0 → s ≡ secondsOf lower upper → timed.Given s ≡ answer
   given s e f is = rw (none-refused lower upper e f) (ap timed.Given is)

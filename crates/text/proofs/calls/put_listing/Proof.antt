@@ -22,8 +22,8 @@ put-accepted-requires c κs =
     let e = sym (c .before .before .before .before .answer2 .given .1) ∙ c .before .before .before .before .before .before .read-input .ensures .0 in
     let b = c .before .before .before .before .before .before .before .before .before .before .before .args .s .now in
     let read = c .before .before .before .before .before .before .read-input in (
-      loaded-accepted b _ _ _ e (read .ensures .1),
-      fits-as _ _ (c .before .before .before .before .before .before .before .before .before .before .before .args .out .now) (accepted-listing b _ _ _ e (read .ensures .1)) (c .before .before .before .before .before .before .before .before .before .before .before .pre),
+      loaded-accepted b _ _ _ e (read .ensures .1 .1 .1),
+      fits-as _ _ (c .before .before .before .before .before .before .before .before .before .before .before .args .out .now) (accepted-listing b _ _ _ e (read .ensures .1 .1 .1)) (c .before .before .before .before .before .before .before .before .before .before .before .pre),
     )
 
 same-length : tie.Need-same-length
@@ -38,7 +38,7 @@ same-length-2 c = search needs
 returns-2 : tie.Need-returns-2
 returns-2 c =
     let e = sym (c .before .before .before .before .before .before .before .answer2 .given .1) ∙ c .before .before .before .before .before .before .before .before .before .read-input .ensures .0 in
-    laid-as _ _ _ _ _ (accepted-listing (c .before .before .before .before .before .before .before .before .before .before .before .before .before .before .args .s .now) _ _ _ e (c .before .before .before .before .before .before .before .before .before .read-input .ensures .1)) (c .before .before .put-accepted .ensures)
+    laid-as _ _ _ _ _ (accepted-listing (c .before .before .before .before .before .before .before .before .before .before .before .before .before .before .args .s .now) _ _ _ e (c .before .before .before .before .before .before .before .before .before .read-input .ensures .1 .1 .1)) (c .before .before .put-accepted .ensures)
 
 pub put-listing-spec : {M : Type 1} → statement M
 put-listing-spec =

@@ -6,6 +6,7 @@ use Prim.Native.Nat.{_+_, _-_}
 use borrow.Author.Needs.{needs}
 use native.Mathlib.Omega.{arith}
 use lib.ListN.{drop}
+use Rattle.mass.proofs.Theorems.{same-fails, same-works}
 use Rattle.plan.specs.Lists.{eventsOf}
 use Rattle.walk.specs.Pending.{branchEnds}
 use Rattle.walk.specs.Stack.{branchOf, toCome, pendingMass}
@@ -37,22 +38,17 @@ returns-2 : tie.Need-returns-2 Inv-loop μ-loop
 returns-2 c =
     rw (c .come-to2 .ensures) (come-leaf _ _ _ _ _ _ _ _ _ _ _ (c .before .before .before .loop .inv) (c .before .before .if1 .left) (c .before .if2 .taken))
 
-fails-requires : tie.Need-fails-requires Inv-loop μ-loop
-fails-requires c κs = (omega arith, c .before .before .loop .inv .hand .light, probable _ _ (c .before .before .before .pre .0 .1) _ (c .if2 .left))
-
-works-requires : tie.Need-works-requires Inv-loop μ-loop
-works-requires c κs =
-    let two = c .before in
-    (omega arith, two .before .before .loop .inv .hand .light, probable _ _ (two .before .before .before .pre .0 .1) _ (two .if2 .left))
+split-at-requires : tie.Need-split-at-requires Inv-loop μ-loop
+split-at-requires c κs = (omega arith, c .before .before .loop .inv .hand .light, probable _ _ (c .before .before .before .pre .0 .1) _ (c .if2 .left))
 
 add-straight : tie.Need-add-straight Inv-loop μ-loop
 add-straight c = omega arith
 
 straight-requires : tie.Need-straight-requires Inv-loop μ-loop
 straight-requires c κs =
-    let two = c .before .before .before in
+    let two = c .before .before in
     let s = two .before .before .before in
-    let l = worked-le _ _ _ _ _ _ _ _ _ _ _ (two .before .before .loop .inv) (s .pre .0 .0) (s .pre .0 .1) (two .before .if1 .left) (two .if2 .left) _ (c .before .works .ensures) in
+    let l = worked-le _ _ _ _ _ _ _ _ _ _ _ (two .before .before .loop .inv) (s .pre .0 .0) (s .pre .0 .1) (two .before .if1 .left) (two .if2 .left) _ (same-works (c .before .split-at .ensures)) in
     (s .pre .0 .0, omega arith, l, s .pre .0 .1)
 
 sub-come-to : tie.Need-sub-come-to Inv-loop μ-loop
@@ -64,22 +60,22 @@ come-to-requires-3 c κs = search needs
 returns-3 : tie.Need-returns-3 Inv-loop μ-loop
 returns-3 c =
     let three = c .before .before .before in
-    let fell = three .before .before in
-    let two = fell .before in
+    let parts = three .before in
+    let two = parts .before in
     let s = two .before .before .before in
     rw (c .come-to3 .ensures)
     (come-straight _ _ _ _ _ _ _ _ _ _ _ (two .before .before .loop .inv) (s .pre .0 .0) (s .pre .0 .1) (two .before .if1 .left) (two .if2 .left)
-    (rw (fell .fails .ensures) at (three .if3 .taken)) _ (three .before .works .ensures) _ (c .before .before .straight .ensures))
+    (rw (parts .split-at .ensures) at (three .if3 .taken)) _ (same-works (parts .split-at .ensures)) _ (c .before .before .straight .ensures))
 
 sub-top : tie.Need-sub-top Inv-loop μ-loop
 sub-top c =
-    let two = c .before .before .before in
+    let two = c .before .before in
     let s = two .before .before .before in
     room _ _ _ _ _ _ _ _ _ _ _ (two .before .before .loop .inv) (s .pre .0 .0) (s .pre .0 .1) (two .before .if1 .left) (two .if2 .left)
 
 push-requires : tie.Need-push-requires Inv-loop μ-loop
 push-requires c κs =
-    let two = c .before .before .before .before in
+    let two = c .before .before .before in
     let s = two .before .before .before in
     let g = two .before .before .loop .inv in
     (omega arith, g .hand .word, g .hand .decided, room-next _ _ _ _ _ _ _ _ _ _ _ g (s .pre .0 .0) (s .pre .0 .1) (two .before .if1 .left) (two .if2 .left))
@@ -92,12 +88,11 @@ loop-less c = omega arith
 
 loop-again : tie.Need-loop-again Inv-loop μ-loop
 loop-again c =
-    let worked = c .before .before .before in
-    let fell = worked .before in
-    let two = fell .before in
+    let parts = c .before .before .before in
+    let two = parts .before in
     let s = two .before .before .before in
     down _ _ _ _ _ _ _ _ _ _ _ (two .before .before .loop .inv) (s .pre .0 .0) (s .pre .0 .1) (two .before .if1 .left) (two .if2 .left) _ _ _
-    (fell .fails .ensures) (worked .works .ensures) (c .push .ensures)
+    (same-fails (parts .split-at .ensures)) (same-works (parts .split-at .ensures)) (c .push .ensures)
 
 pub go-down-spec : {M : Type 1} → statement M
 go-down-spec =
@@ -110,8 +105,7 @@ go-down-spec =
     returns
     come-to-requires-2
     returns-2
-    fails-requires
-    works-requires
+    split-at-requires
     add-straight
     straight-requires
     sub-come-to

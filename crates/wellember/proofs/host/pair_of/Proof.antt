@@ -28,7 +28,7 @@ returns-2 c =
     let a = c .before .before .before .before .before .before .before .before .before .before .args in
     let read = c .before .before .before .before .before .before .read-input in
     let h = reading-accepted _ _ _ (sym (c .before .before .before .before .answer2 .given .1) ∙ read .ensures .0) in
-    file-told (a .s .now) (a .room) (a .v) (a .w) _ _ (h .0) (read .ensures .1 (h .0)) _ (h .1) _ (c .pair-in .ensures)
+    file-told (a .s .now) (a .room) (a .v) (a .w) _ _ (h .0) (read .ensures .1 .1 .1 (h .0)) _ (h .1) _ (c .pair-in .ensures)
 
 pub pair-of-spec : {M : Type 1} → statement M
 pair-of-spec =

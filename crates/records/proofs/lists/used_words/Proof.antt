@@ -1,0 +1,32 @@
+-- `records::lists::used_words` meets its contract: the part that it returns is as long as the records' words. Assumes nothing.
+use mathlib.Core.Path.{_≡_, ap}
+use Prim.Native.Nat.{ℕ, _-_, _*_, min}
+use native.Mathlib.Omega.{arith}
+use borrow.Author.Needs.{needs}
+use lib.ListN.{take}
+use Rattle.records.proofs.lists.used_words.Statement.{statement}
+use Rattle.records.proofs.lists.used_words.Tie as tie
+
+smaller-requires : tie.Need-smaller-requires
+smaller-requires c κs = search needs
+
+mul-used : tie.Need-mul-used
+mul-used c = search needs
+
+sub-result : tie.Need-sub-result
+sub-result c = search needs
+
+part-result-start : tie.Need-part-result-start
+part-result-start c = search needs
+
+part-result-end : tie.Need-part-result-end
+part-result-end c = search needs
+
+returns : tie.Need-returns
+returns c =
+    let a = c .before .before .before .args in
+    let n : 4 * c .before .before .smaller .result - 0 ≡ 4 * min (a .count) 128 = omega (arith, c .before .before .smaller .ensures) in
+    ap (λ (k : ℕ). take k (a .words .now)) n
+
+pub used-words-spec : {M : Type 1} → statement M
+used-words-spec = tie.close (tie.spec smaller-requires mul-used sub-result part-result-start part-result-end returns)
