@@ -32,7 +32,7 @@ impl<'a> Asked<'a> {
             }
         }
         if thresholds.is_empty() {
-            thresholds = usual();
+            thresholds = usual_thresholds();
         }
         let drawing = drawing(file, nodes)?;
         Ok(Asked {
@@ -43,7 +43,7 @@ impl<'a> Asked<'a> {
 }
 
 /// The ten thresholds of a call that gives none: 10^15 down to 10^6.
-fn usual() -> Vec<u64> {
+pub fn usual_thresholds() -> Vec<u64> {
     (6..=15).rev().map(|decade| 10_u64.pow(decade)).collect()
 }
 

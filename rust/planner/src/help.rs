@@ -3,9 +3,21 @@
 pub const HELP: &str = "\
 planner file PLAN.txt OUT.plan     writes the plan file of a plan in text form
 planner text IN.plan               prints a plan file in text form, with n0, l0, e0 for names
-planner listing PLAN.txt|IN.plan   prints for people the bounds of each pair, the worst pair first,
+planner check PLAN.txt|IN.plan     prints a line that begins with warning for what the plan leaves
+                                   perfect, with all names: nodes and links that no event names, events
+                                   and windows without members, events with a probability of 0; then
+                                   what the walk examines and whether it is complete, a warning where
+                                   it is not; or why the plan is refused, in a line that begins with
+                                   refused; the exit status is 1 where there is such a line, else 0
+planner listing PLAN.txt|IN.plan [--witness|--no-witness]
+                                   prints for people the bounds of each pair, the worst pair first,
                                    with the first examined scenario that cuts it where there is one:
-                                   the first in the walk's order, not the likeliest;
+                                   first in the walk's order, not the likeliest, so it is not the cause;
+                                   --no-witness leaves it out, and so does a listing of more than 500
+                                   pairs without --witness, since the search takes long;
+                                   where the walk stopped at the cap, the head has the lowest of ten
+                                   thresholds, from 10^15 down to 10^6, at which it does not, and how
+                                   far apart lower and upper would be there;
                                    a long listing shows its progress where standard error is a
                                    terminal: the ends of the walk that are reached, of the cap
 planner listing PLAN.txt|IN.plan --at 'Tue 14:30'
@@ -24,7 +36,7 @@ planner thresholds PLAN.txt|IN.plan [T..] [--svg FILE [--pair NODE NODE]]
                                    they are ten, from 10^15 down to 10^6; the plan's cap counts, its
                                    own threshold does not; --svg also draws in FILE the two bounds of
                                    a pair over the thresholds, both axes logarithmic: the pair after
-                                   --pair, or else the worst at the lowest threshold
+                                   --pair, or else the worst at the threshold with the smallest gap
 planner credit PLAN.txt|IN.plan NODE NODE FEE LIMIT RATE
                                    prints the service credit of a contract for two nodes, at least
                                    and at most, and the headroom: the limit less the upper downtime;
@@ -35,10 +47,14 @@ planner credit PLAN.txt|IN.plan NODE NODE FEE LIMIT RATE
 planner sheet PLAN.txt OUT.sheet   writes the equipment sheet of a plan in text form
 planner events IN.sheet            prints the events of an equipment sheet by falling q, in text form
 
-For listing, bounds, thresholds and credit a name that ends in .plan is read as a plan file, every
-other as text. The nodes of a plan file are n0, n1 and so on.
+For check, listing, bounds, thresholds and credit a name that ends in .plan is read as a plan file,
+every other as text. The nodes of a plan file are n0, n1 and so on.
 
-The text form, a line for each thing, what is named standing above; # starts a comment:
+What a plan leaves perfect is told on standard error by every command that gives figures or writes a
+file, and in the head of a listing, with the first five names.
+
+The text form, a line for each thing, what is named standing above; # at the start of a word starts a
+comment, and inside a word it is an error:
   threshold T            scenarios of less mass are left out; units of 10^-18, 1 to 10^18
   cap C                  the most ends of the walk, 1 to 1000000
   node NAME              a station; at most 64

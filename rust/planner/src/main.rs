@@ -7,10 +7,10 @@ use std::process::ExitCode;
 use account::sheet::layout;
 use conformance::proved;
 use planner::{at_thresholds, drawn_pair, picture, thresholds_table, Asked};
-use planner::{credit, listing, listing_at, print, print_events};
-use planner::{minute_of, parse, parse_sheet, parse_windows};
-use planner::{plan_reason, sheet_reason, windows_are};
-use planner::{Fault, Named, NamedWindow, Progress, HELP};
+use planner::{check, credit, listing, listing_at, print, print_events};
+use planner::{minute_of, parse, parse_sheet};
+use planner::{plan_reason, sheet_reason, warnings, windows_are};
+use planner::{Checked, Fault, Named, Progress, Witness, HELP};
 use plans::Lists;
 
 fn main() -> ExitCode {
@@ -20,8 +20,10 @@ fn main() -> ExitCode {
         ["--help" | "-h" | "help"] => Ok(HELP.to_string()),
         ["file", from, to] => write_file(from, to),
         ["text", from] => read_file(from).map(|named| text_of(from, &named)),
-        ["listing", from] => listing_of(from, listing),
-        ["listing", from, "--at", ref time @ ..] => listing_at_time(from, &time.join(" ")),
+        ["listing", from, ref words @ ..] if words.iter().all(of_listing) => {
+            listing_of(from, words)
+        }
+        ["check", from] => return check_of(from),
         ["bounds", from] => without_windows(from, |named| {
             Ok(proved::plan_listing(&Lists::of(&named.plan)))
         }),
@@ -100,39 +102,82 @@ fn without_windows(
 ) -> Result<String, String> {
     let named = read_any(from)?;
     let text = printed(&named)?;
-    tell_windows(
-        from,
-        &named.windows,
-        "not counted: only listing --at takes windows",
-    );
+    tell(from, &named, "not counted: only listing --at takes windows");
     Ok(text)
 }
 
-/// Tells on standard error what becomes of the windows of a text, if it has any.
-fn tell_windows(from: &str, windows: &[NamedWindow], what: &str) {
-    if let Some(windows) = windows_are(windows) {
+/// Tells on standard error what becomes of the windows of a text, if it has any, and what the plan leaves perfect.
+fn tell(from: &str, named: &Named, what: &str) {
+    if let Some(windows) = windows_are(&named.windows) {
         eprintln!("planner: {from}: {windows} {what}");
+    }
+    tell_perfect(from, named);
+}
+
+/// Tells on standard error what a plan leaves perfect.
+fn tell_perfect(from: &str, named: &Named) {
+    for said in warnings(named) {
+        eprintln!("planner: {from}: warning: {said}");
     }
 }
 
-/// The listing of a plan at a time of the week.
-fn listing_at_time(from: &str, time: &str) -> Result<String, String> {
-    let minute = minute_of(time).map_err(|wrong| format!("--at: {wrong}"))?;
-    listing_of(from, |named, progress| listing_at(named, minute, progress))
+/// Whether a word after `listing PLAN` is an option of it, or none.
+fn of_listing(word: &&str) -> bool {
+    !word.starts_with("--") || ["--at", "--witness", "--no-witness"].contains(word)
 }
 
-/// A listing of a plan; its progress goes to standard error where that is a terminal.
-fn listing_of(
-    from: &str,
-    listing: impl Fn(&Named, &mut Progress) -> Result<String, u32>,
-) -> Result<String, String> {
+/// The listing of a plan that the words ask for.
+fn listing_of(from: &str, words: &[&str]) -> Result<String, String> {
+    let (options, time): (Vec<&str>, Vec<&str>) = words
+        .iter()
+        .copied()
+        .partition(|word| word.ends_with("-witness"));
+    let given = |option| options.contains(&option);
+    let witness = Witness::of(given("--witness"), given("--no-witness"), !time.is_empty())?;
+    let minute = match time[..] {
+        [] => None,
+        ["--at", ref time @ ..] => {
+            Some(minute_of(&time.join(" ")).map_err(|wrong| format!("--at: {wrong}"))?)
+        }
+        [word, ..] => return Err(format!("expected --at; found `{word}`")),
+    };
     let named = read_any(from)?;
+    let text = walked(from, &named, |named, progress| match minute {
+        Some(minute) => listing_at(named, minute, progress),
+        None => listing(named, witness, progress),
+    })?;
+    tell_perfect(from, &named);
+    Ok(text)
+}
+
+/// Prints what there is to say of a plan, and ends with 0 where that is no warning and no refusal.
+fn check_of(from: &str) -> ExitCode {
+    let read = bytes_of(from).map(|_| {
+        let checked = read_any(from).and_then(|named| walked(from, &named, check));
+        checked.unwrap_or_else(|told| Checked::refused(from, &told))
+    });
+    match read.and_then(|checked| show(&checked.lines).map(|()| checked.clean)) {
+        Ok(true) => ExitCode::SUCCESS,
+        Ok(false) => ExitCode::FAILURE,
+        Err(fault) => {
+            eprintln!("planner: {fault}");
+            ExitCode::from(2)
+        }
+    }
+}
+
+/// What is made by a walk; its progress goes to standard error where that is a terminal.
+fn walked<T>(
+    from: &str,
+    named: &Named,
+    made: impl Fn(&Named, &mut Progress) -> Result<T, u32>,
+) -> Result<T, String> {
     let mut err = std::io::stderr();
     let mut progress = match err.is_terminal() {
         true => Progress::on(&mut err),
         false => Progress::unseen(),
     };
-    listing(&named, &mut progress)
+    made(named, &mut progress)
         .map_err(|number| format!("{from}: refused {number}, {}", plan_reason(number)))
 }
 
@@ -159,7 +204,7 @@ fn write_file(from: &str, to: &str) -> Result<String, String> {
     let bytes = proved::write(&Lists::of(&named.plan))
         .map_err(|number| format!("{from}: refused {number}, {}", plan_reason(number)))?;
     let written = write_bytes(to, bytes)?;
-    tell_windows(from, &named.windows, "left out: a plan file has no windows");
+    tell(from, &named, "left out: a plan file has no windows");
     Ok(written)
 }
 
@@ -178,12 +223,11 @@ fn read_sheet(path: &str, bytes: &[u8]) -> Result<proved::SheetEvents, String> {
 
 /// Writes the equipment sheet of a text, if the proved reader takes it.
 fn write_sheet(from: &str, to: &str) -> Result<String, String> {
-    let parse = |text: &str| Ok((parse_sheet(text)?, parse_windows(text)?));
-    let (sheet, windows) = read_text(from, parse)?;
+    let (sheet, named) = read_text(from, |text| Ok((parse_sheet(text)?, parse(text)?)))?;
     let bytes = layout(&sheet);
     read_sheet(from, &bytes)?;
     let written = write_bytes(to, bytes)?;
-    tell_windows(from, &windows, "left out: a sheet has no windows");
+    tell(from, &named, "left out: a sheet has no windows");
     Ok(written)
 }
 

@@ -26,7 +26,6 @@ use crate::equipment::{by_sheet, sheet_of, Entry};
 use crate::line::{Fault, Line};
 use crate::named::Named;
 use crate::names::{Element, Names};
-use crate::windows::NamedWindow;
 
 /// The plan as far as the lines have said it, with the lines of its threshold and its cap, and an entry of a sheet for
 /// each of its events.
@@ -54,11 +53,6 @@ pub fn parse(text: &str) -> Result<Named, Fault> {
 pub fn parse_sheet(text: &str) -> Result<Sheet, Fault> {
     let draft = Draft::of(text)?;
     Ok(sheet_of(&draft.named, &draft.entries))
-}
-
-/// The windows that a text says.
-pub fn parse_windows(text: &str) -> Result<Vec<NamedWindow>, Fault> {
-    Ok(Draft::of(text)?.named.windows)
 }
 
 impl Draft {

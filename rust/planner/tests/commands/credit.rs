@@ -35,7 +35,7 @@ fn expect(plan: &str, cases: &[Case]) {
              Downtime: {downtime} a year of 365 days.\nCredit: {credit}.\n\
              Headroom, limit less upper downtime: {headroom}. {beside}.\n{NOTE}"
         );
-        assert_eq!((call.status, call.err.as_str()), (0, ""), "{words}");
+        assert_eq!((call.status, call.told().as_str()), (0, ""), "{words}");
         assert_eq!(call.out, told, "{words}");
     }
 }

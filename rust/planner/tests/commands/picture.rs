@@ -137,9 +137,32 @@ fn hollow_marks_where_the_walk_stopped_at_the_cap() {
     assert!(marks(&picture).concat().iter().all(|mark| mark.2));
 }
 
+/// Four stations in a row with a cap of 4 ends. AB fails with 0.4, BC and CD with 0.01 each. At 10^16 one failure of BC or CD is
+/// dropped, and the scenario without a failure and that of AB alone are among the first 4 ends: E is 0.9801, and A and B, A and
+/// C, and A and D are cut off for at most 0.41194 each. At 1 the first 4 ends are those in which AB works: E is 0.6, and D is cut
+/// off from A for at most 0.41194, the same, and from B too, where A and B are for 0.4 and A and C for 0.406.
+#[test]
+fn the_worst_pair_at_the_smallest_gap_and_not_at_the_lowest_threshold() {
+    let text = "threshold 1\ncap 4\nnode A\nnode B\nnode C\nnode D\nlink AB A B\nlink BC B C\nlink CD C D\n\
+                event cut-AB 400_000_000 AB\nevent cut-BC 10_000_000 BC\nevent cut-CD 10_000_000 CD\n";
+    let path = scratch_with("gap.txt", text.as_bytes());
+    let words = "10_000_000_000_000_000 1";
+    let [picture, rows] = drawn_and_printed("gap.svg", &path, words);
+    let rows: Vec<&str> = rows.lines().rev().take(2).collect();
+    for (row, [gap, pair]) in rows.iter().zip([
+        ["0.400000000000000000", "A D"],
+        ["0.019900000000000000", "A B"],
+    ]) {
+        assert!(row.contains(&format!("  {gap}  {pair}  ")), "{row}");
+    }
+    assert!(picture.contains(">A and B</text>"), "{picture}");
+    let picture = drawn("gap.svg", &path, "1");
+    assert!(picture.contains(">A and D</text>"), "{picture}");
+}
+
 /// At 10^17 the worst pair is A and B, at 1 it is A and C.
 #[test]
-fn the_worst_pair_at_the_lowest_threshold_or_the_one_that_is_named() {
+fn the_worst_pair_or_the_one_that_is_named() {
     let path = row_of_three("worst.txt", 100);
     let both = "100_000_000_000_000_000 1";
     for (words, pair) in [

@@ -1,6 +1,6 @@
 //! Equipment: the sheet of a text, the events of a sheet, and the other commands on a text with equipment.
 
-use crate::{planner, scratch, scratch_with};
+use crate::{planner, printed, scratch, scratch_with};
 
 /// Three stations in a row; the lines of events do not fall.
 const TEXT: &[u8] = b"threshold 1\ncap 100\nnode A\nnode B\nnode C\nlink AB A B\nlink BC B C\n\
@@ -70,7 +70,7 @@ fn the_listing_has_the_names_of_the_equipment() {
 #[test]
 fn a_text_of_events_has_a_sheet_too() {
     let sheet = out_path("triangle.sheet");
-    quietly(&["sheet", "triangle.txt", &sheet]);
+    assert_eq!(printed(&["sheet", "triangle.txt", &sheet]), "");
     let line = |link: u8| [1, 0, 0, 0, 1, 0, 0, 0, 1, 0, 0, 0, 1, 1, link];
     let bytes = [&b"EQS\x01\0\x03\x03\x03"[..], &line(0), &line(1), &line(2)].concat();
     assert_eq!(std::fs::read(&sheet).expect("the sheet"), bytes);

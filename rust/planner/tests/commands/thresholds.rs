@@ -281,7 +281,8 @@ fn the_help_tells_of_thresholds() {
         "planner thresholds PLAN.txt|IN.plan [T..] [--svg FILE [--pair NODE NODE]]\n",
         "they are ten, from 10^15 down to 10^6; the plan's cap counts, its\n",
         "own threshold does not",
-        "For listing, bounds, thresholds and credit a name",
+        "For check, listing, bounds, thresholds and credit a name",
+        "the worst at the threshold with the smallest gap\n",
     ] {
         assert!(help.contains(told), "{told}");
     }

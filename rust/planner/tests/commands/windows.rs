@@ -71,6 +71,8 @@ Out: BC.
 While the work lasts, the share of time that a pair is cut off lies between lower and upper, 0.000000000000000000 apart.
 Seconds are of a year of 365 days in which the work never ends: lower s is rounded down, upper s up.
 The last two columns are upper and upper s without the work: the difference shows what it costs while it lasts.
+Warning: 3 nodes are named by no event, so they never fail: A, B, C.
+Warning: 1 link is named by no event, so it never fails: BC.
 
 pair                 lower                 upper   lower s   upper s    upper without work  upper s without work
 B C   0.625000000000000000  0.625000000000000000  19710000  19710000  0.000000000000000000                     0
@@ -107,7 +109,7 @@ fn windows_that_touch() {
         };
         let told = format!("\nWindows of planned work that hold {time}: {told}");
         assert!(listing.contains(&told), "{listing}");
-        let columns = "\nThe last two columns are upper and upper s without the work.\n\n";
+        let columns = "\nThe last two columns are upper and upper s without the work.\nWarning: ";
         for line in ["\nThe share of time that a pair is cut off lies", columns] {
             assert_eq!(listing.contains(line), work.is_none(), "{listing}");
         }
@@ -198,6 +200,12 @@ fn the_listing_without_a_minute() {
     }
 }
 
+/// What every command tells of the triangle.
+const PERFECT: [&str; 2] = [
+    "warning: 3 nodes are named by no event, so they never fail: A, B, C",
+    "warning: 1 link is named by no event, so it never fails: BC",
+];
+
 /// What a command prints, tells and writes for the triangle with windows is that of the triangle without, but for one line on
 /// standard error.
 #[track_caller]
@@ -214,11 +222,15 @@ fn same_but_for(told: &str, command: &str, words: &[&str], to: Option<&str>) {
         let path = triangle_with(&format!("same-{command}.txt"), windows);
         let _ = to.map(std::fs::remove_file);
         let call = planner(&[&[command, &path], words].concat());
-        let line = match windows {
-            "" => String::new(),
-            _ => format!("planner: {path}: {said}{told}\n"),
+        let first = match windows {
+            "" => None,
+            _ => Some(format!("{said}{told}")),
         };
-        assert_eq!((call.status, call.err), (0, line), "{command}");
+        let lines = first.into_iter().chain(PERFECT.map(str::to_string));
+        let lines: String = lines
+            .map(|line| format!("planner: {path}: {line}\n"))
+            .collect();
+        assert_eq!((call.status, call.err), (0, lines), "{command}");
         let written = to.map(|to| std::fs::read(to).expect("the file that was written"));
         found.push((call.out, written));
     }
