@@ -31,9 +31,9 @@ mod week;
 mod windows;
 mod work;
 
-pub use asked::{Asked, Drawing};
-pub use credit::credit;
-pub use help::HELP;
+pub use asked::{thresholds, Drawing};
+pub use credit::{contract, credit};
+pub use help::{form_of, help_of, HELP, VERSION};
 pub use line::Fault;
 pub use listing::listing;
 pub use named::Named;
