@@ -35,10 +35,10 @@ mod windows;
 mod witness;
 mod work;
 
-pub use asked::{Asked, Drawing};
+pub use asked::{thresholds, Drawing};
 pub use check::{check, Checked};
-pub use credit::credit;
-pub use help::HELP;
+pub use credit::{contract, credit};
+pub use help::{form_of, help_of, HELP, VERSION};
 pub use line::Fault;
 pub use listing::listing;
 pub use named::Named;

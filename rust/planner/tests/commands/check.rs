@@ -3,7 +3,7 @@
 use plans::examples::folder;
 
 use crate::complete::{rare_failures, COMPLETE};
-use crate::{planner, scratch_with};
+use crate::{expect_end, planner, scratch_with};
 
 /// A check that prints these lines, tells nothing on standard error and ends with this status.
 #[track_caller]
@@ -66,22 +66,17 @@ fn refused_plans() {
 }
 
 #[test]
-fn a_file_that_is_not_read_and_wrong_words() {
-    let call = planner(&["check", "absent.txt"]);
-    assert_eq!((call.status, call.out.as_str()), (2, ""));
-    assert!(
-        call.err.starts_with("planner: absent.txt: "),
-        "{}",
-        call.err
-    );
-    for words in [
-        &["check"][..],
-        &["check", "triangle.txt", "ring-separate.txt"],
-    ] {
-        let call = planner(words);
-        assert_eq!((call.status, call.out.as_str()), (2, ""), "{words:?}");
-        assert!(!call.err.is_empty(), "{words:?}");
-    }
+fn a_file_of_another_kind() {
+    let sheet = "refused: expected a text or a plan file; found an equipment sheet, which planner events takes";
+    expect("equipment-ring.sheet", &[sheet], 1);
+    let none = scratch_with("check-none.plan", b"\0");
+    expect(&none, &["refused 2, the mark is not RSG"], 1);
+}
+
+#[test]
+fn a_file_that_is_not_read() {
+    let told = "absent.txt: No such file or directory (os error 2)";
+    expect_end(&["check", "absent.txt"], 2, told);
 }
 
 #[test]

@@ -1,6 +1,6 @@
 //! The column of scenarios: its title, and when it is left out.
 
-use crate::{expect_failure, planner, printed, scratch_with};
+use crate::{expect_usage, planner, printed, scratch_with};
 
 const TITLE: &str = "first in the walk's order, not the likeliest";
 
@@ -92,11 +92,13 @@ fn planned_work() {
 fn options_that_do_not_go_together() {
     let path = scratch_with("both.txt", LINK);
     let both = "expected --witness or --no-witness; found both";
-    expect_failure(&["listing", &path, "--witness", "--no-witness"], both);
+    expect_usage(&["listing", &path, "--witness", "--no-witness"], both);
     let windows =
         "expected --witness or --at; found both: the search for a scenario takes no windows";
     let words = ["listing", &path, "--at", "Tue 14:30", "--witness"];
-    expect_failure(&words, windows);
+    expect_usage(&words, windows);
+    let twice = "--witness: expected once; found twice";
+    expect_usage(&["listing", &path, "--witness", "--witness"], twice);
 }
 
 #[test]
