@@ -9,16 +9,17 @@ planner file PLAN.txt OUT.plan [--force]
                                    writes the plan file of a plan in text form; --force writes it
                                    over a file of another kind too
 planner text IN.plan               prints a plan file in text form, with n0, l0, e0 for names
-planner check PLAN.txt|IN.plan     prints a line that begins with warning for what the plan leaves
-                                   perfect, with all names: nodes and links that no event names, events
-                                   and windows without members, events with a probability of 0; then
-                                   what the walk examines and whether it is complete, a warning where
-                                   it is not; or why the plan is refused, in a line that begins with
-                                   refused; the exit status is 1 where there is such a line, else 0
+planner check PLAN.txt|IN.plan     prints a line that begins with warning for each kind of what the
+                                   plan leaves perfect, with all names: nodes and links that no event
+                                   names, events and windows without members, events with a
+                                   probability of 0; then what the walk examines and whether it is
+                                   complete, a warning where it is not; or, in a line that begins with
+                                   refused, why the plan is refused;
+                                   the exit status is 1 where there is such a line, else 0
 planner listing PLAN.txt|IN.plan [--witness|--no-witness]
                                    prints for people the bounds of each pair, the worst pair first,
-                                   with the first examined scenario that cuts it where there is one:
-                                   first in the walk's order, not the likeliest, so it is not the cause;
+                                   with the first examined scenario that cuts it where there is one,
+                                   first in the walk's order, not the likeliest: it is not the cause;
                                    --no-witness leaves it out, and so does a listing of more than 500
                                    pairs without --witness, since the search takes long;
                                    where the walk stopped at the cap, the head has the lowest of ten

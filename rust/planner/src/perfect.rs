@@ -135,8 +135,7 @@ mod tests {
 
     /// Each kind alone, of one and of several.
     #[test]
-    fn each_kind() {
-        let all = "event storm 1 A B AB\n";
+    fn nodes_and_links() {
         for (lines, said) in [
             (
                 "event dig 1 A AB",
@@ -154,32 +153,41 @@ mod tests {
                 "link two A B\nevent dark 1 B A",
                 "2 links are named by no event, so they never fail: AB, two",
             ),
+        ] {
+            expect(&format!("{lines}\n"), &[said]);
+        }
+    }
+
+    /// An event that names all, with these lines beside it.
+    #[test]
+    fn events_and_windows() {
+        for (lines, said) in [
             (
-                &format!("{all}event audit 1"),
+                "event audit 1",
                 "1 event has no members, so nothing fails with it: audit",
             ),
             (
-                &format!("event audit 2\n{all}event visit 1"),
+                "event audit 1\nevent visit 1",
                 "2 events have no members, so nothing fails with them: audit, visit",
             ),
             (
-                &format!("{all}event x 0 A"),
+                "event x 0 A",
                 "1 event has a probability of 0, so it never happens: x",
             ),
             (
-                &format!("equipment x 5 0 1 A\n{all}equipment y 0 5 1 B"),
+                "equipment x 5 0 1 A\nequipment y 0 5 1 B",
                 "2 events have a probability of 0, so they never happen: x, y",
             ),
             (
-                &format!("{all}window w Mon 00:00 Mon 00:01"),
+                "window w Mon 00:00 Mon 00:01",
                 "1 window of planned work has no members, so it takes nothing out: w",
             ),
             (
-                &format!("{all}window w Mon 00:00 Mon 00:01\nwindow v Tue 00:00 Tue 00:01"),
+                "window w Mon 00:00 Mon 00:01\nwindow v Tue 00:00 Tue 00:01",
                 "2 windows of planned work have no members, so they take nothing out: w, v",
             ),
         ] {
-            expect(&format!("{lines}\n"), &[said]);
+            expect(&format!("event storm 1 A B AB\n{lines}\n"), &[said]);
         }
     }
 
