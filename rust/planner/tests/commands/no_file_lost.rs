@@ -146,15 +146,17 @@ fn a_file_of_another_kind_is_written_over_with_force_alone() {
     assert_eq!(here.names(), ["out"]);
 }
 
-/// A limit on the size of files stands for a full disk: a write past 512 or 1,024 bytes fails.
+/// A limit on the size of files stands for a full disk: a write past 512 or 1,024 bytes fails. The old file is called by its own
+/// name and by a link.
 #[test]
 fn a_full_disk_leaves_what_stood_there() {
     let here = Folder::new("full");
     let from = here.with("large.txt", large().as_bytes());
     let olds = [&b"RSG old"[..], b"EQS old", b"<svg old"];
-    let (old, new) = (here.path("old"), here.path("new"));
+    let [old, new, link] = ["old", "new", "link"].map(|name| here.path(name));
+    symlink("old", &link).expect("a link");
     for (i, bytes) in olds.into_iter().enumerate() {
-        for to in [&old, &new] {
+        for to in [&old, &new, &link] {
             write(&old, bytes).expect("a file of the test");
             let limited = "trap '' XFSZ; ulimit -f 1; planner \"$@\"";
             let call = shell(limited, &writing(&from, to)[i]);
@@ -162,7 +164,7 @@ fn a_full_disk_leaves_what_stood_there() {
             let told = format!("planner: {to}: File too large");
             assert!(call.err.starts_with(&told), "{}", call.err);
             assert_eq!(bytes_of(&old), bytes);
-            assert_eq!(here.names(), ["large.txt", "old"]);
+            assert_eq!(here.names(), ["large.txt", "link", "old"]);
         }
         printed(&writing(&from, &old)[i]);
         assert!(bytes_of(&old).len() > 2_000, "a file past the limit");
@@ -210,7 +212,8 @@ fn links_stay_and_lead_to_what_is_written() {
     assert_eq!(there.names(), ["new.plan", "old.plan"]);
 }
 
-/// A pipe by its name, a pipe of the shell, a device that takes everything and one that is full.
+/// A pipe by its name, a pipe of the shell, a device that takes everything and one that is full. A program that replaces what is no
+/// file fails at the pipe, before it comes to a device.
 #[test]
 fn devices_and_pipes_are_written_straight() {
     let here = Folder::new("straight");

@@ -83,11 +83,11 @@ fn options_of_other_commands() {
             "expected --at, --witness, --no-witness or --help; found `--svg`",
         ),
         (
-            "file triangle.txt --at x",
+            "file triangle.txt no-such-folder/x --at x",
             "expected --force or --help; found `--at`",
         ),
         (
-            "file --force triangle.txt x --force",
+            "file --force triangle.txt no-such-folder/x --force",
             "--force: expected once; found twice",
         ),
         (
@@ -193,7 +193,7 @@ fn words_that_are_not_utf_8() {
                 "thresholds",
                 "triangle.txt",
                 "--svg",
-                "x",
+                "no-such-folder/x",
                 "--pair",
                 "?",
                 "A",
