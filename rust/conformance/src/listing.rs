@@ -1,15 +1,19 @@
 //! The listing program, run as a planner runs it.
 
 use std::io::Write;
-use std::path::Path;
+use std::path::{Path, PathBuf};
 use std::process::{Command, Stdio};
+
+/// The program.
+pub fn program() -> PathBuf {
+    Path::new(env!("CARGO_MANIFEST_DIR")).join("../../target/bin/listing")
+}
 
 /// What target/bin/listing writes for an input, with a stack of one megabyte.
 pub fn listing(input: &[u8]) -> std::io::Result<String> {
-    let program = Path::new(env!("CARGO_MANIFEST_DIR")).join("../../target/bin/listing");
     let mut child = Command::new("sh")
         .args(["-c", "ulimit -s 1024 && exec \"$0\""])
-        .arg(program)
+        .arg(program())
         .stdin(Stdio::piped())
         .stdout(Stdio::piped())
         .spawn()?;

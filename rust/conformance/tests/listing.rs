@@ -1,10 +1,12 @@
-//! The listing program against the account's text, to the byte.
+//! The listing program against the account's text, to the byte; and an output that it cannot write.
+
+use std::process::Command;
 
 use account::file::layout;
-use conformance::listing::listing;
+use conformance::listing::{listing, program};
 use conformance::Tally;
 use plans::damage::damaged_file;
-use plans::examples::{files_with, longest, longest_with_last_count_255, triangle};
+use plans::examples::{files_with, folder, longest, longest_with_last_count_255, triangle};
 use plans::valid::{plan_of_size, random_plan, FULL};
 use plans::Rng;
 
@@ -69,4 +71,42 @@ fn the_longest_plan_and_its_last_count() {
         let text = text.expect("the program target/bin/listing runs");
         assert_eq!(text, format!("refused {refusal}\n"));
     }
+}
+
+/// What a script of the shell prints and tells that runs the program, `$0`, on the plan of the GEANT core, `$1`.
+fn run(script: &str) -> [String; 2] {
+    let mut sh = Command::new("sh");
+    let sh = sh.args(["-c", script]).arg(program());
+    let output = sh.arg(folder().join("geant-core.plan")).output();
+    let output = output.expect("the shell runs");
+    [output.stdout, output.stderr].map(|bytes| String::from_utf8(bytes).expect("a text"))
+}
+
+const TOLD: &str = "listing: standard output was not written whole\n";
+
+/// A program has no exit status, so what is not written is told on standard error.
+#[test]
+fn an_output_that_takes_nothing_is_told() {
+    for output in [">/dev/full", ">&-"] {
+        let [_, told] = run(&format!("\"$0\" <\"$1\" {output}"));
+        assert_eq!(told, TOLD, "{output}");
+    }
+    let [whole, told] = run("\"$0\" <\"$1\"");
+    assert_eq!(
+        (whole.lines().count(), told.as_str()),
+        (1 + 34 * 33 / 2, "")
+    );
+    let last = whole.lines().last().expect("a line");
+    assert!(last.starts_with("32 33 "), "{last}");
+}
+
+/// A limit on the size of files lets some of the listing through, 512 or 1,024 bytes of it.
+#[test]
+fn an_output_that_takes_some_is_told() {
+    let file = concat!(env!("CARGO_TARGET_TMPDIR"), "/cut.listing");
+    let script = format!("trap '' XFSZ; ulimit -f 1; \"$0\" <\"$1\" >\"{file}\"");
+    assert_eq!(run(&script)[1], TOLD);
+    let [whole, _] = run("\"$0\" <\"$1\"");
+    let cut = std::fs::read_to_string(file).expect("what was written");
+    assert!(!cut.is_empty() && whole.len() > cut.len() && whole.starts_with(&cut));
 }

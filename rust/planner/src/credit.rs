@@ -15,18 +15,18 @@ Amounts are in units of 100 cents. The downtime is the mean over years, as the p
 the credit is that of this downtime, not the mean of the credits of single years.
 ";
 
-/// The credits of a contract, as the words FEE, LIMIT and RATE say it, for two nodes by name; or what is wrong.
-pub fn credit(named: &Named, nodes: [&str; 2], terms: [&str; 3]) -> Result<String, String> {
+/// The credits of a contract for two nodes by name, or why they are refused.
+pub fn credit(named: &Named, nodes: [&str; 2], contract: &Contract) -> Result<String, String> {
     let (a, b) = (named.node(nodes[0])?, named.node(nodes[1])?);
-    let contract = contract(terms)?;
-    match due(&Lists::of(&named.plan), (a.min(b), a.max(b)), &contract) {
-        Ok(due) => Ok(text(nodes, &contract, &due)),
-        Err(number) => Err(refused(nodes, &contract, number)),
+    match due(&Lists::of(&named.plan), (a.min(b), a.max(b)), contract) {
+        Ok(due) => Ok(text(nodes, contract, &due)),
+        Err(number) => Err(refused(nodes, contract, number)),
     }
 }
 
-/// The contract of three words. Whether its numbers are within their limits is for the proved code to say.
-fn contract([fee, limit, rate]: [&str; 3]) -> Result<Contract, String> {
+/// The contract that the words FEE, LIMIT and RATE say, or what is wrong with them. Whether its numbers are within their limits
+/// is for the proved code to say.
+pub fn contract([fee, limit, rate]: [&str; 3]) -> Result<Contract, String> {
     Ok(Contract {
         fee: term("FEE in cents", MOST_CENTS, fee)?,
         limit: term("LIMIT in seconds", YEAR_SECONDS, limit)?,

@@ -37,16 +37,28 @@ pub struct Line<'a> {
 }
 
 impl Line<'_> {
-    /// The words of a line, without its comment; none for a line that says nothing.
+    /// The words of a line up to its comment, which a word starts that starts with `#`; none for a line that says nothing.
     pub fn of(number: usize, text: &str) -> Option<Line<'_>> {
-        let said = text.split('#').next().unwrap_or("");
-        let mut words = said.split_whitespace();
+        let words = text.split_whitespace();
+        let mut words = words.take_while(|word| !word.starts_with('#'));
         let keyword = words.next()?;
         Some(Line {
             number,
             keyword,
             words: words.collect(),
         })
+    }
+
+    /// That no word has a `#` inside: it is no part of a name, and starts no comment there.
+    pub fn plain_words(&self) -> Result<(), Fault> {
+        let mut words = std::iter::once(&self.keyword).chain(&self.words);
+        match words.find(|word| word.contains('#')) {
+            None => Ok(()),
+            Some(word) => Err(self.fault(
+                "a word without `#`, or a blank before `#`, which starts a comment",
+                format!("`{word}`"),
+            )),
+        }
     }
 
     /// A fault at this line.
@@ -91,12 +103,33 @@ mod tests {
 
     #[test]
     fn comments_and_blanks_say_nothing() {
-        for text in ["", "   ", "# node A", "\t# x"] {
+        for text in ["", "   ", "# node A", "#node A", "\t# x", "##"] {
             assert!(Line::of(1, text).is_none());
         }
-        let line = Line::of(7, "  link\tAB A  B# the short way").expect("it says something");
-        assert_eq!((line.number, line.keyword), (7, "link"));
-        assert_eq!(line.words, ["AB", "A", "B"]);
+        for comment in ["# the short way", "#the short way", "# way#2", "#"] {
+            let text = format!("  link\tAB A  B {comment}");
+            let line = Line::of(7, &text).expect("it says something");
+            assert_eq!((line.number, line.keyword), (7, "link"));
+            assert_eq!(line.words, ["AB", "A", "B"]);
+            assert_eq!(line.plain_words(), Ok(()));
+        }
+    }
+
+    #[test]
+    fn a_comment_does_not_start_inside_a_word() {
+        for (text, word) in [
+            ("node Birch#2", "Birch#2"),
+            ("node Birch#", "Birch#"),
+            ("node# Birch", "node#"),
+            ("link AB A B# the short way", "B#"),
+            ("link A#B A B#2 # both", "A#B"),
+        ] {
+            let line = Line::of(7, text).expect("it says something");
+            let expected =
+                "line 7: expected a word without `#`, or a blank before `#`, which starts a comment";
+            let fault = line.plain_words().expect_err("it has a `#` inside");
+            assert_eq!(fault.to_string(), format!("{expected}; found `{word}`"));
+        }
     }
 
     #[test]

@@ -1,200 +1,269 @@
 //! The command `planner`.
 
-use std::io::{IsTerminal, Write};
-use std::path::Path;
+mod command;
+mod failure;
+mod files;
+mod terminal;
+
+use std::ffi::{OsStr, OsString};
+use std::io::IsTerminal;
 use std::process::ExitCode;
 
 use account::sheet::layout;
+use command::{asked, Asked, Call};
 use conformance::proved;
-use planner::{at_thresholds, drawn_pair, picture, thresholds_table, Asked};
-use planner::{credit, listing, listing_at, print, print_events};
-use planner::{minute_of, parse, parse_sheet, parse_windows};
-use planner::{plan_reason, sheet_reason, windows_are};
-use planner::{Fault, Named, NamedWindow, Progress, HELP};
+use failure::{Done, Failure};
+use files::{Contents, Source, Target, PICTURE, PLAN, SHEET};
+use planner::{at_thresholds, drawn_pair, picture, thresholds, thresholds_table, Drawing};
+use planner::{check, contract, credit, listing, listing_at, print_events};
+use planner::{minute_of, parse, parse_sheet};
+use planner::{plan_reason, sheet_reason, warnings, windows_are};
+use planner::{Checked, Fault, Named, Progress, Witness};
 use plans::Lists;
+use terminal::{print, tell};
 
 fn main() -> ExitCode {
-    let words: Vec<String> = std::env::args().skip(1).collect();
-    let words: Vec<&str> = words.iter().map(String::as_str).collect();
-    let done = match words[..] {
-        ["--help" | "-h" | "help"] => Ok(HELP.to_string()),
-        ["file", from, to] => write_file(from, to),
-        ["text", from] => read_file(from).map(|named| text_of(from, &named)),
-        ["listing", from] => listing_of(from, listing),
-        ["listing", from, "--at", ref time @ ..] => listing_at_time(from, &time.join(" ")),
-        ["bounds", from] => without_windows(from, |named| {
-            Ok(proved::plan_listing(&Lists::of(&named.plan)))
-        }),
-        ["thresholds", from, ref words @ ..] => thresholds_of(from, words),
-        ["credit", from, first, second, fee, limit, rate] => without_windows(from, |named| {
-            credit(named, [first, second], [fee, limit, rate])
-        }),
-        ["sheet", from, to] => write_sheet(from, to),
-        ["events", from] => events_of(from),
-        _ => {
-            eprint!("planner: expected one of these\n\n{HELP}");
-            return ExitCode::from(2);
-        }
-    };
-    let printed = done.and_then(|text| show(&text));
-    match printed {
-        Ok(()) => ExitCode::SUCCESS,
-        Err(fault) => {
-            eprintln!("planner: {fault}");
-            ExitCode::FAILURE
-        }
+    let words: Vec<OsString> = std::env::args_os().skip(1).collect();
+    let done = asked(&words).and_then(|asked| match asked {
+        Asked::Help(text) => Ok(text.into()),
+        Asked::Run(call) => run(&call),
+    });
+    let ended = done.and_then(|Done { text, status }| print(&text).map(|()| status));
+    ExitCode::from(ended.unwrap_or_else(|Failure { status, message }| {
+        tell(&message);
+        status
+    }))
+}
+
+/// What a command prints.
+fn run(call: &Call) -> Result<Done, Failure> {
+    match (call.name(), &call.operands[..]) {
+        ("file", [from, to]) => write_file(call, from, to),
+        ("text", [from]) => text_of(call, from),
+        ("check", [from]) => check_of(call, from),
+        ("listing", [from]) => listing_of(call, from),
+        ("bounds", [from]) => bounds_of(call, from),
+        ("thresholds", [from, words @ ..]) => thresholds_of(call, from, words),
+        ("credit", [from, words @ ..]) => credit_of(call, from, words),
+        ("sheet", [from, to]) => write_sheet(call, from, to),
+        ("events", [from]) => events_of(call, from),
+        _ => Err(call.wrong_operands()),
     }
-}
-
-/// Prints a text. A reader that stops early, as `head` does, is no fault.
-fn show(text: &str) -> Result<(), String> {
-    match std::io::stdout().write_all(text.as_bytes()) {
-        Err(error) if error.kind() != std::io::ErrorKind::BrokenPipe => Err(error.to_string()),
-        _ => Ok(()),
-    }
-}
-
-fn bytes_of(path: &str) -> Result<Vec<u8>, String> {
-    std::fs::read(path).map_err(|error| format!("{path}: {error}"))
-}
-
-/// Writes a file; nothing is printed.
-fn write_bytes(path: &str, bytes: Vec<u8>) -> Result<String, String> {
-    std::fs::write(path, bytes).map_err(|error| format!("{path}: {error}"))?;
-    Ok(String::new())
 }
 
 /// What a plan in text form says.
-fn read_text<T>(path: &str, parse: fn(&str) -> Result<T, Fault>) -> Result<T, String> {
-    let bytes = bytes_of(path)?;
-    let text = String::from_utf8(bytes).map_err(|error| {
-        let valid = error.utf8_error().valid_up_to();
-        let line = 1 + error.as_bytes()[..valid]
-            .iter()
-            .filter(|&&b| b == b'\n')
-            .count();
-        format!("{path}: line {line}: expected text in UTF-8; found other bytes")
-    })?;
-    parse(&text).map_err(|fault| format!("{path}: {fault}"))
+fn read_text<T>(
+    call: &Call,
+    source: &Source,
+    parse: fn(&str) -> Result<T, Fault>,
+) -> Result<T, Failure> {
+    match &source.contents {
+        Contents::Text(text) => parse(text).map_err(|fault| source.refused(fault)),
+        _ => Err(call.wrong_kind(source)),
+    }
 }
 
 /// A plan file, by the proved reader.
-fn read_file(path: &str) -> Result<Named, String> {
-    let lists = proved::read(&bytes_of(path)?)
-        .map_err(|number| format!("{path}: refused {number}, {}", plan_reason(number)))?;
+fn read_file(call: &Call, source: &Source) -> Result<Named, Failure> {
+    let Contents::Plan(bytes) = &source.contents else {
+        return Err(call.wrong_kind(source));
+    };
+    let lists = proved::read(bytes).map_err(|number| refused_plan(source, number))?;
     let plan = lists.lent().plan().expect("a plan that was read");
     Ok(Named::by_number(plan))
 }
 
-fn read_any(path: &str) -> Result<Named, String> {
-    match Path::new(path).extension() {
-        Some(extension) if extension == "plan" => read_file(path),
-        _ => read_text(path, parse),
+/// A plan of either form.
+fn read_any(call: &Call, source: &Source) -> Result<Named, Failure> {
+    match &source.contents {
+        Contents::Plan(_) => read_file(call, source),
+        _ => read_text(call, source, parse),
     }
 }
 
-/// What is printed for a plan and takes no windows.
-fn without_windows(
-    from: &str,
-    printed: impl Fn(&Named) -> Result<String, String>,
-) -> Result<String, String> {
-    let named = read_any(from)?;
-    let text = printed(&named)?;
-    tell_windows(
-        from,
-        &named.windows,
-        "not counted: only listing --at takes windows",
-    );
-    Ok(text)
+fn refused_plan(source: &Source, number: u32) -> Failure {
+    source.refused(format!("refused {number}, {}", plan_reason(number)))
 }
 
-/// Tells on standard error what becomes of the windows of a text, if it has any.
-fn tell_windows(from: &str, windows: &[NamedWindow], what: &str) {
-    if let Some(windows) = windows_are(windows) {
-        eprintln!("planner: {from}: {windows} {what}");
+/// What is told of the windows of a plan where a command takes none.
+const NOT_COUNTED: &str = "not counted: only listing --at takes windows";
+
+/// Tells on standard error what becomes of the windows of a text, if it has any, and what the plan leaves perfect.
+fn tell_plan(source: &Source, named: &Named, what: &str) {
+    if let Some(windows) = windows_are(&named.windows) {
+        tell(&format!("{}: {windows} {what}", source.name));
+    }
+    tell_perfect(source, named);
+}
+
+/// Tells on standard error what a plan leaves perfect.
+fn tell_perfect(source: &Source, named: &Named) {
+    for said in warnings(named) {
+        tell(&format!("{}: warning: {said}", source.name));
     }
 }
 
-/// The listing of a plan at a time of the week.
-fn listing_at_time(from: &str, time: &str) -> Result<String, String> {
-    let minute = minute_of(time).map_err(|wrong| format!("--at: {wrong}"))?;
-    listing_of(from, |named, progress| listing_at(named, minute, progress))
+/// Writes the plan file of a text, by the proved writer.
+fn write_file(call: &Call, from: &OsStr, to: &OsStr) -> Result<Done, Failure> {
+    let source = Source::read(from)?;
+    let named = read_text(call, &source, parse)?;
+    let bytes =
+        proved::write(&Lists::of(&named.plan)).map_err(|number| refused_plan(&source, number))?;
+    Target::of(to, &PLAN, call.has("--force"), &source)?.write(&bytes)?;
+    tell_plan(&source, &named, "left out: a plan file has no windows");
+    Ok(Done::from(String::new()))
 }
 
-/// A listing of a plan; its progress goes to standard error where that is a terminal.
-fn listing_of(
-    from: &str,
-    listing: impl Fn(&Named, &mut Progress) -> Result<String, u32>,
-) -> Result<String, String> {
-    let named = read_any(from)?;
+fn text_of(call: &Call, from: &OsStr) -> Result<Done, Failure> {
+    let source = Source::read(from)?;
+    let named = read_file(call, &source)?;
+    Ok(Done::from(format!(
+        "# From {}. A plan file holds no names: node, link and event i are n, l and e with i.\n{}",
+        source.name,
+        planner::print(&named)
+    )))
+}
+
+/// What there is to say of a plan. Why it is refused is printed too, in place of the answer.
+fn check_of(call: &Call, from: &OsStr) -> Result<Done, Failure> {
+    let source = Source::read(from)?;
+    let checked = read_any(call, &source)
+        .and_then(|named| walked(&source, |progress| check(&named, progress)));
+    let refused = |failure: Failure| Checked::refused(&source.name, &failure.message);
+    let Checked { lines, clean } = checked.unwrap_or_else(refused);
+    Ok(match clean {
+        true => Done::from(lines),
+        false => Done::with_warnings(lines),
+    })
+}
+
+/// A listing of a plan, at a time of the week where one is given.
+fn listing_of(call: &Call, from: &OsStr) -> Result<Done, Failure> {
+    let minute = minute_asked(call)?;
+    let [shown, left_out] = ["--witness", "--no-witness"].map(|option| call.has(option));
+    let witness =
+        Witness::of(shown, left_out, minute.is_some()).map_err(|wrong| call.usage(wrong))?;
+    let source = Source::read(from)?;
+    let named = read_any(call, &source)?;
+    let text = walked(&source, |progress| match minute {
+        Some(minute) => listing_at(&named, minute, progress),
+        None => listing(&named, witness, progress),
+    })?;
+    tell_perfect(&source, &named);
+    Ok(Done::from(text))
+}
+
+/// What is made by a walk, whose progress goes to standard error where that is a terminal.
+fn walked<T>(
+    source: &Source,
+    made: impl FnOnce(&mut Progress) -> Result<T, u32>,
+) -> Result<T, Failure> {
     let mut err = std::io::stderr();
     let mut progress = match err.is_terminal() {
         true => Progress::on(&mut err),
         false => Progress::unseen(),
     };
-    listing(&named, &mut progress)
-        .map_err(|number| format!("{from}: refused {number}, {}", plan_reason(number)))
+    made(&mut progress).map_err(|number| refused_plan(source, number))
+}
+
+/// The minute of the week after --at.
+fn minute_asked(call: &Call) -> Result<Option<u64>, Failure> {
+    let Some(words) = call.words("--at") else {
+        return Ok(None);
+    };
+    let time = call.strings(words)?.join(" ");
+    let minute = minute_of(&time).map_err(|wrong| call.usage(format!("--at: {wrong}")))?;
+    Ok(Some(minute))
+}
+
+fn bounds_of(call: &Call, from: &OsStr) -> Result<Done, Failure> {
+    let source = Source::read(from)?;
+    let named = read_any(call, &source)?;
+    let text = proved::plan_listing(&Lists::of(&named.plan));
+    tell_plan(&source, &named, NOT_COUNTED);
+    Ok(Done::from(text))
 }
 
 /// The table of a plan at thresholds. Where a picture is asked for, it is written too.
-fn thresholds_of(from: &str, words: &[&str]) -> Result<String, String> {
-    let Asked {
-        thresholds,
-        drawing,
-    } = Asked::of(words)?;
-    without_windows(from, |named| {
-        let all = at_thresholds(named, &thresholds)?;
-        if let Some(drawing) = &drawing {
-            let place = drawn_pair(named, drawing, &all)?;
-            let svg = picture(from, named, place, &all);
-            write_bytes(drawing.file, svg.into_bytes())?;
-        }
-        Ok(thresholds_table(named, &all))
-    })
+fn thresholds_of(call: &Call, from: &OsStr, words: &[OsString]) -> Result<Done, Failure> {
+    let thresholds = thresholds(&call.strings(words)?).map_err(|wrong| call.usage(wrong))?;
+    let drawing = drawing_asked(call)?;
+    let source = Source::read(from)?;
+    let named = read_any(call, &source)?;
+    let target = drawing
+        .map(|drawing| Target::of(drawing.file, &PICTURE, call.has("--force"), &source))
+        .transpose()?;
+    let all = at_thresholds(&named, &thresholds).map_err(Failure::refused)?;
+    if let (Some(drawing), Some(target)) = (drawing, target) {
+        let place = drawn_pair(&named, &drawing, &all).map_err(Failure::refused)?;
+        target.write(picture(&source.name, &named, place, &all).as_bytes())?;
+    }
+    tell_plan(&source, &named, NOT_COUNTED);
+    Ok(Done::from(thresholds_table(&named, &all)))
 }
 
-/// Writes the plan file of a text, by the proved writer.
-fn write_file(from: &str, to: &str) -> Result<String, String> {
-    let named = read_text(from, parse)?;
-    let bytes = proved::write(&Lists::of(&named.plan))
-        .map_err(|number| format!("{from}: refused {number}, {}", plan_reason(number)))?;
-    let written = write_bytes(to, bytes)?;
-    tell_windows(from, &named.windows, "left out: a plan file has no windows");
-    Ok(written)
+/// The picture that is asked for, if any. Only a picture has a pair and may be forced.
+fn drawing_asked(call: &Call) -> Result<Option<Drawing<'_>>, Failure> {
+    let Some([file]) = call.words("--svg") else {
+        let alone = ["--pair", "--force"]
+            .into_iter()
+            .find(|option| call.has(option));
+        return match alone {
+            None => Ok(None),
+            Some(option) => Err(call.usage(format!(
+                "{option}: expected --svg FILE beside it; found none"
+            ))),
+        };
+    };
+    let nodes = call.strings(call.words("--pair").unwrap_or(&[]))?;
+    let drawing = Drawing::of(file, &nodes).map_err(|wrong| call.usage(wrong))?;
+    Ok(Some(drawing))
 }
 
-fn text_of(from: &str, named: &Named) -> String {
-    format!(
-        "# From {from}. A plan file holds no names: node, link and event i are n, l and e with i.\n{}",
-        print(named)
-    )
+/// The credit of a contract for two nodes.
+fn credit_of(call: &Call, from: &OsStr, words: &[OsString]) -> Result<Done, Failure> {
+    let [first, second, fee, limit, rate] = call.strings(words)?[..] else {
+        return Err(call.wrong_operands());
+    };
+    let contract = contract([fee, limit, rate]).map_err(|wrong| call.usage(wrong))?;
+    let source = Source::read(from)?;
+    let named = read_any(call, &source)?;
+    let text = credit(&named, [first, second], &contract).map_err(Failure::refused)?;
+    tell_plan(&source, &named, NOT_COUNTED);
+    Ok(Done::from(text))
 }
 
 /// The events of an equipment sheet, by the proved reader.
-fn read_sheet(path: &str, bytes: &[u8]) -> Result<proved::SheetEvents, String> {
+fn read_sheet(source: &Source, bytes: &[u8]) -> Result<proved::SheetEvents, Failure> {
     proved::read_sheet(bytes)
-        .map_err(|number| format!("{path}: refused {number}, {}", sheet_reason(number)))
+        .map_err(|number| source.refused(format!("refused {number}, {}", sheet_reason(number))))
 }
 
 /// Writes the equipment sheet of a text, if the proved reader takes it.
-fn write_sheet(from: &str, to: &str) -> Result<String, String> {
-    let parse = |text: &str| Ok((parse_sheet(text)?, parse_windows(text)?));
-    let (sheet, windows) = read_text(from, parse)?;
+fn write_sheet(call: &Call, from: &OsStr, to: &OsStr) -> Result<Done, Failure> {
+    let source = Source::read(from)?;
+    let both = |text: &str| Ok((parse_sheet(text)?, parse(text)?));
+    let (sheet, named) = read_text(call, &source, both)?;
     let bytes = layout(&sheet);
-    read_sheet(from, &bytes)?;
-    let written = write_bytes(to, bytes)?;
-    tell_windows(from, &windows, "left out: a sheet has no windows");
-    Ok(written)
+    read_sheet(&source, &bytes)?;
+    Target::of(to, &SHEET, call.has("--force"), &source)?.write(&bytes)?;
+    tell_plan(&source, &named, "left out: a sheet has no windows");
+    Ok(Done::from(String::new()))
 }
 
-fn events_of(from: &str) -> Result<String, String> {
-    let sheet = read_sheet(from, &bytes_of(from)?)?;
-    Ok(format!(
-        "# From {from}: {} nodes, {} links, {} events by falling q, which counts units of 10^-9.\n\
+fn events_of(call: &Call, from: &OsStr) -> Result<Done, Failure> {
+    let source = Source::read(from)?;
+    let Contents::Sheet(bytes) = &source.contents else {
+        return Err(call.wrong_kind(&source));
+    };
+    let sheet = read_sheet(&source, bytes)?;
+    Ok(Done::from(format!(
+        "# From {}: {} nodes, {} links, {} events by falling q, which counts units of 10^-9.\n\
          # A sheet holds no names: node, link and event i are n, l and e with i.\n{}",
+        source.name,
         sheet.nodes,
         sheet.links,
         sheet.events.len(),
         print_events(&sheet)
-    ))
+    )))
 }

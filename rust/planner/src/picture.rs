@@ -28,10 +28,10 @@ struct Plot {
 }
 
 /// The place, in the order of pairs, of the pair that is drawn: the two nodes that are named, or else the worst pair at the
-/// lowest threshold.
+/// threshold with the smallest gap, of equal ones the lowest.
 pub fn drawn_pair(named: &Named, drawing: &Drawing, all: &[AtThreshold]) -> Result<usize, String> {
     let place = match drawing.nodes {
-        None => all.last().and_then(AtThreshold::worst),
+        None => narrowest(all).and_then(AtThreshold::worst),
         Some([first, second]) => {
             let (a, b) = (named.node(first)?, named.node(second)?);
             let pair = (a.min(b), a.max(b));
@@ -39,6 +39,11 @@ pub fn drawn_pair(named: &Named, drawing: &Drawing, all: &[AtThreshold]) -> Resu
         }
     };
     place.ok_or_else(|| "--svg: expected a plan with two nodes to draw; found one".to_string())
+}
+
+/// What the threshold with the smallest gap gives, of equal ones the lowest: the gap is 1 less E, and thresholds fall.
+fn narrowest(all: &[AtThreshold]) -> Option<&AtThreshold> {
+    all.iter().max_by_key(|at| at.outcome.mass)
 }
 
 /// The picture of the pair at a place in the order of pairs. The file that the plan came from is named in it.

@@ -51,6 +51,11 @@ impl<'a> Progress<'a> {
         self.write("the run with planned work");
     }
 
+    /// After the walk, the runs at the usual thresholds, which are one walk and not in steps.
+    pub fn thresholds(&mut self) {
+        self.write("the runs at ten thresholds");
+    }
+
     /// Puts a text in place of the line. In the first step of a walk nothing is written: a short one has no other. A
     /// terminal that does not take the text is no fault of the listing.
     fn write(&mut self, text: &str) {

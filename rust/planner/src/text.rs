@@ -1,6 +1,7 @@
 //! The reader of the text form.
 //!
-//! A line says one thing, in words with blanks between them; `#` starts a comment. What a line names stands above it.
+//! A line says one thing, in words with blanks between them; a word that starts with `#` starts a comment. What a line names
+//! stands above it.
 //!
 //! ```text
 //! threshold T             units of 10^-18
@@ -25,7 +26,6 @@ use crate::equipment::{by_sheet, sheet_of, Entry};
 use crate::line::{Fault, Line};
 use crate::named::Named;
 use crate::names::{Element, Names};
-use crate::windows::NamedWindow;
 
 /// The plan as far as the lines have said it, with the lines of its threshold and its cap, and an entry of a sheet for
 /// each of its events.
@@ -53,11 +53,6 @@ pub fn parse(text: &str) -> Result<Named, Fault> {
 pub fn parse_sheet(text: &str) -> Result<Sheet, Fault> {
     let draft = Draft::of(text)?;
     Ok(sheet_of(&draft.named, &draft.entries))
-}
-
-/// The windows that a text says.
-pub fn parse_windows(text: &str) -> Result<Vec<NamedWindow>, Fault> {
-    Ok(Draft::of(text)?.named.windows)
 }
 
 impl Draft {
@@ -95,6 +90,7 @@ impl Draft {
 
     /// One line more.
     fn take(&mut self, line: &Line) -> Result<(), Fault> {
+        line.plain_words()?;
         match line.keyword {
             "threshold" => self.take_threshold(line),
             "cap" => self.take_cap(line),
@@ -151,7 +147,7 @@ impl Draft {
         Ok(())
     }
 
-    /// The draft after the last line, if nothing is missing.
+    /// The draft after the last line, if nothing is missing. A text without lines ends in its first.
     fn whole(self, last: usize) -> Result<Draft, Fault> {
         let missing = [
             (self.threshold.is_none(), "a line `threshold T`"),
@@ -161,7 +157,7 @@ impl Draft {
         match missing.iter().find(|(missing, _)| *missing) {
             None => Ok(self),
             Some((_, expected)) => Err(Fault {
-                line: last,
+                line: last.max(1),
                 expected: expected.to_string(),
                 found: "the end of the text".to_string(),
             }),

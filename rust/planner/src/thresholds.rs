@@ -104,7 +104,7 @@ fn row(named: &Named, at: &AtThreshold) -> [String; 8] {
 }
 
 /// A number in groups of three digits, in the form in which a text and the command take it.
-fn grouped(number: u64) -> String {
+pub fn grouped(number: u64) -> String {
     let digits = number.to_string();
     let groups = digits.as_bytes().rchunks(3).rev();
     let groups: Vec<_> = groups.map(String::from_utf8_lossy).collect();

@@ -6,8 +6,10 @@ use account::WHOLE;
 use conformance::proved;
 use plans::Lists;
 
+use crate::complete::help;
 use crate::listing::{counts, reading};
 use crate::named::Named;
+use crate::perfect::in_head;
 use crate::progress::{whole_walk, Progress};
 use crate::table::{columns, fields, share, worst_first, FIELDS};
 use crate::week;
@@ -33,8 +35,13 @@ fn with_and_without(named: &Named, minute: u64, progress: &mut Progress) -> Resu
         false => reading(&outcome) + LAST_COLUMNS + ".\n",
     };
     let out = named.out(out_at(&windows, minute));
-    let head = counts(named, &outcome) + &holding(&named.windows, minute, &out) + &reading;
-    Ok(head + "\n" + &table(named, &bounds, &without))
+    let head = [
+        counts(named, &outcome, help(&lists, &outcome, progress)?),
+        holding(&named.windows, minute, &out),
+        reading,
+        in_head(named),
+    ];
+    Ok(head.concat() + "\n" + &table(named, &bounds, &without))
 }
 
 const LAST_COLUMNS: &str = "The last two columns are upper and upper s without the work";

@@ -3,7 +3,7 @@
 use account::topology::Out;
 use account::windows::Window;
 use account::{Event, Plan, CERTAIN};
-use planner::{listing, listing_at, plan_reason, Named, NamedWindow, Progress};
+use planner::{listing, listing_at, plan_reason, Named, NamedWindow, Progress, Witness};
 
 /// Two nodes, a link, and events of one half, of which the last alone names the link: with n events there are 2^n
 /// scenarios of equal mass.
@@ -27,8 +27,8 @@ fn plan(events: usize, cap: u64) -> Named {
 /// The listing of a plan, and what its progress writes.
 fn made(named: &Named) -> (String, String) {
     let mut line = Vec::new();
-    let text = listing(named, &mut Progress::on(&mut line)).expect("a listing");
-    let unseen = listing(named, &mut Progress::unseen());
+    let text = listing(named, Witness::Usual, &mut Progress::on(&mut line)).expect("a listing");
+    let unseen = listing(named, Witness::Usual, &mut Progress::unseen());
     assert_eq!(unseen.as_ref(), Ok(&text));
     (text, String::from_utf8(line).expect("a text"))
 }
@@ -79,12 +79,17 @@ fn a_long_listing_at_a_minute_shows_its_progress() {
     assert_eq!(last[3], "32768 ends reached of at most 1000000");
 }
 
-/// The cap ends the walk in its second step.
+/// The cap ends the walk in its second step. At 10^15 every branch is dropped after ten events, 2^-10 being below 10^-3, which
+/// are 1,024 ends and no scenario; at 10^14 after fourteen, which are 16,384 ends and more than the cap.
 #[test]
 fn a_walk_that_stops_at_its_cap() {
     let (text, line) = made(&plan(15, 10_001));
     assert!(text.contains("\n10001 scenarios examined, complete 0"));
+    let complete = "\n1_000_000_000_000_000 is the lowest of ten thresholds, 10^15 down to 10^6, at which the walk is complete: \
+                    lower and upper would be 1.000000000000000000 apart, not less than here.\n";
+    assert!(text.contains(complete), "{text}");
     assert!(line.starts_with("\r10001 ends reached of at most 10001\r"));
+    assert!(line.contains("\rthe runs at ten thresholds\r"), "{line:?}");
     assert!(line.ends_with(" \r"), "{line:?}");
 }
 

@@ -173,6 +173,42 @@ fn events() {
     );
 }
 
+/// A `#` inside a word is told in the order of the lines, before anything else that is wrong in its line.
+#[test]
+fn a_comment_inside_a_word() {
+    let told = "a word without `#`, or a blank before `#`, which starts a comment; found";
+    for (number, line, word) in [
+        (2, "threshold 1#2", "1#2"),
+        (3, "cap# 100", "cap#"),
+        (4, "node Birch#2", "Birch#2"),
+        (6, "link AB A B# the short way", "B#"),
+        (7, "window dig#1 Tue 08:00 Tue 16:00 AB", "dig#1"),
+        (7, "equipment oxc 1 1 1 A#B", "A#B"),
+        (8, "event dig 1_000 BC#2 A", "BC#2"),
+        (8, "even dig# 1_000", "dig#"),
+    ] {
+        expect(number, line, &format!("{told} `{word}`"));
+    }
+    let mut lines = RIGHT;
+    (lines[3], lines[8]) = ("node A#1", "event storm 2_000");
+    let fault = format!("line 4: expected {told} `A#1`");
+    assert_eq!(fault_of(&lines.join("\n")), fault);
+    (lines[3], lines[8]) = ("node", "event storm#1 1_000");
+    let fault = "line 4: expected `node NAME`; found nothing after `node`";
+    assert_eq!(fault_of(&lines.join("\n")), fault);
+    (lines[3], lines[8]) = ("node A #1", "event storm 1_000 A B #2#3");
+    assert_eq!(parse(&lines.join("\n")), parse(&RIGHT.join("\n")));
+}
+
+/// A text without lines ends in line 1.
+#[test]
+fn an_empty_text() {
+    let fault = "line 1: expected a line `threshold T`; found the end of the text";
+    for text in ["", "\u{feff}", "\n", "# nothing"] {
+        assert_eq!(fault_of(text), fault, "{text:?}");
+    }
+}
+
 #[test]
 fn what_is_missing() {
     let without = |keyword: &str| {

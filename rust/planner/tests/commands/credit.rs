@@ -1,6 +1,6 @@
 //! Credits: each wording on plans whose downtimes were worked out by hand, and each refusal.
 
-use crate::{expect_failure, planner, scratch, scratch_with};
+use crate::{expect_failure, expect_usage, planner, scratch, scratch_with};
 
 /// The link CB has q = 62,500. Both ends of the walk keep all their mass, so Control and Birch, and Control and Depot, are
 /// apart for 62,500 × 10^9 of 10^18 units of a year: 62,500 × 0.031536 = 1,971 seconds. Birch and Depot never are, and no
@@ -35,7 +35,7 @@ fn expect(plan: &str, cases: &[Case]) {
              Downtime: {downtime} a year of 365 days.\nCredit: {credit}.\n\
              Headroom, limit less upper downtime: {headroom}. {beside}.\n{NOTE}"
         );
-        assert_eq!((call.status, call.err.as_str()), (0, ""), "{words}");
+        assert_eq!((call.status, call.told().as_str()), (0, ""), "{words}");
         assert_eq!(call.out, told, "{words}");
     }
 }
@@ -258,12 +258,17 @@ fn the_nodes_of_a_plan_file_go_by_their_numbers() {
     expect(plan, &[case]);
 }
 
-/// A credit that ends with a failure, which is told.
-#[track_caller]
-fn expect_wrong(plan: &str, words: &str, told: &str) {
+/// The words of a call.
+fn call<'a>(plan: &'a str, words: &'a str) -> Vec<&'a str> {
     let mut call = vec!["credit", plan];
     call.extend(words.split(' '));
-    expect_failure(&call, told);
+    call
+}
+
+/// A credit that is refused, which is told.
+#[track_caller]
+fn expect_wrong(plan: &str, words: &str, told: &str) {
+    expect_failure(&call(plan, words), told);
 }
 
 #[test]
@@ -315,7 +320,7 @@ fn what_the_proved_code_refuses() {
 fn names_and_numbers_that_are_none() {
     let path = scratch_with("none.txt", CABLE);
     let nodes = "its nodes are Control, Birch, Depot, Elm";
-    for (words, name) in [("Brich Elm 1 2 3", "Brich"), ("Elm CB x 2 3", "CB")] {
+    for (words, name) in [("Brich Elm 1 2 3", "Brich"), ("Elm CB 1 2 3", "CB")] {
         let told = format!("the plan has no node `{name}`; {nodes}");
         expect_wrong(&path, words, &told);
     }
@@ -325,7 +330,8 @@ fn names_and_numbers_that_are_none() {
     for word in ["12.50", "-1", "1e3", "_", "18446744073709551616"] {
         let at = |words: &str, expected: &str| {
             let words = words.replace('?', word);
-            expect_wrong(&path, &words, &format!("{expected}; found `{word}`"));
+            let told = format!("{expected}; found `{word}`");
+            expect_usage(&call(&path, &words), &told);
         };
         at("Elm Birch ? 2 3", fee);
         at("Elm Birch 1 ? 3", limit);
@@ -335,10 +341,9 @@ fn names_and_numbers_that_are_none() {
 
 #[test]
 fn the_help_tells_of_credits() {
-    let call = planner(&["credit", "triangle.txt", "A", "B", "1", "2"]);
-    assert_eq!((call.status, call.out.as_str()), (2, ""));
     let form = "planner credit PLAN.txt|IN.plan NODE NODE FEE LIMIT RATE";
-    assert!(call.err.contains(form));
+    let told = format!("expected `{form}`; found 5 words after `credit`");
+    expect_usage(&call("triangle.txt", "A B 1 2"), &told);
     let help = planner(&["--help"]).out;
     assert!(help.contains("a mean over years, not the mean of the credits of single years"));
     assert!(help.contains("credits and headroom"));

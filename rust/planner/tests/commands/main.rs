@@ -1,14 +1,23 @@
 //! The command line: what it prints, and how it ends.
 
+mod check;
+mod complete;
 mod credit;
+mod kinds;
+mod no_file_lost;
+mod perfect;
 mod picture;
 mod sheets;
+mod streams;
 mod thresholds;
+mod usage;
 mod windows;
+mod witness;
 mod xml;
 
+use std::ffi::OsStr;
 use std::path::{Path, PathBuf};
-use std::process::Command;
+use std::process::{Command, Output};
 
 use plans::examples::folder;
 
@@ -19,34 +28,66 @@ struct Call {
     status: i32,
 }
 
-fn planner(words: &[&str]) -> Call {
-    let output = Command::new(env!("CARGO_BIN_EXE_planner"))
-        .args(words)
-        .current_dir(folder())
-        .output()
-        .expect("the program runs");
-    let text = |bytes: Vec<u8>| String::from_utf8(bytes).expect("a text");
-    Call {
-        out: text(output.stdout),
-        err: text(output.stderr),
-        status: output.status.code().expect("an exit status"),
+fn planner<W: AsRef<OsStr>>(words: &[W]) -> Call {
+    let mut planner = Command::new(env!("CARGO_BIN_EXE_planner"));
+    let planner = planner.args(words).current_dir(folder());
+    Call::of(planner.output().expect("the program runs"))
+}
+
+impl Call {
+    fn of(output: Output) -> Call {
+        let text = |bytes: Vec<u8>| String::from_utf8(bytes).expect("a text");
+        Call {
+            out: text(output.stdout),
+            err: text(output.stderr),
+            status: output.status.code().expect("an exit status"),
+        }
+    }
+
+    /// What it tells on standard error, but for what its plan leaves perfect.
+    fn told(&self) -> String {
+        let lines = self.err.split_inclusive('\n');
+        let other = lines.filter(|line| !line.contains(": warning: "));
+        other.collect()
     }
 }
 
-/// What a call prints that succeeds and tells nothing on standard error.
+/// What a script of the shell does, with `planner` at hand and these words as `$1`, `$2` and so on.
+fn shell(script: &str, words: &[&str]) -> Call {
+    let mut sh = Command::new("sh");
+    let script = format!("planner() {{ \"$0\" \"$@\"; }}\n{script}");
+    let sh = sh.args(["-c", &script, env!("CARGO_BIN_EXE_planner")]);
+    let sh = sh.args(words).current_dir(folder());
+    Call::of(sh.output().expect("the shell runs"))
+}
+
+/// What a call prints that succeeds and tells nothing on standard error but what its plan leaves perfect.
 #[track_caller]
 fn printed(words: &[&str]) -> String {
     let call = planner(words);
-    assert_eq!((call.status, call.err.as_str()), (0, ""), "{words:?}");
+    assert_eq!((call.status, call.told().as_str()), (0, ""), "{words:?}");
     call.out
 }
 
-/// A call that ends with a failure and tells why.
+/// A call that ends with a status, prints nothing and tells why.
+#[track_caller]
+fn expect_end(words: &[&str], status: i32, told: &str) {
+    let call = planner(words);
+    assert_eq!((call.status, call.out.as_str()), (status, ""), "{words:?}");
+    assert_eq!(call.err, format!("planner: {told}\n"), "{words:?}");
+}
+
+/// A call that is refused.
 #[track_caller]
 fn expect_failure(words: &[&str], told: &str) {
-    let call = planner(words);
-    assert_eq!((call.status, call.out.as_str()), (1, ""), "{words:?}");
-    assert_eq!(call.err, format!("planner: {told}\n"), "{words:?}");
+    expect_end(words, 1, told);
+}
+
+/// A call of a command with wrong words.
+#[track_caller]
+fn expect_usage(words: &[&str], told: &str) {
+    let told = format!("{told}; see planner {} --help", words[0]);
+    expect_end(words, 2, &told);
 }
 
 /// A file of this test in the folder that cargo keeps for tests.
@@ -74,11 +115,7 @@ fn the_help_says_that_it_is_outside_the_proof() {
 fn a_text_becomes_a_file_and_a_text_again() {
     let path = scratch("triangle.plan");
     let path = path.to_str().expect("a path in UTF-8");
-    let call = planner(&["file", "triangle.txt", path]);
-    assert_eq!(
-        (call.status, call.out.as_str(), call.err.as_str()),
-        (0, "", "")
-    );
+    assert_eq!(printed(&["file", "triangle.txt", path]), "");
     let call = planner(&["text", path]);
     assert_eq!(call.status, 0);
     let lines: Vec<&str> = call
@@ -145,41 +182,22 @@ fn a_long_listing_shows_no_progress_where_no_terminal_is() {
         text += &format!("event e{i} 500000000 AB\n");
     }
     let path = scratch_with("long.txt", text.as_bytes());
-    let call = planner(&["listing", &path]);
-    assert_eq!((call.status, call.err.as_str()), (0, ""));
-    assert!(call.out.contains("\n16384 scenarios examined, complete 1"));
+    let listing = printed(&["listing", &path]);
+    assert!(listing.contains("\n16384 scenarios examined, complete 1"));
     let help = planner(&["--help"]).out;
     assert!(help.contains("a long listing shows its progress"));
 }
 
 #[test]
 fn a_pair_that_nothing_cuts_and_one_that_was_never_joined() {
-    let call = planner(&["listing", "triangle.txt"]);
-    assert!(call
-        .out
-        .lines()
-        .skip(6)
-        .all(|line| line.ends_with("0        1  -")));
+    let listing = printed(&["listing", "triangle.txt"]);
+    let (_, table) = listing.split_once("\n\n").expect("a head and a table");
+    let mut rows = table.lines().skip(1);
+    assert!(rows.all(|line| line.ends_with("0        1  -")));
     let apart = scratch_with("apart.txt", b"threshold 1\ncap 1\nnode A\nnode B\n");
     let call = planner(&["listing", &apart]);
     let expected = "A B   1.000000000000000000  1.000000000000000000  31536000  31536000  no event: no path joins them";
     assert_eq!(call.out.lines().last(), Some(expected));
-}
-
-/// Two events cut the link. In the order of the walk the rarer one alone comes first, then the likelier one alone.
-#[test]
-fn the_listing_shows_the_first_scenario_and_not_the_likeliest() {
-    let text = b"threshold 1\ncap 100\nnode A\nnode B\nlink AB A B\nevent often 500000000 AB\nevent rarely 100000000 AB\n";
-    let call = planner(&["listing", &scratch_with("first.txt", text)]);
-    let lines: Vec<&str> = call.out.lines().collect();
-    assert!(
-        lines[5].ends_with("  the first scenario that cuts it"),
-        "{}",
-        lines[5]
-    );
-    assert!(lines[6].ends_with("  rarely"), "{}", lines[6]);
-    let help = planner(&["--help"]).out;
-    assert!(help.contains("the first in the walk's order, not the likeliest"));
 }
 
 #[test]
@@ -195,21 +213,23 @@ fn what_is_wrong_ends_with_a_failure() {
     let odd = scratch_with("odd.txt", b"threshold 1\n\xff\n");
     let short = scratch_with("short.plan", b"RSG");
     let nowhere = "no-such-folder/out.plan";
-    let cases: [(&[&str], &str); 7] = [
-        (&["listing", &bad], "bad.txt: line 4: expected a node that stands above; found `B`\n"),
-        (&["file", &bad, nowhere], "bad.txt: line 4: expected a node that stands above; found `B`\n"),
-        (&["bounds", &odd], "odd.txt: line 2: expected text in UTF-8; found other bytes\n"),
-        (&["text", &short], "short.plan: refused 1, the bytes end inside header, link, event or member\n"),
+    let cases: [(i32, &[&str], &str); 7] = [
+        (1, &["listing", &bad], "bad.txt: line 4: expected a node that stands above; found `B`\n"),
+        (1, &["file", &bad, nowhere], "bad.txt: line 4: expected a node that stands above; found `B`\n"),
+        (1, &["bounds", &odd], "odd.txt: expected a text or a plan file; found neither a plan file, \
+            an equipment sheet nor a text: line 2 has bytes that are not UTF-8\n"),
+        (1, &["text", &short], "short.plan: refused 1, the bytes end inside header, link, event or member\n"),
         (
+            1,
             &["listing", "refused-rising-probability.plan"],
             "refused-rising-probability.plan: refused 9, a probability is above that of the event before\n",
         ),
-        (&["listing", "absent.txt"], "planner: absent.txt: "),
-        (&["file", "triangle.txt", nowhere], "planner: no-such-folder/out.plan: "),
+        (2, &["listing", "absent.txt"], "planner: absent.txt: "),
+        (2, &["file", "triangle.txt", nowhere], "planner: no-such-folder/out.plan: "),
     ];
-    for (words, message) in cases {
+    for (status, words, message) in cases {
         let call = planner(words);
-        assert_eq!((call.status, call.out.as_str()), (1, ""), "{words:?}");
+        assert_eq!((call.status, call.out.as_str()), (status, ""), "{words:?}");
         assert!(call.err.contains(message), "{words:?}: {}", call.err);
     }
 }

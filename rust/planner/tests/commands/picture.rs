@@ -137,9 +137,32 @@ fn hollow_marks_where_the_walk_stopped_at_the_cap() {
     assert!(marks(&picture).concat().iter().all(|mark| mark.2));
 }
 
+/// Four stations in a row with a cap of 4 ends. AB fails with 0.4, BC and CD with 0.01 each. At 10^16 one failure of BC or CD is
+/// dropped, and the scenario without a failure and that of AB alone are among the first 4 ends: E is 0.9801, and A and B, A and
+/// C, and A and D are cut off for at most 0.41194 each. At 1 the first 4 ends are those in which AB works: E is 0.6, and D is cut
+/// off from A for at most 0.41194, the same, and from B too, where A and B are for 0.4 and A and C for 0.406.
+#[test]
+fn the_worst_pair_at_the_smallest_gap_and_not_at_the_lowest_threshold() {
+    let text = "threshold 1\ncap 4\nnode A\nnode B\nnode C\nnode D\nlink AB A B\nlink BC B C\nlink CD C D\n\
+                event cut-AB 400_000_000 AB\nevent cut-BC 10_000_000 BC\nevent cut-CD 10_000_000 CD\n";
+    let path = scratch_with("gap.txt", text.as_bytes());
+    let words = "10_000_000_000_000_000 1";
+    let [picture, rows] = drawn_and_printed("gap.svg", &path, words);
+    let rows: Vec<&str> = rows.lines().rev().take(2).collect();
+    for (row, [gap, pair]) in rows.iter().zip([
+        ["0.400000000000000000", "A D"],
+        ["0.019900000000000000", "A B"],
+    ]) {
+        assert!(row.contains(&format!("  {gap}  {pair}  ")), "{row}");
+    }
+    assert!(picture.contains(">A and B</text>"), "{picture}");
+    let picture = drawn("gap.svg", &path, "1");
+    assert!(picture.contains(">A and D</text>"), "{picture}");
+}
+
 /// At 10^17 the worst pair is A and B, at 1 it is A and C.
 #[test]
-fn the_worst_pair_at_the_lowest_threshold_or_the_one_that_is_named() {
+fn the_worst_pair_or_the_one_that_is_named() {
     let path = row_of_three("worst.txt", 100);
     let both = "100_000_000_000_000_000 1";
     for (words, pair) in [
@@ -158,13 +181,12 @@ fn the_worst_pair_at_the_lowest_threshold_or_the_one_that_is_named() {
     }
 }
 
-/// The node names of this plan are marks of XML, one is long, and one has a character that XML does not allow.
+/// The node names of this plan are marks of XML, one is long, and one is a character that XML does not allow.
 #[test]
 fn names_are_escaped() {
     let long = "x".repeat(40) + "&" + &"y".repeat(40);
-    let text = format!(
-        "threshold 1\ncap 100\nnode <A>\nnode \"B\"&'amp;'\nnode {long}\nnode \u{1}\u{ffff}\n"
-    );
+    let text =
+        format!("threshold 1\ncap 100\nnode <A>\nnode \"B\"&'amp;'\nnode {long}\nnode \u{ffff}\n");
     let path = scratch_with("a&b<c>.txt", text.as_bytes());
     let picture = drawn("names.svg", &path, "--pair <A> \"B\"&'amp;' 1");
     let pair = "&lt;A&gt; and \"B\"&amp;'amp;'";
@@ -173,19 +195,15 @@ fn names_are_escaped() {
         picture.contains("a&amp;b&lt;c&gt;.txt</title>"),
         "{picture}"
     );
-    let words = format!("--pair {long} \u{1}\u{ffff} 1");
+    let words = format!("--pair {long} \u{ffff} 1");
     let picture = drawn("names.svg", &path, &words);
-    let pair = format!(
-        ">{}…{} and \u{fffd}\u{fffd}<",
-        "x".repeat(11),
-        "y".repeat(12)
-    );
+    let pair = format!(">{}…{} and \u{fffd}<", "x".repeat(11), "y".repeat(12));
     assert!(picture.contains(&pair), "{picture}");
 }
 
 #[test]
 fn a_file_that_is_there_is_written_over() {
-    let old = "x".repeat(100_000);
+    let old = format!("<?xml {}", "x".repeat(100_000));
     scratch_with("over.svg", old.as_bytes());
     let picture = drawn("over.svg", "triangle.txt", "1");
     assert!(

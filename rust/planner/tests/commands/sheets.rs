@@ -1,6 +1,6 @@
 //! Equipment: the sheet of a text, the events of a sheet, and the other commands on a text with equipment.
 
-use crate::{planner, scratch, scratch_with};
+use crate::{expect_usage, planner, printed, scratch, scratch_with};
 
 /// Three stations in a row; the lines of events do not fall.
 const TEXT: &[u8] = b"threshold 1\ncap 100\nnode A\nnode B\nnode C\nlink AB A B\nlink BC B C\n\
@@ -70,7 +70,7 @@ fn the_listing_has_the_names_of_the_equipment() {
 #[test]
 fn a_text_of_events_has_a_sheet_too() {
     let sheet = out_path("triangle.sheet");
-    quietly(&["sheet", "triangle.txt", &sheet]);
+    assert_eq!(printed(&["sheet", "triangle.txt", &sheet]), "");
     let line = |link: u8| [1, 0, 0, 0, 1, 0, 0, 0, 1, 0, 0, 0, 1, 1, link];
     let bytes = [&b"EQS\x01\0\x03\x03\x03"[..], &line(0), &line(1), &line(2)].concat();
     assert_eq!(std::fs::read(&sheet).expect("the sheet"), bytes);
@@ -95,7 +95,7 @@ fn refused_sheets_are_told_with_their_number() {
             right[..22].to_vec(),
             "refused 1, the bytes end inside header, line or member",
         ),
-        (changed(7, 0, b"RSG"), "refused 2, the mark is not EQS"),
+        (changed(7, 0, b"EQs"), "refused 2, the mark is not EQS"),
         (changed(7, 3, &[2]), "refused 3, the version is not 1"),
         (changed(7, 5, &[65]), "refused 4, a count is out of range"),
         (
@@ -138,9 +138,14 @@ fn what_is_wrong_leaves_no_sheet() {
     assert_eq!((call.status, call.out.as_str()), (1, ""));
     assert!(call.err.ends_with(told), "{}", call.err);
     assert!(!std::path::Path::new(&sheet).exists());
-    for words in [&["sheet", "triangle.txt"][..], &["events"]] {
-        let call = planner(words);
-        assert_eq!((call.status, call.out.as_str()), (2, ""));
-        assert!(call.err.contains("planner sheet PLAN.txt OUT.sheet"));
-    }
+    let form = "expected `planner sheet PLAN.txt OUT.sheet [--force]`";
+    expect_usage(
+        &["sheet", "triangle.txt"],
+        &format!("{form}; found 1 word after `sheet`"),
+    );
+    let form = "expected `planner events IN.sheet`";
+    expect_usage(
+        &["events"],
+        &format!("{form}; found nothing after `events`"),
+    );
 }

@@ -1,6 +1,6 @@
 //! Several thresholds: rows worked out by hand, the usual ten, and what is wrong.
 
-use crate::{expect_failure, planner, printed, scratch, scratch_with};
+use crate::{expect_failure, expect_usage, planner, printed, scratch, scratch_with};
 
 /// Three stations in a row. AB fails with 1/10 and BC with 1/100, so the four scenarios have, in the order of the walk, 0.891
 /// (nothing fails), 0.009 (BC), 0.099 (AB) and 0.001 (both); no mass is lost.
@@ -163,12 +163,17 @@ fn a_plan_without_a_pair() {
     assert_eq!(rows(&["thresholds", &alone, "7"]), [expected]);
 }
 
-/// Thresholds of a plan that end with a failure, which is told.
-#[track_caller]
-fn expect_wrong(plan: &str, words: &str, told: &str) {
+/// The words of a call.
+fn call<'a>(plan: &'a str, words: &'a str) -> Vec<&'a str> {
     let mut call = vec!["thresholds", plan];
     call.extend(words.split(' ').filter(|word| !word.is_empty()));
-    expect_failure(&call, told);
+    call
+}
+
+/// Thresholds of a plan that are refused, which is told.
+#[track_caller]
+fn expect_wrong(plan: &str, words: &str, told: &str) {
+    expect_failure(&call(plan, words), told);
 }
 
 #[test]
@@ -207,14 +212,13 @@ fn words_that_are_none() {
         "_",
         "18446744073709551616",
         "A",
-        "--at",
     ] {
         let told = format!(
             "expected a threshold, a whole number from 1 to 1000000000000000000 in units of 10^-18, \
              --svg FILE or --pair NODE NODE; found `{word}`"
         );
-        expect_wrong("triangle.txt", word, &told);
-        expect_wrong("triangle.txt", &format!("5 {word} 4"), &told);
+        expect_usage(&call("triangle.txt", word), &told);
+        expect_usage(&call("triangle.txt", &format!("5 {word} 4")), &told);
     }
 }
 
@@ -242,8 +246,16 @@ fn options_that_are_none() {
             "--pair A B 7 6",
             "--pair: expected --svg FILE beside it; found none".into(),
         ),
+        (
+            "7 --force",
+            "--force: expected --svg FILE beside it; found none".into(),
+        ),
+        (
+            "7 --at Tue",
+            "expected --svg, --pair, --force or --help; found `--at`".into(),
+        ),
     ] {
-        expect_wrong("triangle.txt", &words.replace('?', file), &told);
+        expect_usage(&call("triangle.txt", &words.replace('?', file)), &told);
     }
     assert!(!path.exists(), "a call that fails draws nothing");
 }
@@ -267,23 +279,24 @@ fn pictures_that_cannot_be_drawn() {
         "--svg",
         "no-such-folder/x.svg",
     ]);
-    assert_eq!((call.status, call.out.as_str()), (1, ""));
+    assert_eq!((call.status, call.out.as_str()), (2, ""));
     let told = "planner: no-such-folder/x.svg: ";
     assert!(call.err.starts_with(told), "{}", call.err);
 }
 
 #[test]
 fn the_help_tells_of_thresholds() {
-    let call = planner(&["thresholds"]);
-    assert_eq!((call.status, call.out.as_str()), (2, ""));
+    let form =
+        "planner thresholds PLAN.txt|IN.plan [T..] [--svg FILE [--pair NODE NODE] [--force]]";
+    let told = format!("expected `{form}`; found nothing after `thresholds`");
+    expect_usage(&["thresholds"], &told);
     let help = planner(&["--help"]).out;
     for told in [
-        "planner thresholds PLAN.txt|IN.plan [T..] [--svg FILE [--pair NODE NODE]]\n",
+        form,
         "they are ten, from 10^15 down to 10^6; the plan's cap counts, its\n",
         "own threshold does not",
-        "For listing, bounds, thresholds and credit a name",
+        "the worst at the threshold with the smallest gap\n",
     ] {
         assert!(help.contains(told), "{told}");
     }
-    assert!(call.err.ends_with(&help));
 }

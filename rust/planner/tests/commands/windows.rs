@@ -1,6 +1,6 @@
 //! Planned work: the listing at a minute of the week, and the commands that take no windows.
 
-use crate::{expect_failure, planner, printed, scratch, scratch_with};
+use crate::{expect_failure, expect_usage, planner, printed, scratch, scratch_with};
 
 /// A triangle. Of its links AB fails with 1/2, AC with 1/4 and BC never, and no mass is lost in the four scenarios.
 const TRIANGLE: &str = "threshold 1\ncap 100\nnode A\nnode B\nnode C\n\
@@ -71,6 +71,8 @@ Out: BC.
 While the work lasts, the share of time that a pair is cut off lies between lower and upper, 0.000000000000000000 apart.
 Seconds are of a year of 365 days in which the work never ends: lower s is rounded down, upper s up.
 The last two columns are upper and upper s without the work: the difference shows what it costs while it lasts.
+Warning: 3 nodes are named by no event, so they never fail: A, B, C.
+Warning: 1 link is named by no event, so it never fails: BC.
 
 pair                 lower                 upper   lower s   upper s    upper without work  upper s without work
 B C   0.625000000000000000  0.625000000000000000  19710000  19710000  0.000000000000000000                     0
@@ -107,7 +109,7 @@ fn windows_that_touch() {
         };
         let told = format!("\nWindows of planned work that hold {time}: {told}");
         assert!(listing.contains(&told), "{listing}");
-        let columns = "\nThe last two columns are upper and upper s without the work.\n\n";
+        let columns = "\nThe last two columns are upper and upper s without the work.\nWarning: ";
         for line in ["\nThe share of time that a pair is cut off lies", columns] {
             assert_eq!(listing.contains(line), work.is_none(), "{listing}");
         }
@@ -198,6 +200,12 @@ fn the_listing_without_a_minute() {
     }
 }
 
+/// What every command tells of the triangle.
+const PERFECT: [&str; 2] = [
+    "warning: 3 nodes are named by no event, so they never fail: A, B, C",
+    "warning: 1 link is named by no event, so it never fails: BC",
+];
+
 /// What a command prints, tells and writes for the triangle with windows is that of the triangle without, but for one line on
 /// standard error.
 #[track_caller]
@@ -214,11 +222,15 @@ fn same_but_for(told: &str, command: &str, words: &[&str], to: Option<&str>) {
         let path = triangle_with(&format!("same-{command}.txt"), windows);
         let _ = to.map(std::fs::remove_file);
         let call = planner(&[&[command, &path], words].concat());
-        let line = match windows {
-            "" => String::new(),
-            _ => format!("planner: {path}: {said}{told}\n"),
+        let first = match windows {
+            "" => None,
+            _ => Some(format!("{said}{told}")),
         };
-        assert_eq!((call.status, call.err), (0, line), "{command}");
+        let lines = first.into_iter().chain(PERFECT.map(str::to_string));
+        let lines: String = lines
+            .map(|line| format!("planner: {path}: {line}\n"))
+            .collect();
+        assert_eq!((call.status, call.err), (0, lines), "{command}");
         let written = to.map(|to| std::fs::read(to).expect("the file that was written"));
         found.push((call.out, written));
     }
@@ -261,8 +273,8 @@ fn times_that_are_none() {
     let time = "a time HH:MM from 00:00 to 23:59";
     for (word, expected, found) in [
         ("", two, "nothing"),
-        ("Tue", two, "`Tue`"),
-        ("14:30", two, "`14:30`"),
+        ("Tue", two, "`Tue` alone"),
+        ("14:30", two, "`14:30` alone"),
         ("Tue 14:30 Wed", two, "`Tue 14:30 Wed`"),
         ("tue 14:30", day, "`tue`"),
         ("Tues 14:30", day, "`Tues`"),
@@ -273,10 +285,10 @@ fn times_that_are_none() {
         ("Tue 1430", time, "`1430`"),
     ] {
         let told = format!("--at: expected {expected}; found {found}");
-        expect_failure(&["listing", &path, "--at", word], &told);
+        expect_usage(&["listing", &path, "--at", word], &told);
     }
     let told = format!("--at: expected {two}; found nothing");
-    expect_failure(&["listing", &path, "--at"], &told);
+    expect_usage(&["listing", &path, "--at"], &told);
     let refused = "refused-rising-probability.plan";
     let reason = "refused 9, a probability is above that of the event before";
     let told = format!("{refused}: {reason}");
@@ -309,8 +321,11 @@ fn a_bad_window_is_told_by_every_command() {
 
 #[test]
 fn the_help_tells_of_windows() {
-    let call = planner(&["listing", "triangle.txt", "--when", "Tue 14:30"]);
-    assert_eq!((call.status, call.out.as_str()), (2, ""));
+    let call = ["listing", "triangle.txt", "--when", "Tue 14:30"];
+    expect_usage(
+        &call,
+        "expected --at, --witness, --no-witness or --help; found `--when`",
+    );
     let help = planner(&["--help"]).out;
     for told in [
         "planner listing PLAN.txt|IN.plan --at 'Tue 14:30'",
@@ -323,5 +338,4 @@ fn the_help_tells_of_windows() {
     ] {
         assert!(help.contains(told), "{told}");
     }
-    assert!(call.err.ends_with(&help));
 }
