@@ -1,6 +1,6 @@
 // A plan whose ends are worked out by hand, what looks at its walk show after so many ends, and holding a walk and the answer of a go-on to
 // that. Masses are in thousandths of the whole, 10^15 units each.
-// Assumes nothing.
+// Assumes the contract of C's `write`, with which differences are printed.
 //
 // 3 nodes, t = 56; link 0 is 0-1, link 1 is 0-2, link 2 is 1-2.
 //   event 0, q = 0.4:  link 1.

@@ -1,4 +1,5 @@
 // What the test programs of equipment sheets share. Lists hold a pattern, word 77, before the call.
+// Assumes the contract of C's `write`, with which differences are printed.
 use vectors::WORD;
 use vectors::all_words;
 use vectors::same_part;

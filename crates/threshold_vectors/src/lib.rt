@@ -1,6 +1,6 @@
 // What the test programs of several thresholds share: document 02, request U8. The call, with a contract that says nothing (what a program
 // holds an answer to is all written down in it), and holding answers and lists to what they should be.
-// Assumes nothing.
+// Assumes the contract of C's `write`, with which differences are printed.
 use thresholds::Answered;
 use thresholds::CommonHeader;
 use thresholds::thresholds;
