@@ -3,7 +3,7 @@
  *
  * The caller sees to it that each pointer is valid for its length (with length 0 it may be null), that `plan` and `out` do not overlap,
  * and that no other thread writes to either, or reads `out`, during the call. Nothing is kept after the call, and nothing else is touched:
- * calls in several threads at once are fine. A call takes about 40 KiB of stack. */
+ * calls in several threads at once are fine. A thread that makes a call has at least WELLEMBER_STACK bytes of stack left. */
 #ifndef WELLEMBER_H
 #define WELLEMBER_H
 
@@ -13,6 +13,9 @@
 #ifdef __cplusplus
 extern "C" {
 #endif
+
+/* The stack, in bytes, that is enough for every call: at least a third more than one takes. host/test.c holds it to that. */
+#define WELLEMBER_STACK 98304
 
 /* The number of the first refusal that the plan file meets, 1 to 11, or 0 where it is accepted. */
 uint32_t wellember_check(const uint8_t *plan, size_t plan_len);

@@ -1,17 +1,22 @@
 // What the test programs of networks share: links in an array as in a plan, two bytes each, what has failed, whether a plan may have
 // such links, and holding what the nodes of a network reach to what it should be.
-// Assumes nothing.
+// Assumes the contract of C's `write`, with which differences are printed.
 mod reach;
 
 use network::Failed;
 use plan::Header;
 pub use reach::parts;
 ghost use mathlib.Core.Path.{_≡_};
-ghost use mathlib.Core.Bool.{true};
+ghost use mathlib.Core.Bool.{true, cond};
+ghost use lib.Dec.{leb};
+ghost use lib.ListN.{length, replicate};
+ghost use lib.Seq.{sets};
 ghost use Rattle.plan.specs.Held.{LinksHeld};
 
-// An array that starts with these links.
-pub fn links(bytes: &[u8]) -> [u8; 256] {
+// An array that starts with these links; zeros where there are more bytes than it holds.
+pub fn links(bytes: &[u8]) -> [u8; 256]
+    ensures { λ r. ⌜ r ≡ cond (leb (length (now (bytes .entry))) 256) (sets (replicate 256 0) 0 (now (bytes .entry))) (replicate 256 0) ⌝ }
+{
     let mut all = [0u8; 256];
     if bytes.len() <= 256 {
         lent::copy_bytes(bytes, &mut all, bytes.len());
@@ -20,7 +25,9 @@ pub fn links(bytes: &[u8]) -> [u8; 256] {
 }
 
 // What has failed: a set of nodes, and a set of links in two words.
-pub fn failed(nodes: u64, low: u64, high: u64) -> Failed {
+pub fn failed(nodes: u64, low: u64, high: u64) -> Failed
+    ensures { λ r. ⌜ r ≡ record { nodes = nodes; low = low; high = high } ⌝ }
+{
     Failed {
         nodes: nodes,
         low: low,

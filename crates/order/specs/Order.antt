@@ -15,7 +15,7 @@ placeOf key k (x ∷ xs) = cond (ltb (key x) k) 0 (suc (placeOf key k xs))
 unfoldable pub withElement : {A : Type 0} → (A → ℕ) → A → List A → List A
 withElement key x xs = take (placeOf key (key x) xs) xs ++ (x ∷ drop (placeOf key (key x) xs) xs)
 
--- the elements of a list withElement, one after another, among those that are in order
+-- the elements of a list, put one after another among those that are in order already
 unfoldable pub orderedWith : {A : Type 0} → (A → ℕ) → List A → List A → List A
 orderedWith key done [] = done
 orderedWith key done (x ∷ xs) = orderedWith key (withElement key x done) xs

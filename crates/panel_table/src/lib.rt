@@ -1,6 +1,6 @@
 // A plan whose ends are worked out by hand, what looks at its walk show after so many ends, and holding a walk and the answer of a go-on to
 // that. Masses are in thousandths of the whole, 10^15 units each.
-// Assumes nothing.
+// Assumes the contract of C's `write`, with which differences are printed.
 //
 // 3 nodes, t = 56; link 0 is 0-1, link 1 is 0-2, link 2 is 1-2.
 //   event 0, q = 0.4:  link 1.
@@ -38,12 +38,18 @@ use panel_vectors::totals;
 use vectors::header;
 use vectors::same;
 use walk_state::Walk;
+ghost use mathlib.Core.Path.{_≡_};
+ghost use lib.ListN.{getD};
+ghost use Rattle.panel.specs.Calls.{WentOn};
+ghost use Rattle.panel_table.specs.Table.{begunWith};
 
 // How many ends the walk has.
 const ENDS: u64 = 14;
 
-// The walk of this plan, begun, with a cap.
-pub fn begun(cap: u64) -> Walk {
+// The walk of this plan, begun, with a cap; a walk of zeros where the cap is refused.
+pub fn begun(cap: u64) -> Walk
+    ensures { λ r. ⌜ r ≡ begunWith «cap» .walk ⌝ }
+{
     let links = [0u8, 1, 0, 2, 1, 2];
     let events = [
         400_000_000u64,
@@ -70,7 +76,9 @@ pub fn begun(cap: u64) -> Walk {
 }
 
 // The byte at a position: 0 past the last one.
-pub fn wide_at(list: &[u8], at: usize) -> u64 {
+pub fn wide_at(list: &[u8], at: usize) -> u64
+    ensures { λ r. ⌜ r ≡ getD (now (list .entry)) at 0 ⌝ }
+{
     if list.len() <= at {
         return 0;
     }
@@ -175,7 +183,9 @@ pub fn went_on(
     ends: u64,
     r: u64,
     left: u64,
-) -> GoneOn {
+) -> GoneOn
+    ensures { λ r. ⌜ WentOn w quota k r ⌝ }
+{
     let g = panel::go_on(w, quota, k);
     answered(label, r, g, number, ends, left);
     let next = g.walk;

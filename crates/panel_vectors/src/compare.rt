@@ -4,14 +4,18 @@ use bounds::Totals;
 use panel::GoneOn;
 use vectors::same_part;
 use walk_state::Walk;
+ghost use mathlib.Core.Path.{_≡_};
+ghost use Prim.Native.Nat.{_-_};
 
 pub const WHOLE: u64 = 1_000_000_000_000_000_000;
 
 // What the quota holds at power-up: "One quota of 10,000,000 ends".
 pub const FULL: u64 = 10_000_000;
 
-// What is left of that quota after so many ends.
-pub fn left_after(ends: u64) -> u64 {
+// What is left of that quota after so many ends: 0 where they are more.
+pub fn left_after(ends: u64) -> u64
+    ensures { λ r. ⌜ r ≡ 10000000 - ends ⌝ }
+{
     if ends > FULL {
         return 0;
     }
@@ -70,7 +74,9 @@ pub fn answered(label: &[u8], r: u64, g: GoneOn, number: u64, ends: u64, left: u
 }
 
 // What is over: 0 where the second number is the larger one.
-pub fn less(a: u64, b: u64) -> u64 {
+pub fn less(a: u64, b: u64) -> u64
+    ensures { λ r. ⌜ r ≡ a - b ⌝ }
+{
     if a < b {
         return 0;
     }

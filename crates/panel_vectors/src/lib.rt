@@ -1,6 +1,6 @@
 // What the test programs of walks in steps share: document 02, request U4. Holding what a look shows, what a go-on answers, and a whole
 // walk, to what it should be.
-// Assumes nothing.
+// Assumes the contract of C's `write`, with which differences are printed.
 mod compare;
 mod walks;
 

@@ -1,7 +1,11 @@
 // What the test programs of equipment sheets share. Lists hold a pattern, word 77, before the call.
+// Assumes the contract of C's `write`, with which differences are printed.
 use vectors::WORD;
 use vectors::all_words;
 use vectors::same_part;
+ghost use mathlib.Core.Path.{_≡_};
+ghost use Rattle.plan.specs.Calls.{filled};
+ghost use Rattle.sheets.specs.SheetCalls.{readSheetNumber, sheetWords};
 
 // Holds a sheet to its number, by the check and by a reading into a list with room for every sheet. A refusal changes nothing.
 pub fn number(label: &[u8], sheet: &[u8], want: u64) {
@@ -14,8 +18,11 @@ pub fn number(label: &[u8], sheet: &[u8], want: u64) {
     }
 }
 
-// Holds a sheet to its counts and to the words of the list after it was read.
-pub fn counts(label: &[u8], sheet: &[u8], events: &mut [u64], nodes: u64, links: u64, lines: u64) {
+// Reads a sheet into a list, and holds its answer to no refusal and to these counts.
+pub fn counts(label: &[u8], sheet: &[u8], events: &mut [u64], nodes: u64, links: u64, lines: u64)
+    ensures { λ r. ⌜ now (events .exit) ≡ filled (readSheetNumber (now (sheet .entry)) (now (events .entry)))
+        (sheetWords (now (sheet .entry))) (now (events .entry)) ⌝ }
+{
     let answer = sheets::read(sheet, events);
     let c = sheets::counts_in(answer);
     same_part(label, b"number", sheets::number_in(answer) as u64, 0);

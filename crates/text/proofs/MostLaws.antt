@@ -1,4 +1,4 @@
--- No listing is longer than 92,789 bytes: 2,016 lines of 46 bytes, and a first line of 53.
+-- No listing is longer than 92,789 bytes, a bound: 2,016 lines of at most 46 bytes, and a first line of at most 53.
 -- Assumes nothing.
 use mathlib.Core.Path.{_≡_, sym, ap, _∙_}
 use mathlib.Core.Bool.{Bool, true, false, not, _||_, _&&_}

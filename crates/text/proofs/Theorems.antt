@@ -19,7 +19,8 @@ use Rattle.text.specs.declared.Formatted.the-variants as formatted
 use Rattle.text.proofs.FieldLaws.{refused-long}
 use Rattle.text.proofs.MostLaws.{refusal-most, refused-same, field-most, plan-most}
 
--- THE LONGEST LISTING: the program's buffer has this length
+-- A BOUND ON THE LENGTH OF EVERY LISTING: the program's buffer has this length. No plan attains it: it counts two digits for each node, and
+-- nodes 0 to 9 have one
 pub listing-most : (b : List ℕ) → Bytes b → length (listing intact b) ≤ 92789
 unfolding listing answerText
 listing-most b bytes = go (refusal b) refl

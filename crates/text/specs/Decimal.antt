@@ -19,7 +19,3 @@ decimal x = digits (suc x) x
 example-decimal : (decimal 0 ≡ 48 ∷ []) × (decimal 10 ≡ 49 ∷ 48 ∷ []) × (decimal 907 ≡ 57 ∷ 48 ∷ 55 ∷ [])
 unfolding decimal digits
 example-decimal = (refl, refl, refl)
-
--- ---- how the digits are made
-
--- ---- what the digits say

@@ -42,7 +42,7 @@ fn put_listing(s: &[u8], out: &mut [u8]) -> usize
 }
 
 // Lays down the listing of a plan file, and answers how many bytes it has; 12, and nothing is changed, where the buffer is too short. The
-// text is made in an array that holds the longest listing.
+// text is made in an array that has room for every listing.
 pub fn listing_text(plan: &[u8], out: &mut [u8]) -> Formatted
     ensures answer { λ r. ⌜ r ≡ formattedAnswer
         (roomTest (length (now (out .entry))) (length (listing intact (now (plan .entry)))))

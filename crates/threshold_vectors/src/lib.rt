@@ -1,23 +1,9 @@
-// What the test programs of several thresholds share: document 02, request U8. The call, with a contract that says nothing (what a program
-// holds an answer to is all written down in it), and holding answers and lists to what they should be.
-// Assumes nothing.
+// What the test programs of several thresholds share: document 02, request U8. Holding answers and lists to what they should be.
+// Assumes the contract of C's `write`, with which differences are printed.
 use thresholds::Answered;
-use thresholds::CommonHeader;
-use thresholds::thresholds;
 use vectors::WORD;
 use vectors::same;
 use vectors::same_at;
-
-pub fn call(
-    h: CommonHeader,
-    links: &[u8],
-    events: &[u64],
-    list: &[u64],
-    lower: &mut [u64],
-    upper: &mut [u64],
-) -> Answered {
-    thresholds(h, links, events, list, lower, upper)
-}
 
 // Holds every word of a list from a place on to one value.
 fn rest(label: &[u8], list: &[u64], from: usize, want: u64) {

@@ -29,6 +29,7 @@ unfoldable pub via : Network → ℕ → ℕ → ℕ → Bool
 via net zero v w = eqb v w || adjacent net v w
 via net (suc k) v w = via net k v w || (via net k v k && via net k k w)
 
--- the same as a Bool, for sums: true exactly where the two nodes are disconnected (`disconnected-is` in Connection)
+-- the same as a Bool, for sums: true exactly where the two nodes are disconnected (`disconnected-is` in
+-- proofs/Theorems.antt)
 unfoldable pub disconnected : Network → ℕ → ℕ → Bool
 disconnected net v w = not ((nodeWorks net v && nodeWorks net w) && via net (net .nodes) v w)

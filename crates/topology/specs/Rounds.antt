@@ -18,7 +18,8 @@ module _ (n : ℕ) (start : ℕ → Bool) (near : ℕ → ℕ → Bool) where
   unfoldable pub addsAfter : ℕ → Bool
   addsAfter k = anyBelow (λ w. inRound (suc k) w && not (inRound k w)) n
 
-  -- "the first round that adds no node .. that round's number, counted from 1": one of the first n (`rounds-most` in RoundTheorems)
+  -- "the first round that adds no node .. that round's number, counted from 1": one of the first n (`rounds-most` in
+  -- proofs/RoundTheorems.antt)
   unfoldable pub lastRound : ℕ
   lastRound = suc (firstBelow (λ k. not (addsAfter k)) n)
 

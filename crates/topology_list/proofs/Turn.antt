@@ -54,8 +54,8 @@ module _ (T : Scenario → Topology) (count : ℕ) (list list₁ : List ℕ) (q 
       → HoldsList (placedAll (length list / 4) T out later) count list list₂ q₂
   then-given z list₂ q₂ next =
       record {
-        number = next .number ∙ ap (λ (l : TopologyList). l .number) sameTopology;
-        entries = next .entries ∙ ap (λ (l : TopologyList). l .entries) sameTopology;
+        number = next .number ∙ ap (λ (l : TopologyList). l .number) sameList;
+        entries = next .entries ∙ ap (λ (l : TopologyList). l .entries) sameList;
         grows = omega (arith, given .grows, next .grows);
         room = next .room;
         others =
@@ -74,8 +74,8 @@ module _ (T : Scenario → Topology) (count : ℕ) (list list₁ : List ℕ) (q 
       more : 4 * q₂ .count ≡ 4 * q .count + past
       more = omega (arith, next .grows)
 
-      sameTopology : placedAll (length list₁ / 4) T (topologyList (entriesOf (q .count) list₁) 0) later ≡ placedAll (length list / 4) T out later
-      sameTopology =
+      sameList : placedAll (length list₁ / 4) T (topologyList (entriesOf (q .count) list₁) 0) later ≡ placedAll (length list / 4) T out later
+      sameList =
           ap (λ (n : ℕ). placedAll (n / 4) T (topologyList (entriesOf (q .count) list₁) 0) later) (given .sized)
           ∙ ap (λ (l : TopologyList). placedAll (length list / 4) T l later)
           (λ i. record { entries = given .entries i; number = (sym z ∙ given .number) i })

@@ -8,13 +8,16 @@ use panel_vectors::WHOLE;
 use panel_vectors::answered;
 use panel_vectors::same_walk;
 use walk_state::Walk;
+ghost use Rattle.panel_table.specs.Table.{begunWith, LeftBy};
 
 pub const THRESHOLD: u64 = 56_000_000_000_000_000;
 
 pub const MASS: u64 = 507_000_000_000_000_000;
 
 // The walk after 5 ends.
-pub fn half() -> Walk {
+pub fn half() -> Walk
+    ensures { λ r. ⌜ LeftBy (begunWith 100 .walk) (record { left = 5 }) 5 r ⌝ }
+{
     let g = went_on(b"half", begun(100), Quota { left: 5 }, 5, 0, 5, 5, 0);
     g.walk
 }

@@ -1,5 +1,4 @@
 // What the call refuses.
-use threshold_vectors::call;
 use threshold_vectors::refused;
 use thresholds::CommonHeader;
 use vectors::WORD;
@@ -15,7 +14,7 @@ fn with_room(
 ) {
     let mut lower = [WORD; 51];
     let mut upper = [WORD; 51];
-    let a = call(h, links, events, list, &mut lower, &mut upper);
+    let a = thresholds::thresholds(h, links, events, list, &mut lower, &mut upper);
     refused(label, a, &lower, &upper, number);
 }
 
@@ -30,7 +29,7 @@ fn without_room(
 ) {
     let mut lower = [WORD; 2];
     let mut upper = [WORD; 2];
-    let a = call(h, links, events, list, &mut lower, &mut upper);
+    let a = thresholds::thresholds(h, links, events, list, &mut lower, &mut upper);
     refused(label, a, &lower, &upper, number);
 }
 
@@ -113,7 +112,7 @@ pub fn lower_room() {
     let mut lower = [WORD; 5];
     let mut upper = [WORD; 6];
     let h = three_nodes();
-    let a = call(h, &bytes, &words, &list, &mut lower, &mut upper);
+    let a = thresholds::thresholds(h, &bytes, &words, &list, &mut lower, &mut upper);
     refused(b"12 for the lower bounds", a, &lower, &upper, 12);
 }
 
@@ -124,6 +123,6 @@ pub fn upper_room() {
     let mut lower = [WORD; 6];
     let mut upper = [WORD; 5];
     let h = three_nodes();
-    let a = call(h, &bytes, &words, &list, &mut lower, &mut upper);
+    let a = thresholds::thresholds(h, &bytes, &words, &list, &mut lower, &mut upper);
     refused(b"12 for the upper bounds", a, &lower, &upper, 12);
 }

@@ -1,6 +1,5 @@
 // Plans without a pair or an event. Masses are in units of 10^-18.
 use threshold_vectors::answered;
-use threshold_vectors::call;
 use threshold_vectors::untouched;
 use thresholds::Answered;
 use thresholds::CommonHeader;
@@ -46,7 +45,7 @@ pub fn no_pair(label: &[u8]) {
     let mut lower = [WORD; 2];
     let mut upper = [WORD; 2];
     let h = head(1, 0, 1, 2);
-    let a = call(h, &none[0..0], &events, &list, &mut lower, &mut upper);
+    let a = thresholds::thresholds(h, &none[0..0], &events, &list, &mut lower, &mut upper);
     at(label, a, 0, 1, 1, REST);
     at(label, a, 1, 2, 1, WHOLE);
     answered(label, a, 0, 2);
@@ -62,7 +61,7 @@ pub fn no_event(label: &[u8]) {
     let mut lower = [WORD; 6];
     let mut upper = [WORD; 6];
     let h = head(3, 1, 0, 1);
-    let a = call(h, &links, &words, &list, &mut lower, &mut upper);
+    let a = thresholds::thresholds(h, &links, &words, &list, &mut lower, &mut upper);
     at(label, a, 0, 1, 1, WHOLE);
     at(label, a, 1, 1, 1, WHOLE);
     answered(label, a, 0, 2);

@@ -1,4 +1,4 @@
-// The second plan of `outcomes` at four thresholds and several caps: where a low threshold stops, a high one goes on. Masses are in
+// The second plan of `held` at four thresholds and several caps: where a low threshold stops, a high one goes on. Masses are in
 // ten-thousandths of the whole.
 //
 // The ends in order, a dropped one in brackets:
@@ -7,7 +7,6 @@
 //   t = 405:        1 WWWW, 2 WWWF, 3 WWFW, 4 [WWFF], 5 WFWW, 6 [WFWF], 7 [WFF], 8 FWWW, 9 FWWF, 10 FWFW, 11 [FWFF], 12 FFWW, 13 [FFWF], 14 [FFF]
 //   t = 1 unit:     the 16 of the plan
 use crate::held::rows;
-use threshold_vectors::call;
 use thresholds::CommonHeader;
 use vectors::WORD;
 
@@ -29,7 +28,7 @@ fn asked(label: &[u8], cap: u64, text: &[u8]) {
         events: 4,
         limit: cap,
     };
-    let a = call(h, &links, &events, &list, &mut lower, &mut upper);
+    let a = thresholds::thresholds(h, &links, &events, &list, &mut lower, &mut upper);
     rows(label, a, &lower, &upper, text);
 }
 

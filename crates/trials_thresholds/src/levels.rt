@@ -1,4 +1,4 @@
-// The first plan of `outcomes` at several thresholds. Masses are in ten-thousandths of the whole.
+// The first plan of `held` at several thresholds. Masses are in ten-thousandths of the whole.
 //
 // What is relevant, and the ends in order, a dropped one in brackets:
 //   t above 9,000:              nothing     [W] [F]
@@ -9,7 +9,6 @@
 //   t above 10, up to 90:       WW, WF, FW  WW WF FW [FF]
 //   t up to 10:                 all four    WW WF FW FF
 use crate::held::rows;
-use threshold_vectors::call;
 use thresholds::CommonHeader;
 use vectors::WORD;
 
@@ -24,7 +23,7 @@ fn asked(label: &[u8], cap: u64, list: &[u64], text: &[u8]) {
         events: 2,
         limit: cap,
     };
-    let a = call(h, &links, &events, list, &mut lower, &mut upper);
+    let a = thresholds::thresholds(h, &links, &events, list, &mut lower, &mut upper);
     rows(label, a, &lower, &upper, text);
 }
 

@@ -4,7 +4,6 @@
 mod caps;
 mod held;
 mod levels;
-mod outcomes;
 
 fn main() {
     levels::few();

@@ -1,5 +1,5 @@
 // What the test programs share: comparing a result with what it should be, and plans of known bytes.
-// Assumes nothing.
+// Assumes the contract of C's `write`, with which differences are printed.
 mod compare;
 mod data;
 

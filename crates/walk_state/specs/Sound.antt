@@ -1,5 +1,5 @@
 -- The test of a state: whether fields that are set to anything may be gone on with. Every state that an accepted begin and go-ons lead to
--- passes it (`walk-sound` in proofs/Theorems.antt).
+-- passes it (`walk-sound` in panel/proofs/Theorems.antt).
 -- Assumes nothing.
 use mathlib.Core.Path.{_≡_, refl}
 use mathlib.Core.Bool.{Bool, true, false, _&&_}

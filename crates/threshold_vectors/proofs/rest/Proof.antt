@@ -1,4 +1,4 @@
--- `threshold_vectors::rest` is safe and ends: each turn brings the index nearer to the length. Assumes nothing.
+-- `threshold_vectors::rest` is safe and ends: each turn brings the index nearer to the length. Assumes the contract of C's `write`.
 use Prim.Native.Nat.{_≤_, _-_}
 use lib.ListN.{length}
 use borrow.Author.Needs.{needs}

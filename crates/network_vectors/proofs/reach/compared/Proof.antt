@@ -1,4 +1,4 @@
--- `network_vectors::reach::compared` is safe and ends: the node is at most 64. Assumes nothing.
+-- `network_vectors::reach::compared` is safe and ends: the node is at most 64. Assumes the contract of C's `write`.
 use Prim.Native.Nat.{_≤_, _-_}
 use borrow.Author.Needs.{needs}
 use Rattle.network_vectors.proofs.reach.compared.Statement.{statement}

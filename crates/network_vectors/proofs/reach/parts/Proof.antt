@@ -1,4 +1,4 @@
--- `network_vectors::reach::parts` is safe and ends: what `held` promises is what `compared` asks for. Assumes nothing.
+-- `network_vectors::reach::parts` is safe and ends: what `held` promises is what `compared` asks for. Assumes the contract of C's `write`.
 use borrow.Author.Needs.{needs}
 use Rattle.network_vectors.proofs.reach.parts.Statement.{statement}
 use Rattle.network_vectors.proofs.reach.parts.Tie as tie

@@ -1,4 +1,4 @@
--- `text::calls::listing_text` meets its contract: the array has room for the longest listing. Assumes nothing.
+-- `text::calls::listing_text` meets its contract: the array has room for every listing. Assumes nothing.
 use mathlib.Core.Path.{subst}
 use Prim.Native.Nat.{ℕ, _<_}
 use native.Mathlib.Omega.{arith}

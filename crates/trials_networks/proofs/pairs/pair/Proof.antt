@@ -1,4 +1,4 @@
--- `trials_networks::pairs::pair` is safe and ends: what `held` promises is what `tested` asks for. Assumes nothing.
+-- `trials_networks::pairs::pair` is safe and ends: what `held` promises is what `tested` asks for. Assumes the contract of C's `write`.
 use borrow.Author.Needs.{needs}
 use Rattle.trials_networks.proofs.pairs.pair.Statement.{statement}
 use Rattle.trials_networks.proofs.pairs.pair.Tie as tie

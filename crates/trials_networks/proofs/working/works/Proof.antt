@@ -1,4 +1,4 @@
--- `trials_networks::working::works` is safe and ends: what `held` promises is what `working` asks for. Assumes nothing.
+-- `trials_networks::working::works` is safe and ends: what `held` promises is what `working` asks for. Assumes the contract of C's `write`.
 use borrow.Author.Needs.{needs}
 use Rattle.trials_networks.proofs.working.works.Statement.{statement}
 use Rattle.trials_networks.proofs.working.works.Tie as tie

@@ -1,4 +1,4 @@
--- `trials_panel::lists::list` is safe and ends: the index is at most 16. Assumes nothing.
+-- `trials_panel::lists::list` is safe and ends: the index is at most 16. Assumes the contract of C's `write`.
 use Prim.Native.Nat.{_≤_, _-_}
 use borrow.Author.Needs.{needs}
 use Rattle.trials_panel.proofs.lists.list.Statement.{statement}

@@ -1,4 +1,4 @@
--- `trials_panel::splits::seconds` is safe and ends: the number of ends is at most 15. Assumes nothing.
+-- `trials_panel::splits::seconds` is safe and ends: the number of ends is at most 15. Assumes the contract of C's `write`.
 use Prim.Native.Nat.{_≤_, _-_}
 use borrow.Author.Needs.{needs}
 use Rattle.trials_panel.proofs.splits.seconds.Statement.{statement}

@@ -1,4 +1,4 @@
--- `trials_readings::figures::bits` is safe: a figure that was given has no NaN, so its bits may be taken. Assumes nothing.
+-- `trials_readings::figures::bits` is safe: a figure that was given has no NaN, so its bits may be taken. Assumes the contract of C's `write`.
 use borrow.Author.Needs.{needs}
 use Rattle.readings.proofs.FigureLaws.{given-numbers}
 use Rattle.trials_readings.proofs.figures.bits.Statement.{statement}

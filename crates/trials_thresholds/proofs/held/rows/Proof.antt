@@ -1,4 +1,4 @@
--- `trials_thresholds::held::rows` is safe and ends: the index is at most 16. Assumes nothing.
+-- `trials_thresholds::held::rows` is safe and ends: the index is at most 16. Assumes the contract of C's `write`.
 use Prim.Native.Nat.{_≤_, _-_}
 use borrow.Author.Needs.{needs}
 use Rattle.trials_thresholds.proofs.held.rows.Statement.{statement}

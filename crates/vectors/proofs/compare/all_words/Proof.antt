@@ -1,4 +1,4 @@
--- `vectors::compare::all_words` is safe and ends: the index is at most the length. Assumes nothing.
+-- `vectors::compare::all_words` is safe and ends: the index is at most the length. Assumes the contract of C's `write`.
 use Prim.Native.Nat.{_≤_, _-_}
 use lib.ListN.{length}
 use borrow.Author.Needs.{needs}

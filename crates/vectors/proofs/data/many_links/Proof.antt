@@ -1,17 +1,22 @@
--- `vectors::data::many_links` is safe and ends: the index is at most 128. Assumes nothing.
-use Prim.Native.Nat.{_≤_, _-_}
+-- `vectors::data::many_links` meets its contract: the first `i` links are laid down. Assumes nothing.
+use mathlib.Core.Path.{_≡_, refl, _∙_}
+use Prim.Native.Nat.{_≤_, _<_, _-_, _+_, _*_}
+use native.Mathlib.Omega.{arith}
 use borrow.Author.Needs.{needs}
+use lib.ListN.{length}
+use Rattle.vectors.specs.Data.{LinksUpTo}
+use Rattle.vectors.proofs.DataLaws.{link-more}
 use Rattle.vectors.proofs.data.many_links.Statement.{statement}
 use Rattle.vectors.proofs.data.many_links.Tie as tie
 
 abbrev Inv-loop : tie.InvT-loop
-Inv-loop links₀ i₀ links i = i ≤ 128
+Inv-loop links₀ i₀ links i = (i ≤ 128) × (length links ≡ 256) × LinksUpTo i links
 
 abbrev μ-loop : tie.MeasureT-loop
 μ-loop links₀ i₀ links i = 128 - i
 
 loop-holds : tie.Need-loop-holds Inv-loop μ-loop
-loop-holds c = search needs
+loop-holds c = (omega arith, refl, λ k h. absurd (omega arith))
 
 cast-links : tie.Need-cast-links Inv-loop μ-loop
 cast-links c = search needs
@@ -44,10 +49,16 @@ loop-less : tie.Need-loop-less Inv-loop μ-loop
 loop-less c = search needs
 
 loop-again : tie.Need-loop-again Inv-loop μ-loop
-loop-again c = search needs
+loop-again c =
+    let b = c .before .loop in
+    let room : 2 * b .i + 1 < length (b .links) = omega (arith, b .inv .1, c .loop-test .taken) in (
+      omega arith,
+      search needs,
+      link-more (b .links) (b .i) _ _ room refl refl (b .inv .2),
+    )
 
 returns : tie.Need-returns Inv-loop μ-loop
-returns c = search needs
+returns c = λ i h. c .before .loop .inv .2 i (omega arith)
 
 pub many-links-spec : {M : Type 1} → statement M
 many-links-spec =

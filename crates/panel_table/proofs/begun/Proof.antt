@@ -1,0 +1,53 @@
+-- `panel_table::begun` meets its contract: the begin's answer has the header that `header` gives. Assumes the contract of C's `write`.
+use mathlib.Core.Path.{ap, _∙_}
+use borrow.Author.Needs.{needs}
+use Rattle.plan.specs.LentLists.{listsNumber}
+use Rattle.plan.specs.declared.Header.{Header}
+use Rattle.walk_state.specs.States.{walkAnswer}
+use Rattle.walk_state.specs.declared.WalkAnswer.{WalkAnswer}
+use Rattle.panel.specs.Walks.{rootWalk}
+use Rattle.panel_table.specs.Table.{tableLinks, tableEvents}
+use Rattle.panel_table.proofs.begun.Statement.{statement}
+use Rattle.panel_table.proofs.begun.Tie as tie
+
+header-requires : tie.Need-header-requires
+header-requires c κs = search needs
+
+slice-aggregate-begin : tie.Need-slice-aggregate-begin
+slice-aggregate-begin c = search needs
+
+slice-aggregate-begin-2 : tie.Need-slice-aggregate-begin-2
+slice-aggregate-begin-2 c = search needs
+
+begin-requires : tie.Need-begin-requires
+begin-requires c κs = search needs
+
+slice-aggregate-same : tie.Need-slice-aggregate-same
+slice-aggregate-same c = search needs
+
+cast-same : tie.Need-cast-same
+cast-same c = search needs
+
+same-requires : tie.Need-same-requires
+same-requires c κs = search needs
+
+returns : tie.Need-returns
+returns c =
+    let b = c .before .before .before .before in
+    let same = b .before .before .before .header .ensures in
+    let answer =
+    b .begin .ensures .0 ∙ ap (λ (h : Header). walkAnswer (listsNumber h tableLinks tableEvents) (rootWalk h tableLinks tableEvents)) same in
+    ap (λ (a : WalkAnswer). a .walk) answer
+
+pub begun-spec : {M : Type 1} → statement M
+begun-spec =
+    tie.close
+    (tie.spec
+    header-requires
+    slice-aggregate-begin
+    slice-aggregate-begin-2
+    begin-requires
+    slice-aggregate-same
+    cast-same
+    same-requires
+    returns)

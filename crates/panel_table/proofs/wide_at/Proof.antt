@@ -1,0 +1,18 @@
+-- `panel_table::wide_at` meets its contract. Assumes nothing.
+use mathlib.Core.Path.{sym}
+use borrow.Author.Needs.{needs}
+use lib.ListN.{List·getD-eq-default}
+use Rattle.panel_table.proofs.wide_at.Statement.{statement}
+use Rattle.panel_table.proofs.wide_at.Tie as tie
+
+returns : tie.Need-returns
+returns c = sym (List·getD-eq-default (c .before .before .args .list .now) 0 (c .if1 .taken))
+
+byte-at-requires : tie.Need-byte-at-requires
+byte-at-requires c κs = search needs
+
+returns-2 : tie.Need-returns-2
+returns-2 c = search needs
+
+pub wide-at-spec : {M : Type 1} → statement M
+wide-at-spec = tie.close (tie.spec returns byte-at-requires returns-2)

@@ -1,0 +1,2 @@
+-- What the contracts of the crate `panel_table` cite.
+pub mod Table

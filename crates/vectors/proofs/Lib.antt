@@ -1,0 +1,2 @@
+-- Laws of the crate `vectors`.
+pub mod DataLaws

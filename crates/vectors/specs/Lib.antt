@@ -1,0 +1,2 @@
+-- What the contracts of the crate `vectors` cite.
+pub mod Data
