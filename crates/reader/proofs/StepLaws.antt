@@ -9,17 +9,17 @@ use native.Mathlib.Numerals.{add-one}
 use native.Mathlib.Omega.{arith}
 use lib.ListN.{length, getD, drop, set}
 use lib.Seq.{drop-drop, getD-drop, sets}
-use Rattle.refusals.specs.Tests.{rank, roomTest}
+use Rattle.refusals.specs.Tests.{rank, countOfKind, roomTest}
 use Rattle.refusals.proofs.OrderLaws.{stop, skip, last}
 use Rattle.plan.specs.File.{memberRefusal, membersRefusal}
-use Rattle.plan.specs.Calls.{stepOf, stepNumber}
+use Rattle.plan.specs.Calls.{elementOf, stepOf, stepNumber}
 use Rattle.plan.specs.declared.Element.{Element}
 use Rattle.plan.specs.declared.Step.{Step}
 use Rattle.plan.specs.declared.Step.the-variants.{Refused, Member}
 use Rattle.plan.proofs.FileLaws.{suc-sub-one}
 use Rattle.plan.proofs.FileLawsSteps.{step-number}
-use Rattle.plan.proofs.FileLawsAccepted.{step-accepted, step-never}
-use Rattle.reader.specs.Steps.{positionAfter, unlessRefused, ranksGiven, membersNumber, ranksRead}
+use Rattle.plan.proofs.FileLawsAccepted.{member-accepted, step-accepted, step-never}
+use Rattle.reader.specs.Steps.{positionAfter, rankIn, unlessRefused, ranksGiven, membersNumber, ranksRead}
 
 -- ---- a step
 
@@ -35,6 +35,26 @@ refused-some nodes links least at number s e z =
 -- the position after a step whose answer is known
 pub position-is : (at : ℕ) {step answer : Step} → step ≡ answer → positionAfter step at ≡ positionAfter answer at
 position-is at e = ap (λ (t : Step). positionAfter t at) e
+
+-- the rank of a member that is given is that of its bytes
+pub rank-given : (nodes links least at : ℕ) (s : List ℕ) → memberRefusal nodes links least (drop at s) ≡ 0
+    → rankIn (stepOf nodes links least (drop at s)) ≡ rank (getD s at 0) (getD s (at + 1) 0)
+rank-given nodes links least at s e =
+    ap rankIn (step-accepted nodes links least at s e) ∙ go (getD s at 0) (getD s (at + 1) 0) (member-accepted nodes links least at s e .0)
+  where
+    go : (kind number : ℕ) → number < countOfKind nodes links kind → rankIn (Member (elementOf kind number)) ≡ rank kind number
+    go zero number h = refl
+    go (suc zero) number h = refl
+    go (suc (suc kind)) number h = absurd (not-suc-le-zero h)
+
+pub rank-below : (nodes links least at : ℕ) (s : List ℕ) → memberRefusal nodes links least (drop at s) ≡ 0 → getD s (at + 1) 0 < 256
+    → rank (getD s at 0) (getD s (at + 1) 0) < 512
+rank-below nodes links least at s e low = go (getD s at 0) (member-accepted nodes links least at s e .0)
+  where
+    go : (kind : ℕ) → getD s (at + 1) 0 < countOfKind nodes links kind → rank kind (getD s (at + 1) 0) < 512
+    go zero h = omega (arith, low)
+    go (suc zero) h = omega (arith, low)
+    go (suc (suc kind)) h = absurd (not-suc-le-zero h)
 
 -- ---- what is laid down where a number refuses, and where it does not
 

@@ -6,6 +6,7 @@ use lib.ListN.{getD, drop}
 use Rattle.mass.specs.Refusal.{first}
 use Rattle.refusals.specs.Tests.{rank, roomTest}
 use Rattle.plan.specs.File.{memberRefusal, membersRefusal}
+use Rattle.plan.specs.declared.Element.the-variants.{Node, Link}
 use Rattle.plan.specs.declared.Step.{Step}
 use Rattle.plan.specs.declared.Step.the-variants.{Refused, Member}
 
@@ -13,6 +14,12 @@ use Rattle.plan.specs.declared.Step.the-variants.{Refused, Member}
 abbrev pub positionAfter : Step → ℕ → ℕ
 positionAfter (Refused number) at = at
 positionAfter (Member element) at = at + 2
+
+-- the rank of the member that a step gives, 0 where it is refused
+abbrev pub rankIn : Step → ℕ
+rankIn (Refused number) = 0
+rankIn (Member (Node number)) = rank 0 number
+rankIn (Member (Link number)) = rank 1 number
 
 -- a list where the number is 0, and nothing where it refuses
 abbrev pub unlessRefused : ℕ → List ℕ → List ℕ

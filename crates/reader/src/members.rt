@@ -1,13 +1,28 @@
 // The members of an event, read by steps of the reader. No function here has a reader in it, so none is a walk by hand.
 use crate::MembersRead;
 use crate::read_member;
+use plan::Element;
 use plan::Step;
 ghost use mathlib.Core.Path.{_≡_};
-ghost use Prim.Native.Nat.{_+_, _*_, _≤_};
+ghost use Prim.Native.Nat.{_+_, _*_, _≤_, _<_};
 ghost use lib.ListN.{length, drop};
 ghost use lib.Seq.{sets};
 ghost use Rattle.plan.specs.File.{membersRefusal};
-ghost use Rattle.reader.specs.Steps.{ranksGiven, membersNumber, ranksRead};
+ghost use Rattle.reader.specs.Steps.{rankIn, ranksGiven, membersNumber, ranksRead};
+
+// The rank of the member that a step gives, 0 where it is refused.
+fn rank_in(step: Step) -> u64
+    requires { ⌜ rankIn step < 512 ⌝ }
+    ensures { λ r. ⌜ r ≡ rankIn step ⌝ }
+{
+    match step {
+        Step::Refused(_) => 0,
+        Step::Member(element) => match element {
+            Element::Node(number) => number,
+            Element::Link(number) => 256 + number,
+        },
+    }
+}
 
 // Reads `count` members by steps from a position on, and lays down the rank of each that is given, up to the first that is refused.
 fn read_each(
@@ -35,7 +50,7 @@ fn read_each(
         if let Step::Refused(number) = step {
             return MembersRead { number, at };
         }
-        let rank = plan::rank_at(s, at);
+        let rank = rank_in(step);
         out[done] = rank;
         least = rank + 1;
         at = read.at;

@@ -41,7 +41,7 @@ pub fn bytes_end() {
     same_words(b"the rank before the end", &out, &[1, WORD]);
 }
 
-// 12 where two ranks have room for one, before the members are looked at; nothing is laid down and the reader stays.
+// 12 where the list has room for one rank of two, before a member is looked at. Nothing is laid down, and the reader stays.
 pub fn short_list() {
     let mut out = [WORD; 1];
     let got = reader::read_members(b"\x00\x01\x00\x02", 0, 2, 3, 3, &mut out);

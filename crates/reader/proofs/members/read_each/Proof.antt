@@ -1,18 +1,18 @@
 -- `reader::members::read_each` meets its contract. The loop's invariant: the members from `at` on are refused as all of them are; with the ranks that
 -- they give laid down from `done` on the list is as with all, and moving past them leads to the position after all; there is room for the ranks that are
 -- left, in a list as long as it was. The measure is how many members are left. Assumes nothing.
-use mathlib.Core.Path.{_≡_, refl, sym, _∙_}
-use Prim.Native.Nat.{ℕ, _+_, _-_, _*_, _≤_}
+use mathlib.Core.Path.{_≡_, refl, sym, _∙_, ap}
+use Prim.Native.Nat.{ℕ, _+_, _-_, _*_, _≤_, _<_}
 use native.Mathlib.Omega.{arith}
 use borrow.Author.Needs.{needs}
-use lib.ListN.{length, drop, length-set}
+use lib.ListN.{length, getD, drop, length-set}
 use lib.Seq.{sets}
+use Rattle.refusals.specs.Tests.{rank}
 use Rattle.plan.specs.File.{memberRefusal, membersRefusal}
 use Rattle.refusals.proofs.OrderLaws.{stop, skip, last}
 use Rattle.plan.proofs.FileLawsSteps.{members-step, members-none}
-use Rattle.plan.proofs.FileLawsAccepted.{member-fits}
-use Rattle.reader.specs.Steps.{ranksGiven}
-use Rattle.reader.proofs.StepLaws.{number-of, refused-some, position-is, ranks-more, ranks-stop, ranks-none, laid-more, moved-more, laid-none, moved-none}
+use Rattle.reader.specs.Steps.{rankIn, ranksGiven}
+use Rattle.reader.proofs.StepLaws.{number-of, refused-some, position-is, rank-given, rank-below, ranks-more, ranks-stop, ranks-none, laid-more, moved-more, laid-none, moved-none}
 use Rattle.reader.proofs.members.read_each.Statement.{statement}
 use Rattle.reader.proofs.members.read_each.Tie as tie
 
@@ -57,7 +57,7 @@ returns c =
 enum-told : tie.Need-enum-told Inv-loop μ-loop
 enum-told c = search needs
 
--- the step gives a member: it passes its tests, and its bytes are there
+-- the step gives a member: it passes its tests, and its rank is that of its bytes, below 512
 accepted :
     (c : tie.After-enum-told Inv-loop μ-loop)
     → memberRefusal
@@ -68,8 +68,23 @@ accepted :
     ≡ 0
 accepted c = number-of _ _ _ _ (sym (c .before .before .read-member .ensures .0) ∙ c .enum-told .given .1)
 
-rank-at-requires : tie.Need-rank-at-requires Inv-loop μ-loop
-rank-at-requires c κs = member-fits _ _ _ (c .before .before .before .before .loop .at) _ (accepted c)
+rank-is :
+    (c : tie.After-enum-told Inv-loop μ-loop)
+    → rankIn (c .before .before .read-member .result .step)
+    ≡ rank
+    (getD (c .before .before .before .before .before .before .before .args .s .now) (c .before .before .before .before .loop .at) 0)
+    (getD (c .before .before .before .before .before .before .before .args .s .now) (c .before .before .before .before .loop .at + 1) 0)
+rank-is c = ap rankIn (c .before .before .read-member .ensures .0) ∙ rank-given _ _ _ (c .before .before .before .before .loop .at) _ (accepted c)
+
+below : (c : tie.After-enum-told Inv-loop μ-loop) → rankIn (c .before .before .read-member .result .step) < 512
+below c =
+    let l = c .before .before .before .before in
+    let a = l .before .before .before .args in
+    let byte = l .before .before .shared-slice-known .given (l .loop .at + 1) in
+    rw (rank-is c) (rank-below (a .nodes) (a .links) (l .loop .least) (l .loop .at) (a .s .now) (accepted c) (omega (arith, byte)))
+
+rank-in-requires : tie.Need-rank-in-requires Inv-loop μ-loop
+rank-in-requires c κs = below c
 
 mul-out : tie.Need-mul-out Inv-loop μ-loop
 mul-out c = omega arith
@@ -78,7 +93,7 @@ slice-write-out : tie.Need-slice-write-out Inv-loop μ-loop
 slice-write-out c = omega arith
 
 add-least : tie.Need-add-least Inv-loop μ-loop
-add-least c = omega (arith, c .rank-at .ensures .1)
+add-least c = omega (arith, c .rank-in .ensures, below (c .before))
 
 add-done : tie.Need-add-done Inv-loop μ-loop
 add-done c = omega arith
@@ -97,7 +112,7 @@ loop-again c =
     let m = c .before .before .before .read-member in
     let z = accepted (c .before) in
     let more = ranks-more (a .nodes) (a .links) (l .least) (l .left) (l .at) (a .s .now) (d .loop-test .taken) z in
-    rw (m .ensures .1 ∙ position-is (l .at) (sym (m .ensures .0) ∙ c .before .enum-told .given .1), c .rank-at .ensures .0) (
+    rw (m .ensures .1 ∙ position-is (l .at) (sym (m .ensures .0) ∙ c .before .enum-told .given .1), c .rank-in .ensures ∙ rank-is (c .before)) (
       skip _ refl z (last refl)
           ∙ sym (members-step (a .nodes) (a .links) (l .least) (l .left) (l .at) (a .s .now) (d .loop-test .taken))
           ∙ l .inv .0,
@@ -129,7 +144,7 @@ read-each-spec =
     same-length
     returns
     enum-told
-    rank-at-requires
+    rank-in-requires
     mul-out
     slice-write-out
     add-least
