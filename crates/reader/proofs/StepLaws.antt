@@ -9,17 +9,15 @@ use native.Mathlib.Numerals.{add-one}
 use native.Mathlib.Omega.{arith}
 use lib.ListN.{length, getD, drop, set}
 use lib.Seq.{drop-drop, getD-drop, sets}
-use Rattle.refusals.specs.Tests.{rank, countOfKind, roomTest}
-use Rattle.refusals.proofs.OrderLaws.{stop, skip, last}
-use Rattle.plan.specs.File.{memberRefusal, membersRefusal}
-use Rattle.plan.specs.Calls.{elementOf, stepOf, stepNumber}
-use Rattle.plan.specs.declared.Element.{Element}
+use Rattle.refusals.specs.Tests.{rank, countOfKind}
+use Rattle.plan.specs.File.{memberRefusal}
+use Rattle.plan.specs.Calls.{stepOf, stepNumber}
 use Rattle.plan.specs.declared.Step.{Step}
-use Rattle.plan.specs.declared.Step.the-variants.{Refused, Member}
+use Rattle.plan.specs.declared.Step.the-variants.{Refused}
 use Rattle.plan.proofs.FileLaws.{suc-sub-one}
 use Rattle.plan.proofs.FileLawsSteps.{step-number}
 use Rattle.plan.proofs.FileLawsAccepted.{member-accepted, step-accepted, step-never}
-use Rattle.reader.specs.Steps.{positionAfter, rankIn, unlessRefused, ranksGiven, membersNumber, ranksRead}
+use Rattle.reader.specs.Steps.{positionAfter, unlessRefused, ranksGiven}
 
 -- ---- a step
 
@@ -36,34 +34,16 @@ refused-some nodes links least at number s e z =
 pub position-is : (at : ℕ) {step answer : Step} → step ≡ answer → positionAfter step at ≡ positionAfter answer at
 position-is at e = ap (λ (t : Step). positionAfter t at) e
 
--- the rank of a member that is given is that of its bytes
-pub rank-given : (nodes links least at : ℕ) (s : List ℕ) → memberRefusal nodes links least (drop at s) ≡ 0
-    → rankIn (stepOf nodes links least (drop at s)) ≡ rank (getD s at 0) (getD s (at + 1) 0)
-rank-given nodes links least at s e =
-    ap rankIn (step-accepted nodes links least at s e) ∙ go (getD s at 0) (getD s (at + 1) 0) (member-accepted nodes links least at s e .0)
-  where
-    go : (kind number : ℕ) → number < countOfKind nodes links kind → rankIn (Member (elementOf kind number)) ≡ rank kind number
-    go zero number h = refl
-    go (suc zero) number h = refl
-    go (suc (suc kind)) number h = absurd (not-suc-le-zero h)
-
-pub rank-below : (nodes links least at : ℕ) (s : List ℕ) → memberRefusal nodes links least (drop at s) ≡ 0 → getD s (at + 1) 0 < 256
-    → rank (getD s at 0) (getD s (at + 1) 0) < 512
-rank-below nodes links least at s e low = go (getD s at 0) (member-accepted nodes links least at s e .0)
+-- the rank of a member that is given: no less than what is asked, and below 512
+pub rank-bounds : (nodes links least at : ℕ) (s : List ℕ) → memberRefusal nodes links least (drop at s) ≡ 0 → getD s (at + 1) 0 < 256
+    → (least ≤ rank (getD s at 0) (getD s (at + 1) 0)) × (rank (getD s at 0) (getD s (at + 1) 0) < 512)
+rank-bounds nodes links least at s e low =
+    let m = member-accepted nodes links least at s e in (m .1, go (getD s at 0) (m .0))
   where
     go : (kind : ℕ) → getD s (at + 1) 0 < countOfKind nodes links kind → rank kind (getD s (at + 1) 0) < 512
     go zero h = omega (arith, low)
     go (suc zero) h = omega (arith, low)
     go (suc (suc kind)) h = absurd (not-suc-le-zero h)
-
--- ---- what is laid down where a number refuses, and where it does not
-
-pub unless-stop : (number : ℕ) (list : List ℕ) → (number ≡ 0 → ⊥) → unlessRefused number list ≡ []
-unless-stop zero list h = absurd (h refl)
-unless-stop (suc number) list h = refl
-
-pub unless-go : (number : ℕ) (list : List ℕ) → number ≡ 0 → list ≡ unlessRefused number list
-unless-go number list e = rw e
 
 -- ---- one turn of the loop
 
@@ -78,7 +58,11 @@ ranks-more nodes links least (suc left) at s h e = rw (e, getD-drop at s 0 0, ge
 pub ranks-stop : (nodes links least left : ℕ) (b : List ℕ) → (memberRefusal nodes links least b ≡ 0 → ⊥) → ranksGiven nodes links least left b ≡ []
 unfolding ranksGiven
 ranks-stop nodes links least zero b n = refl
-ranks-stop nodes links least (suc left) b n = unless-stop (memberRefusal nodes links least b) _ n
+ranks-stop nodes links least (suc left) b n = go (memberRefusal nodes links least b) _ n
+  where
+    go : (number : ℕ) (list : List ℕ) → (number ≡ 0 → ⊥) → unlessRefused number list ≡ []
+    go zero list h = absurd (h refl)
+    go (suc number) list h = refl
 
 pub ranks-none : (nodes links least left : ℕ) (b : List ℕ) → left ≤ 0 → ranksGiven nodes links least left b ≡ []
 unfolding ranksGiven
@@ -98,15 +82,3 @@ laid-none list ranks done e = rw e
 
 pub moved-none : (at : ℕ) (ranks : List ℕ) → ranks ≡ [] → at ≡ at + 2 * length ranks
 moved-none at ranks e = rw e (omega arith)
-
--- ---- the room is tested first
-
-module _ (room nodes links count : ℕ) (b : List ℕ) {r : ℕ} (e : r ≡ roomTest room count) where
-  pub no-room : (r ≡ 0 → ⊥) → (r ≡ membersNumber room nodes links count b) × (ranksRead room nodes links count b ≡ [])
-  unfolding membersNumber
-  no-room h = (stop _ e h, unless-stop (roomTest room count) _ (λ z. h (e ∙ z)))
-
-  pub room-for : {x : ℕ} → r ≡ 0 → x ≡ membersRefusal nodes links 0 count b
-      → (x ≡ membersNumber room nodes links count b) × (ranksGiven nodes links 0 count b ≡ ranksRead room nodes links count b)
-  unfolding membersNumber
-  room-for z h = (skip _ e z (last h), unless-go (roomTest room count) _ (sym e ∙ z))

@@ -3,10 +3,8 @@
 use mathlib.Core.List.{List, [], _∷_}
 use Prim.Native.Nat.{ℕ, zero, suc, _+_}
 use lib.ListN.{getD, drop}
-use Rattle.mass.specs.Refusal.{first}
-use Rattle.refusals.specs.Tests.{rank, roomTest}
-use Rattle.plan.specs.File.{memberRefusal, membersRefusal}
-use Rattle.plan.specs.declared.Element.the-variants.{Node, Link}
+use Rattle.refusals.specs.Tests.{rank}
+use Rattle.plan.specs.File.{memberRefusal}
 use Rattle.plan.specs.declared.Step.{Step}
 use Rattle.plan.specs.declared.Step.the-variants.{Refused, Member}
 
@@ -14,12 +12,6 @@ use Rattle.plan.specs.declared.Step.the-variants.{Refused, Member}
 abbrev pub positionAfter : Step → ℕ → ℕ
 positionAfter (Refused number) at = at
 positionAfter (Member element) at = at + 2
-
--- the rank of the member that a step gives, 0 where it is refused
-abbrev pub rankIn : Step → ℕ
-rankIn (Refused number) = 0
-rankIn (Member (Node number)) = rank 0 number
-rankIn (Member (Link number)) = rank 1 number
 
 -- a list where the number is 0, and nothing where it refuses
 abbrev pub unlessRefused : ℕ → List ℕ → List ℕ
@@ -32,11 +24,3 @@ ranksGiven nodes links least zero b = []
 ranksGiven nodes links least (suc count) b =
     unlessRefused (memberRefusal nodes links least b)
     (rank (getD b 0 0) (getD b 1 0) ∷ ranksGiven nodes links (rank (getD b 0 0) (getD b 1 0) + 1) count (drop 2 b))
-
--- reading the members of an event into a lent list with room for `room` ranks: 12, then each member
-unfoldable pub membersNumber : ℕ → ℕ → ℕ → ℕ → List ℕ → ℕ
-membersNumber room nodes links count b = first (roomTest room count ∷ membersRefusal nodes links 0 count b ∷ [])
-
--- and the ranks that are laid down: none where there is no room
-abbrev pub ranksRead : ℕ → ℕ → ℕ → ℕ → List ℕ → List ℕ
-ranksRead room nodes links count b = unlessRefused (roomTest room count) (ranksGiven nodes links 0 count b)

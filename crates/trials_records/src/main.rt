@@ -18,7 +18,6 @@ fn main() {
     members::seven();
     members::up_to_a_refusal();
     members::bytes_end();
-    members::short_list();
     members::no_member();
     io::write_all(1, b"trials ended\n");
 }

@@ -1,6 +1,6 @@
 -- `reader::steps::step_at` meets its contract: the position moves exactly where the step gives a member, whose two bytes are then there.
 -- Assumes nothing.
-use mathlib.Core.Path.{_≡_, sym, _∙_}
+use mathlib.Core.Path.{sym, _∙_}
 use native.Mathlib.Omega.{arith}
 use borrow.Author.Needs.{needs}
 use Rattle.plan.proofs.FileLawsAccepted.{member-fits}
