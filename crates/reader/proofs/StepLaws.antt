@@ -22,7 +22,8 @@ use Rattle.reader.specs.Steps.{positionAfter, unlessRefused, ranksGiven}
 -- ---- a step
 
 -- the number of the member's tests is that of the answer
-pub number-of : (nodes links least : ℕ) (b : List ℕ) {answer : Step} → stepOf nodes links least b ≡ answer → memberRefusal nodes links least b ≡ stepNumber answer
+pub number-of : (nodes links least : ℕ) (b : List ℕ) {answer : Step} → stepOf nodes links least b ≡ answer
+    → memberRefusal nodes links least b ≡ stepNumber answer
 number-of nodes links least b e = sym (step-number nodes links least b) ∙ ap stepNumber e
 
 -- a refusal has a number

@@ -12,7 +12,8 @@ use Rattle.refusals.proofs.OrderLaws.{stop, skip, last}
 use Rattle.plan.proofs.FileLawsSteps.{members-step, members-none}
 use Rattle.plan.proofs.FileLawsAccepted.{member-fits}
 use Rattle.reader.specs.Steps.{ranksGiven}
-use Rattle.reader.proofs.StepLaws.{number-of, refused-some, position-is, rank-bounds, ranks-more, ranks-stop, ranks-none, laid-more, moved-more, laid-none, moved-none}
+use Rattle.reader.proofs.StepLaws.{number-of, refused-some, position-is, rank-bounds, ranks-more, ranks-stop, ranks-none}
+use Rattle.reader.proofs.StepLaws.{laid-more, moved-more, laid-none, moved-none}
 use Rattle.reader.proofs.members.read_members.Statement.{statement}
 use Rattle.reader.proofs.members.read_members.Tie as tie
 
