@@ -1,2 +1,3 @@
 -- What the contracts of the crate `reader` cite, beside the definitions of the crates `plan` and `records`.
 pub mod Filled
+pub mod Steps
