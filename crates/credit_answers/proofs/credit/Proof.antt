@@ -4,15 +4,6 @@ use borrow.Author.Needs.{needs}
 use Rattle.credit_answers.proofs.credit.Statement.{statement}
 use Rattle.credit_answers.proofs.credit.Tie as tie
 
-credit-requires : tie.Need-credit-requires
-credit-requires c κs = search needs
-
-give-credits-requires : tie.Need-give-credits-requires
-give-credits-requires c κs = search needs
-
-same-length : tie.Need-same-length
-same-length c = search needs
-
 returns : tie.Need-returns
 returns c =
     let f = c .before .before .give-credits .ensures in
@@ -20,4 +11,10 @@ returns c =
     (rw (e, credit-back) at (f .0), rw e at (f .1))
 
 pub credit-spec : {M : Type 1} → statement M
-credit-spec = tie.close (tie.spec credit-requires give-credits-requires same-length returns)
+credit-spec =
+    tie.close
+    (tie.spec
+    (λ c κs. search needs)  -- credit-requires
+    (λ c κs. search needs)  -- give-credits-requires
+    (λ c. search needs)  -- same-length
+    returns)

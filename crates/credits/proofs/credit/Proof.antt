@@ -6,15 +6,6 @@ use Rattle.credits.proofs.CreditPromise.{pair-refused, given-told}
 use Rattle.credits.proofs.credit.Statement.{statement}
 use Rattle.credits.proofs.credit.Tie as tie
 
-pair-requires : tie.Need-pair-requires
-pair-requires c κs = search needs
-
-enum-known-answer : tie.Need-enum-known-answer
-enum-known-answer c = search needs
-
-enum-known-answer-2 : tie.Need-enum-known-answer-2
-enum-known-answer-2 c = search needs
-
 credit-of-requires : tie.Need-credit-of-requires
 credit-of-requires c κs =
     let k = c .before in
@@ -42,9 +33,9 @@ pub credit-spec : {M : Type 1} → statement M
 credit-spec =
     tie.close
     (tie.spec
-    pair-requires
-    enum-known-answer
-    enum-known-answer-2
+    (λ c κs. search needs)  -- pair-requires
+    (λ c. search needs)  -- enum-known-answer
+    (λ c. search needs)  -- enum-known-answer-2
     credit-of-requires
     returns
     returns-2)

@@ -8,12 +8,6 @@ use Rattle.credits.proofs.credit_for.Tie as tie
 returns : tie.Need-returns
 returns c = none-due _ _ _ _ (c .if1 .taken)
 
-sub-due : tie.Need-sub-due
-sub-due c = search needs
-
-add-due : tie.Need-add-due
-add-due c = search needs
-
 -- the product fits: a rate is at most 10^12 and a year has 525,600 minutes, and 10^12 × 525,600 < 2^64
 mul-due : tie.Need-mul-due
 mul-due c = let e = c .before in record { fits = due-fits _ _ (e .pre .0) (omega (arith, e .pre .1)) }
@@ -25,4 +19,12 @@ returns-3 : tie.Need-returns-3
 returns-3 c = rate-due _ _ _ _ _ (c .if2 .left) (omega arith)
 
 pub credit-for-spec : {M : Type 1} → statement M
-credit-for-spec = tie.close (tie.spec returns sub-due add-due mul-due returns-2 returns-3)
+credit-for-spec =
+    tie.close
+    (tie.spec
+    returns
+    (λ c. search needs)  -- sub-due
+    (λ c. search needs)  -- add-due
+    mul-due
+    returns-2
+    returns-3)

@@ -8,14 +8,8 @@ use Rattle.credits.proofs.CreditPromise.{terms-none, refused-is, second
 use Rattle.credits.proofs.credit_of.Statement.{statement}
 use Rattle.credits.proofs.credit_of.Tie as tie
 
-terms-test-requires : tie.Need-terms-test-requires
-terms-test-requires c κs = search needs
-
 returns : tie.Need-returns
 returns c = refused-is _ _ _ (c .before .terms-test .ensures) (c .if1 .taken)
-
-seconds-of-requires : tie.Need-seconds-of-requires
-seconds-of-requires c κs = search needs
 
 headroom-of-requires : tie.Need-headroom-of-requires
 headroom-of-requires c κs =
@@ -50,9 +44,9 @@ pub credit-of-spec : {M : Type 1} → statement M
 credit-of-spec =
     tie.close
     (tie.spec
-    terms-test-requires
+    (λ c κs. search needs)  -- terms-test-requires
     returns
-    seconds-of-requires
+    (λ c κs. search needs)  -- seconds-of-requires
     headroom-of-requires
     credit-for-requires
     credit-for-requires-2

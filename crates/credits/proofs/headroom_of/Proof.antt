@@ -4,17 +4,8 @@ use Rattle.credits.proofs.Headroom.{left-is, past-fits, past-result}
 use Rattle.credits.proofs.headroom_of.Statement.{statement}
 use Rattle.credits.proofs.headroom_of.Tie as tie
 
-cast-result : tie.Need-cast-result
-cast-result c = search needs
-
 returns : tie.Need-returns
 returns c = let e = c .before in left-is (e .args .limit) (e .args .seconds) (e .pre .0) (e .pre .1) (c .if1 .taken)
-
-sub-result : tie.Need-sub-result
-sub-result c = search needs
-
-cast-result-2 : tie.Need-cast-result-2
-cast-result-2 c = search needs
 
 sub-result-2 : tie.Need-sub-result-2
 sub-result-2 c = let e = c .before in past-fits (e .args .limit) (e .args .seconds) (e .pre .0) (e .pre .1) (c .if1 .left)
@@ -24,4 +15,11 @@ returns-2 c = let e = c .before in past-result (e .args .limit) (e .args .second
 
 pub headroom-of-spec : {M : Type 1} → statement M
 headroom-of-spec =
-    tie.close (tie.spec cast-result returns sub-result cast-result-2 sub-result-2 returns-2)
+    tie.close
+    (tie.spec
+    (λ c. search needs)  -- cast-result
+    returns
+    (λ c. search needs)  -- sub-result
+    (λ c. search needs)  -- cast-result-2
+    sub-result-2
+    returns-2)

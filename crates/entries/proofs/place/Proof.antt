@@ -5,26 +5,17 @@ use Rattle.entries.proofs.PlaceLaws.{mass-fits, placed-known, placed-fu
 use Rattle.entries.proofs.place.Statement.{statement}
 use Rattle.entries.proofs.place.Tie as tie
 
-find-requires : tie.Need-find-requires
-find-requires c κs = search needs
-
 raise-requires : tie.Need-raise-requires
 raise-requires c κs =
     let found = c .before .before .find .ensures in
     let pre = c .before .before .before .before .before .pre in
     (omega (arith, pre .room), mass-fits _ _ _ _ _ pre found (c .before .if1 .taken))
 
-same-length : tie.Need-same-length
-same-length c = search needs
-
 returns : tie.Need-returns
 returns c =
     let start = c .before .before .before .before .before .before .before .before in
     let found = c .before .before .before .before .before .find .ensures in
     rw (c .before .before .raise .ensures) (placed-known _ _ _ _ _ (start .pre) found (c .before .before .before .before .if1 .taken))
-
-same-length-2 : tie.Need-same-length-2
-same-length-2 c = search needs
 
 returns-2 : tie.Need-returns-2
 returns-2 c =
@@ -33,12 +24,6 @@ returns-2 c =
 
 put-requires : tie.Need-put-requires
 put-requires c κs = omega arith
-
-add-t12 : tie.Need-add-t12
-add-t12 c = search needs
-
-same-length-3 : tie.Need-same-length-3
-same-length-3 c = search needs
 
 returns-3 : tie.Need-returns-3
 returns-3 c =
@@ -51,13 +36,13 @@ pub place-spec : {M : Type 1} → statement M
 place-spec =
     tie.close
     (tie.spec
-    find-requires
+    (λ c κs. search needs)  -- find-requires
     raise-requires
-    same-length
+    (λ c. search needs)  -- same-length
     returns
-    same-length-2
+    (λ c. search needs)  -- same-length-2
     returns-2
     put-requires
-    add-t12
-    same-length-3
+    (λ c. search needs)  -- add-t12
+    (λ c. search needs)  -- same-length-3
     returns-3)

@@ -5,15 +5,6 @@ use borrow.Author.Needs.{needs}
 use Rattle.further_answers.proofs.downtime.Statement.{statement}
 use Rattle.further_answers.proofs.downtime.Tie as tie
 
-downtime-requires : tie.Need-downtime-requires
-downtime-requires c κs = search needs
-
-give-seconds-requires : tie.Need-give-seconds-requires
-give-seconds-requires c κs = search needs
-
-same-length : tie.Need-same-length
-same-length c = search needs
-
 returns : tie.Need-returns
 returns c =
     let f = c .before .before .give-seconds .ensures in
@@ -23,4 +14,9 @@ returns c =
 
 pub downtime-spec : {M : Type 1} → statement M
 downtime-spec =
-    tie.close (tie.spec downtime-requires give-seconds-requires same-length returns)
+    tie.close
+    (tie.spec
+    (λ c κs. search needs)  -- downtime-requires
+    (λ c κs. search needs)  -- give-seconds-requires
+    (λ c. search needs)  -- same-length
+    returns)

@@ -8,9 +8,6 @@ use Rattle.input.proofs.LoadedLaws.{bytes-each, same-refusal, left-same
 use Rattle.input.proofs.read_input.Statement.{statement}
 use Rattle.input.proofs.read_input.Tie as tie
 
-read-core-requires : tie.Need-read-core-requires
-read-core-requires c κs = search needs
-
 returns : tie.Need-returns
 returns c =
     let a = c .before .before .before .before .args in
@@ -27,4 +24,8 @@ returns c =
     )
 
 pub read-input-spec : {M : Type 1} → statement M
-read-input-spec = tie.close (tie.spec read-core-requires returns)
+read-input-spec =
+    tie.close
+    (tie.spec
+    (λ c κs. search needs)  -- read-core-requires
+    returns)

@@ -14,24 +14,6 @@ use Rattle.files.proofs.put_event.Reads as put-event-reads
 use Rattle.insertion.proofs.make_room.Reads as make-room-reads
 use Rattle.insertion.proofs.place_of.Reads as place-of-reads
 
-place-of-requires : tie.Need-place-of-requires
-place-of-requires c κs = search needs
-
-mul-make-room : tie.Need-mul-make-room
-mul-make-room c = search needs
-
-mul-make-room-2 : tie.Need-mul-make-room-2
-mul-make-room-2 c = search needs
-
-make-room-requires : tie.Need-make-room-requires
-make-room-requires c κs = search needs
-
-mul-put-event : tie.Need-mul-put-event
-mul-put-event c = search needs
-
-put-event-requires : tie.Need-put-event-requires
-put-event-requires c κs = search needs
-
 returns : tie.Need-returns
 returns c =
     let a = c .before .before .before .before .before .before .before .args in
@@ -48,10 +30,10 @@ pub insert-spec : {M : Type 1} → statement M
 insert-spec =
     tie.close
     (tie.spec
-    place-of-requires
-    mul-make-room
-    mul-make-room-2
-    make-room-requires
-    mul-put-event
-    put-event-requires
+    (λ c κs. search needs)  -- place-of-requires
+    (λ c. search needs)  -- mul-make-room
+    (λ c. search needs)  -- mul-make-room-2
+    (λ c κs. search needs)  -- make-room-requires
+    (λ c. search needs)  -- mul-put-event
+    (λ c κs. search needs)  -- put-event-requires
     returns)

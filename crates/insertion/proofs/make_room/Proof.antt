@@ -20,24 +20,6 @@ abbrev μ-loop : tie.MeasureT-loop
 loop-holds : tie.Need-loop-holds Inv-loop μ-loop
 loop-holds c = (c .pre .0, omega arith, room-start (c .args .words .now) (c .args .to))
 
-sub-i : tie.Need-sub-i Inv-loop μ-loop
-sub-i c = search needs
-
-mul-words : tie.Need-mul-words Inv-loop μ-loop
-mul-words c = search needs
-
-element-copy-out-words : tie.Need-element-copy-out-words Inv-loop μ-loop
-element-copy-out-words c = search needs
-
-add-words : tie.Need-add-words Inv-loop μ-loop
-add-words c = search needs
-
-mul-words-2 : tie.Need-mul-words-2 Inv-loop μ-loop
-mul-words-2 c = search needs
-
-element-write-words : tie.Need-element-write-words Inv-loop μ-loop
-element-write-words c = search needs
-
 loop-less : tie.Need-loop-less Inv-loop μ-loop
 loop-less c = omega arith
 
@@ -63,12 +45,12 @@ make-room-spec =
     Inv-loop
     μ-loop
     loop-holds
-    sub-i
-    mul-words
-    element-copy-out-words
-    add-words
-    mul-words-2
-    element-write-words
+    (λ c. search needs)  -- sub-i
+    (λ c. search needs)  -- mul-words
+    (λ c. search needs)  -- element-copy-out-words
+    (λ c. search needs)  -- add-words
+    (λ c. search needs)  -- mul-words-2
+    (λ c. search needs)  -- element-write-words
     loop-less
     loop-again
     returns)

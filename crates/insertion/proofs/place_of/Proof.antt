@@ -22,15 +22,6 @@ abbrev μ-loop : tie.MeasureT-loop
 loop-holds : tie.Need-loop-holds Inv-loop μ-loop
 loop-holds c = (omega arith, place-start _ _ _)
 
-mul-if1 : tie.Need-mul-if1 Inv-loop μ-loop
-mul-if1 c = search needs
-
-mul-if1-2 : tie.Need-mul-if1-2 Inv-loop μ-loop
-mul-if1-2 c = search needs
-
-shared-slice-read-if1 : tie.Need-shared-slice-read-if1 Inv-loop μ-loop
-shared-slice-read-if1 c = search needs
-
 returns : tie.Need-returns Inv-loop μ-loop
 returns c =
     let l = c .before .before .before in
@@ -38,9 +29,6 @@ returns c =
       place-here (a .words .now) (a .q) (a .count) (l .loop .i) (c .before .before .loop-test .taken) (c .if1 .taken) ∙ l .loop .inv .1,
       l .loop .inv .0,
     )
-
-add-i : tie.Need-add-i Inv-loop μ-loop
-add-i c = search needs
 
 loop-less : tie.Need-loop-less Inv-loop μ-loop
 loop-less c = omega arith
@@ -66,11 +54,11 @@ place-of-spec =
     Inv-loop
     μ-loop
     loop-holds
-    mul-if1
-    mul-if1-2
-    shared-slice-read-if1
+    (λ c. search needs)  -- mul-if1
+    (λ c. search needs)  -- mul-if1-2
+    (λ c. search needs)  -- shared-slice-read-if1
     returns
-    add-i
+    (λ c. search needs)  -- add-i
     loop-less
     loop-again
     returns-2)

@@ -5,12 +5,6 @@ use Rattle.lent.proofs.Accepted.{copies-number, taken}
 use Rattle.lent.proofs.accept.Statement.{statement}
 use Rattle.lent.proofs.accept.Tie as tie
 
-load-requires : tie.Need-load-requires
-load-requires c κs = search needs
-
-lists-refusal-requires : tie.Need-lists-refusal-requires
-lists-refusal-requires c κs = search needs
-
 returns : tie.Need-returns
 returns c =
     let a = c .before .before .before .before .before .before .before .before .args in
@@ -25,4 +19,9 @@ returns c =
     )
 
 pub accept-spec : {M : Type 1} → statement M
-accept-spec = tie.close (tie.spec load-requires lists-refusal-requires returns)
+accept-spec =
+    tie.close
+    (tie.spec
+    (λ c κs. search needs)  -- load-requires
+    (λ c κs. search needs)  -- lists-refusal-requires
+    returns)

@@ -8,18 +8,6 @@ use lib.Seq.{sets}
 use Rattle.lent.proofs.load.Statement.{statement}
 use Rattle.lent.proofs.load.Tie as tie
 
-smaller-requires : tie.Need-smaller-requires
-smaller-requires c κs = search needs
-
-copy-bytes-requires : tie.Need-copy-bytes-requires
-copy-bytes-requires c κs = search needs
-
-smaller-requires-2 : tie.Need-smaller-requires-2
-smaller-requires-2 c κs = search needs
-
-copy-words-requires : tie.Need-copy-words-requires
-copy-words-requires c κs = search needs
-
 returns : tie.Need-returns
 returns c =
     let a = c .before .before .before .before .before .before .before .before .args in (
@@ -34,4 +22,9 @@ returns c =
 pub load-spec : {M : Type 1} → statement M
 load-spec =
     tie.close
-    (tie.spec smaller-requires copy-bytes-requires smaller-requires-2 copy-words-requires returns)
+    (tie.spec
+    (λ c κs. search needs)  -- smaller-requires
+    (λ c κs. search needs)  -- copy-bytes-requires
+    (λ c κs. search needs)  -- smaller-requires-2
+    (λ c κs. search needs)  -- copy-words-requires
+    returns)

@@ -10,27 +10,6 @@ use borrow.Author.Needs.{needs}
 use Rattle.listing.proofs.main.Statement.{statement}
 use Rattle.listing.proofs.main.Tie as tie
 
-slice-aggregate-read-full : tie.Need-slice-aggregate-read-full
-slice-aggregate-read-full c = search needs
-
-read-full-requires : tie.Need-read-full-requires
-read-full-requires c κs = search needs
-
-array-share-prefix-plan : tie.Need-array-share-prefix-plan
-array-share-prefix-plan c = search needs
-
-slice-aggregate-listing-text : tie.Need-slice-aggregate-listing-text
-slice-aggregate-listing-text c = search needs
-
-slice-aggregate-listing-text-2 : tie.Need-slice-aggregate-listing-text-2
-slice-aggregate-listing-text-2 c = search needs
-
-listing-text-requires : tie.Need-listing-text-requires
-listing-text-requires c κs = search needs
-
-enum-known-size : tie.Need-enum-known-size
-enum-known-size c = search needs
-
 -- the text fits the buffer
 fits : (c : tie.After-known-told) → c .before .size .given .0 .0 ≤ length (c .before .before .before .before .listing-text .last .1 .0)
 fits c =
@@ -43,44 +22,23 @@ array-share-prefix-out c = omega (arith, fits c)
 slice-aggregate-write-all : tie.Need-slice-aggregate-write-all
 slice-aggregate-write-all c = sym (length-take-le _ _ (fits (c .before)))
 
-write-all-requires : tie.Need-write-all-requires
-write-all-requires c κs = search needs
-
-slice-aggregate-write-all-2 : tie.Need-slice-aggregate-write-all-2
-slice-aggregate-write-all-2 c = search needs
-
-write-all-requires-2 : tie.Need-write-all-requires-2
-write-all-requires-2 c κs = search needs
-
-enum-told : tie.Need-enum-told
-enum-told c = search needs
-
-returns : tie.Need-returns
-returns c = search needs
-
-returns-2 : tie.Need-returns-2
-returns-2 c = search needs
-
-returns-3 : tie.Need-returns-3
-returns-3 c = search needs
-
 pub main-spec : {M : Type 1} → statement M
 main-spec =
     tie.close
     (tie.spec
-    slice-aggregate-read-full
-    read-full-requires
-    array-share-prefix-plan
-    slice-aggregate-listing-text
-    slice-aggregate-listing-text-2
-    listing-text-requires
-    enum-known-size
+    (λ c. search needs)  -- slice-aggregate-read-full
+    (λ c κs. search needs)  -- read-full-requires
+    (λ c. search needs)  -- array-share-prefix-plan
+    (λ c. search needs)  -- slice-aggregate-listing-text
+    (λ c. search needs)  -- slice-aggregate-listing-text-2
+    (λ c κs. search needs)  -- listing-text-requires
+    (λ c. search needs)  -- enum-known-size
     array-share-prefix-out
     slice-aggregate-write-all
-    write-all-requires
-    slice-aggregate-write-all-2
-    write-all-requires-2
-    enum-told
-    returns
-    returns-2
-    returns-3)
+    (λ c κs. search needs)  -- write-all-requires
+    (λ c. search needs)  -- slice-aggregate-write-all-2
+    (λ c κs. search needs)  -- write-all-requires-2
+    (λ c. search needs)  -- enum-told
+    (λ c. search needs)  -- returns
+    (λ c. search needs)  -- returns-2
+    (λ c. search needs))  -- returns-3

@@ -6,11 +6,12 @@ use Rattle.lent.proofs.Accepted.{lists-held}
 use Rattle.network_vectors.proofs.held.Statement.{statement}
 use Rattle.network_vectors.proofs.held.Tie as tie
 
-lists-refusal-requires : tie.Need-lists-refusal-requires
-lists-refusal-requires c κs = search needs
-
 returns : tie.Need-returns
 returns c = λ e. lists-held _ _ _ _ _ (sym (c .lists-refusal .ensures) ∙ eqb-true _ _ e) .links-held
 
 pub held-spec : {M : Type 1} → statement M
-held-spec = tie.close (tie.spec lists-refusal-requires returns)
+held-spec =
+    tie.close
+    (tie.spec
+    (λ c κs. search needs)  -- lists-refusal-requires
+    returns)

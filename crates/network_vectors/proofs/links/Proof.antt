@@ -22,12 +22,6 @@ module _ (bytes zeros : List ℕ) where
   without-room : 256 < length bytes → zeros ≡ cond (leb (length bytes) 256) (sets zeros 0 bytes) zeros
   without-room h = sym (ap (λ (t : Bool). cond t (sets zeros 0 bytes) zeros) (lt-leb (length bytes) 256 h))
 
-slice-aggregate-copy-bytes : tie.Need-slice-aggregate-copy-bytes
-slice-aggregate-copy-bytes c = search needs
-
-copy-bytes-requires : tie.Need-copy-bytes-requires
-copy-bytes-requires c κs = search needs
-
 returns : tie.Need-returns
 returns c =
     let b = c .before .before .before in
@@ -38,4 +32,10 @@ returns-2 : tie.Need-returns-2
 returns-2 c = without-room (c .before .before .args .bytes .now) (replicate 256 0) (c .if1 .left)
 
 pub links-spec : {M : Type 1} → statement M
-links-spec = tie.close (tie.spec slice-aggregate-copy-bytes copy-bytes-requires returns returns-2)
+links-spec =
+    tie.close
+    (tie.spec
+    (λ c. search needs)  -- slice-aggregate-copy-bytes
+    (λ c κs. search needs)  -- copy-bytes-requires
+    returns
+    returns-2)

@@ -6,12 +6,6 @@ use Rattle.node_reach.proofs.ReachLaws.{without-events, links-taken}
 use Rattle.node_reach.proofs.accept_links.Statement.{statement}
 use Rattle.node_reach.proofs.accept_links.Tie as tie
 
-slice-aggregate-accept : tie.Need-slice-aggregate-accept
-slice-aggregate-accept c = search needs
-
-accept-requires : tie.Need-accept-requires
-accept-requires c κs = search needs
-
 returns : tie.Need-returns
 returns c =
     let a = c .before .before .before .before .before .args in (
@@ -20,4 +14,9 @@ returns c =
     )
 
 pub accept-links-spec : {M : Type 1} → statement M
-accept-links-spec = tie.close (tie.spec slice-aggregate-accept accept-requires returns)
+accept-links-spec =
+    tie.close
+    (tie.spec
+    (λ c. search needs)  -- slice-aggregate-accept
+    (λ c κs. search needs)  -- accept-requires
+    returns)

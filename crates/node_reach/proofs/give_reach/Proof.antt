@@ -19,15 +19,6 @@ entry c = c .before .before .before .before .before
 taken : (c : tie.Else1) → (let a = entry c .args in LinksTaken (a .nodes) (a .count) (a .links .now) (c .before .accept-links .last .1 .1 .1 .0))
 taken c = c .before .accept-links .ensures .1 (c .if1 .left)
 
-accept-links-requires : tie.Need-accept-links-requires
-accept-links-requires c κs = search needs
-
-give-two-requires : tie.Need-give-two-requires
-give-two-requires c κs = search needs
-
-same-length : tie.Need-same-length
-same-length c = search needs
-
 returns : tie.Need-returns
 returns c =
     let call = c .before .before .before .before .before .accept-links in
@@ -36,15 +27,6 @@ returns c =
       links-refuse (a .nodes) (a .count) (a .links .now) (a .v) (call .result) (call .ensures .0) some,
       c .before .before .give-two .ensures ∙ ap (λ (xs : List ℕ). laid xs (a .result .now)) (refused-values (call .result) _ some),
     )
-
-node-test-requires : tie.Need-node-test-requires
-node-test-requires c κs = search needs
-
-give-two-requires-2 : tie.Need-give-two-requires-2
-give-two-requires-2 c κs = search needs
-
-same-length-2 : tie.Need-same-length-2
-same-length-2 c = search needs
 
 returns-2 : tie.Need-returns-2
 returns-2 c =
@@ -67,12 +49,6 @@ reach-from-requires c κs =
     let inside = node-inside (a .nodes) (a .v) (sym (e .before .node-test .ensures) ∙ e .if2 .left) in
     (held, (c .before .before .links-at .ensures, omega (arith, inside, held .nodes-fit)))
 
-give-two-requires-3 : tie.Need-give-two-requires-3
-give-two-requires-3 c κs = search needs
-
-same-length-3 : tie.Need-same-length-3
-same-length-3 c = search needs
-
 returns-3 : tie.Need-returns-3
 returns-3 c =
     let found = c .before .before .before .before .reach-from in
@@ -89,16 +65,16 @@ pub give-reach-spec : {M : Type 1} → statement M
 give-reach-spec =
     tie.close
     (tie.spec
-    accept-links-requires
-    give-two-requires
-    same-length
+    (λ c κs. search needs)  -- accept-links-requires
+    (λ c κs. search needs)  -- give-two-requires
+    (λ c. search needs)  -- same-length
     returns
-    node-test-requires
-    give-two-requires-2
-    same-length-2
+    (λ c κs. search needs)  -- node-test-requires
+    (λ c κs. search needs)  -- give-two-requires-2
+    (λ c. search needs)  -- same-length-2
     returns-2
     links-at-requires
     reach-from-requires
-    give-two-requires-3
-    same-length-3
+    (λ c κs. search needs)  -- give-two-requires-3
+    (λ c. search needs)  -- same-length-3
     returns-3)

@@ -17,9 +17,6 @@ entry c = c .before .before .before .before
 lists : (c : tie.After-begin) → (let a = entry c .args in c .begin .result .number ≡ listsNumber (a .h) (a .links .now) (a .events .now))
 lists c = ap (λ (r : WalkAnswer). r .number) (c .begin .ensures .0) ∙ answer-number _ _
 
-begin-requires : tie.Need-begin-requires
-begin-requires c κs = search needs
-
 returns : tie.Need-returns
 returns c =
     let a = entry (c .before) .args in
@@ -27,12 +24,6 @@ returns c =
       lists-refuse (a .h) (a .links .now) (a .events .now) (a .state .now) _ (lists (c .before)) some,
       (filled-none _ _ _ some, λ z. absurd (some z)),
     )
-
-pack-requires : tie.Need-pack-requires
-pack-requires c κs = search needs
-
-same-length : tie.Need-same-length
-same-length c = search needs
 
 returns-2 : tie.Need-returns-2
 returns-2 c =
@@ -51,4 +42,11 @@ returns-2 c =
     )
 
 pub begin-spec : {M : Type 1} → statement M
-begin-spec = tie.close (tie.spec begin-requires returns pack-requires same-length returns-2)
+begin-spec =
+    tie.close
+    (tie.spec
+    (λ c κs. search needs)  -- begin-requires
+    returns
+    (λ c κs. search needs)  -- pack-requires
+    (λ c. search needs)  -- same-length
+    returns-2)

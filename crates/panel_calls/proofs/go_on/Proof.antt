@@ -17,47 +17,17 @@ entry c = c .before .before .before .before
 long : (c : tie.Else1) → walkLength ≤ length (entry (c .before) .args .state .now)
 long c = room-none _ _ (sym (c .before .room-test .ensures) ∙ c .if1 .left)
 
-room-test-requires : tie.Need-room-test-requires
-room-test-requires c κs = search needs
-
-put-requires : tie.Need-put-requires
-put-requires c κs = search needs
-
-same-length : tie.Need-same-length
-same-length c = search needs
-
 returns : tie.Need-returns
 returns c =
     let one = c .before .before .before .before in
     let a = entry (one .before) .args in
     short (a .state .now) (a .quota .now) (a .reached .now) (a .k) _ _ (one .before .room-test .ensures) (one .if1 .taken) (c .before .before .put .ensures)
 
-first-word-requires : tie.Need-first-word-requires
-first-word-requires c κs = search needs
-
 walk-of-requires : tie.Need-walk-of-requires
 walk-of-requires c κs = long (c .before .before .before)
 
-go-on-requires : tie.Need-go-on-requires
-go-on-requires c κs = search needs
-
 keep-requires : tie.Need-keep-requires
 keep-requires c κs = long (c .before .before .before .before .before .before .before)
-
-put-requires-2 : tie.Need-put-requires-2
-put-requires-2 c κs = search needs
-
-put-requires-3 : tie.Need-put-requires-3
-put-requires-3 c κs = search needs
-
-same-length-2 : tie.Need-same-length-2
-same-length-2 c = search needs
-
-same-length-3 : tie.Need-same-length-3
-same-length-3 c = search needs
-
-same-length-4 : tie.Need-same-length-4
-same-length-4 c = search needs
 
 returns-2 : tie.Need-returns-2
 returns-2 c =
@@ -76,17 +46,17 @@ pub go-on-spec : {M : Type 1} → statement M
 go-on-spec =
     tie.close
     (tie.spec
-    room-test-requires
-    put-requires
-    same-length
+    (λ c κs. search needs)  -- room-test-requires
+    (λ c κs. search needs)  -- put-requires
+    (λ c. search needs)  -- same-length
     returns
-    first-word-requires
+    (λ c κs. search needs)  -- first-word-requires
     walk-of-requires
-    go-on-requires
+    (λ c κs. search needs)  -- go-on-requires
     keep-requires
-    put-requires-2
-    put-requires-3
-    same-length-2
-    same-length-3
-    same-length-4
+    (λ c κs. search needs)  -- put-requires-2
+    (λ c κs. search needs)  -- put-requires-3
+    (λ c. search needs)  -- same-length-2
+    (λ c. search needs)  -- same-length-3
+    (λ c. search needs)  -- same-length-4
     returns-2)

@@ -5,12 +5,6 @@ use Rattle.panel_calls.proofs.WordLaws.{moved-some, moved-none}
 use Rattle.panel_calls.proofs.keep.Statement.{statement}
 use Rattle.panel_calls.proofs.keep.Tie as tie
 
-lay-requires : tie.Need-lay-requires
-lay-requires c κs = search needs
-
-same-length : tie.Need-same-length
-same-length c = search needs
-
 returns : tie.Need-returns
 returns c =
     let laid = c .before .before .lay .ensures in
@@ -20,4 +14,10 @@ returns-2 : tie.Need-returns-2
 returns-2 c = (moved-none _ _ _ (c .if1 .left), λ same. same (c .if1 .left))
 
 pub keep-spec : {M : Type 1} → statement M
-keep-spec = tie.close (tie.spec lay-requires same-length returns returns-2)
+keep-spec =
+    tie.close
+    (tie.spec
+    (λ c κs. search needs)  -- lay-requires
+    (λ c. search needs)  -- same-length
+    returns
+    returns-2)

@@ -22,15 +22,6 @@ entry c = c .before .before .before
 long : (c : tie.Else1) → roomTest (length (entry (c .before) .args .state .now)) walkLength ≡ 0
 long c = sym (c .before .room-test .ensures) ∙ c .if1 .left
 
-room-test-requires : tie.Need-room-test-requires
-room-test-requires c κs = search needs
-
-give-three-requires : tie.Need-give-three-requires
-give-three-requires c κs = search needs
-
-same-length : tie.Need-same-length
-same-length c = search needs
-
 returns : tie.Need-returns
 returns c =
     let one = c .before .before .before .before in
@@ -41,15 +32,6 @@ returns c =
 
 walk-of-requires : tie.Need-walk-of-requires
 walk-of-requires c κs = room-none _ _ (long c)
-
-look-requires : tie.Need-look-requires
-look-requires c κs = search needs
-
-give-three-requires-2 : tie.Need-give-three-requires-2
-give-three-requires-2 c κs = search needs
-
-same-length-2 : tie.Need-same-length-2
-same-length-2 c = search needs
 
 returns-2 : tie.Need-returns-2
 returns-2 c =
@@ -65,12 +47,12 @@ pub look-spec : {M : Type 1} → statement M
 look-spec =
     tie.close
     (tie.spec
-    room-test-requires
-    give-three-requires
-    same-length
+    (λ c κs. search needs)  -- room-test-requires
+    (λ c κs. search needs)  -- give-three-requires
+    (λ c. search needs)  -- same-length
     returns
     walk-of-requires
-    look-requires
-    give-three-requires-2
-    same-length-2
+    (λ c κs. search needs)  -- look-requires
+    (λ c κs. search needs)  -- give-three-requires-2
+    (λ c. search needs)  -- same-length-2
     returns-2)

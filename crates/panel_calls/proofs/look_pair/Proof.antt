@@ -16,15 +16,6 @@ use Rattle.panel_calls.proofs.look_pair.Tie as tie
 abbrev entry : tie.After-room-test → tie.Start
 entry c = c .before .before .before
 
-room-test-requires : tie.Need-room-test-requires
-room-test-requires c κs = search needs
-
-give-two-requires : tie.Need-give-two-requires
-give-two-requires c κs = search needs
-
-same-length : tie.Need-same-length
-same-length c = search needs
-
 returns : tie.Need-returns
 returns c =
     let one = c .before .before .before .before in
@@ -35,15 +26,6 @@ returns c =
 
 walk-of-requires : tie.Need-walk-of-requires
 walk-of-requires c κs = room-none _ _ (sym (c .before .room-test .ensures) ∙ c .if1 .left)
-
-look-pair-requires : tie.Need-look-pair-requires
-look-pair-requires c κs = search needs
-
-give-bounds-requires : tie.Need-give-bounds-requires
-give-bounds-requires c κs = search needs
-
-same-length-2 : tie.Need-same-length-2
-same-length-2 c = search needs
 
 returns-2 : tie.Need-returns-2
 returns-2 c =
@@ -61,12 +43,12 @@ pub look-pair-spec : {M : Type 1} → statement M
 look-pair-spec =
     tie.close
     (tie.spec
-    room-test-requires
-    give-two-requires
-    same-length
+    (λ c κs. search needs)  -- room-test-requires
+    (λ c κs. search needs)  -- give-two-requires
+    (λ c. search needs)  -- same-length
     returns
     walk-of-requires
-    look-pair-requires
-    give-bounds-requires
-    same-length-2
+    (λ c κs. search needs)  -- look-pair-requires
+    (λ c κs. search needs)  -- give-bounds-requires
+    (λ c. search needs)  -- same-length-2
     returns-2)

@@ -10,27 +10,6 @@ use Rattle.panel_table.specs.Table.{tableLinks, tableEvents}
 use Rattle.panel_table.proofs.begun.Statement.{statement}
 use Rattle.panel_table.proofs.begun.Tie as tie
 
-header-requires : tie.Need-header-requires
-header-requires c κs = search needs
-
-slice-aggregate-begin : tie.Need-slice-aggregate-begin
-slice-aggregate-begin c = search needs
-
-slice-aggregate-begin-2 : tie.Need-slice-aggregate-begin-2
-slice-aggregate-begin-2 c = search needs
-
-begin-requires : tie.Need-begin-requires
-begin-requires c κs = search needs
-
-slice-aggregate-same : tie.Need-slice-aggregate-same
-slice-aggregate-same c = search needs
-
-cast-same : tie.Need-cast-same
-cast-same c = search needs
-
-same-requires : tie.Need-same-requires
-same-requires c κs = search needs
-
 returns : tie.Need-returns
 returns c =
     let b = c .before .before .before .before in
@@ -43,11 +22,11 @@ pub begun-spec : {M : Type 1} → statement M
 begun-spec =
     tie.close
     (tie.spec
-    header-requires
-    slice-aggregate-begin
-    slice-aggregate-begin-2
-    begin-requires
-    slice-aggregate-same
-    cast-same
-    same-requires
+    (λ c κs. search needs)  -- header-requires
+    (λ c. search needs)  -- slice-aggregate-begin
+    (λ c. search needs)  -- slice-aggregate-begin-2
+    (λ c κs. search needs)  -- begin-requires
+    (λ c. search needs)  -- slice-aggregate-same
+    (λ c. search needs)  -- cast-same
+    (λ c κs. search needs)  -- same-requires
     returns)

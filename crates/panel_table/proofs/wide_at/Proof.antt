@@ -8,11 +8,10 @@ use Rattle.panel_table.proofs.wide_at.Tie as tie
 returns : tie.Need-returns
 returns c = sym (List·getD-eq-default (c .before .before .args .list .now) 0 (c .if1 .taken))
 
-byte-at-requires : tie.Need-byte-at-requires
-byte-at-requires c κs = search needs
-
-returns-2 : tie.Need-returns-2
-returns-2 c = search needs
-
 pub wide-at-spec : {M : Type 1} → statement M
-wide-at-spec = tie.close (tie.spec returns byte-at-requires returns-2)
+wide-at-spec =
+    tie.close
+    (tie.spec
+    returns
+    (λ c κs. search needs)  -- byte-at-requires
+    (λ c. search needs))  -- returns-2

@@ -5,21 +5,6 @@ use borrow.Author.Needs.{needs}
 use Rattle.probe.proofs.probe_read.Statement.{statement}
 use Rattle.probe.proofs.probe_read.Tie as tie
 
-read-requires : tie.Need-read-requires
-read-requires c κs = search needs
-
-give-header-requires : tie.Need-give-header-requires
-give-header-requires c κs = search needs
-
-same-length : tie.Need-same-length
-same-length c = search needs
-
-same-length-2 : tie.Need-same-length-2
-same-length-2 c = search needs
-
-same-length-3 : tie.Need-same-length-3
-same-length-3 c = search needs
-
 returns : tie.Need-returns
 returns c =
     let f = c .before .before .give-header .ensures in
@@ -31,4 +16,10 @@ returns c =
 pub probe-read-spec : {M : Type 1} → statement M
 probe-read-spec =
     tie.close
-    (tie.spec read-requires give-header-requires same-length same-length-2 same-length-3 returns)
+    (tie.spec
+    (λ c κs. search needs)  -- read-requires
+    (λ c κs. search needs)  -- give-header-requires
+    (λ c. search needs)  -- same-length
+    (λ c. search needs)  -- same-length-2
+    (λ c. search needs)  -- same-length-3
+    returns)

@@ -5,24 +5,6 @@ use borrow.Author.Needs.{needs}
 use Rattle.probe.proofs.probe_run.Statement.{statement}
 use Rattle.probe.proofs.probe_run.Tie as tie
 
-header-requires : tie.Need-header-requires
-header-requires c κs = search needs
-
-run-requires : tie.Need-run-requires
-run-requires c κs = search needs
-
-give-totals-requires : tie.Need-give-totals-requires
-give-totals-requires c κs = search needs
-
-same-length : tie.Need-same-length
-same-length c = search needs
-
-same-length-2 : tie.Need-same-length-2
-same-length-2 c = search needs
-
-same-length-3 : tie.Need-same-length-3
-same-length-3 c = search needs
-
 returns : tie.Need-returns
 returns c =
     let f = c .before .before .give-totals .ensures in
@@ -36,10 +18,10 @@ pub probe-run-spec : {M : Type 1} → statement M
 probe-run-spec =
     tie.close
     (tie.spec
-    header-requires
-    run-requires
-    give-totals-requires
-    same-length
-    same-length-2
-    same-length-3
+    (λ c κs. search needs)  -- header-requires
+    (λ c κs. search needs)  -- run-requires
+    (λ c κs. search needs)  -- give-totals-requires
+    (λ c. search needs)  -- same-length
+    (λ c. search needs)  -- same-length-2
+    (λ c. search needs)  -- same-length-3
     returns)

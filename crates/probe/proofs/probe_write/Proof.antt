@@ -5,21 +5,6 @@ use borrow.Author.Needs.{needs}
 use Rattle.probe.proofs.probe_write.Statement.{statement}
 use Rattle.probe.proofs.probe_write.Tie as tie
 
-header-requires : tie.Need-header-requires
-header-requires c κs = search needs
-
-write-requires : tie.Need-write-requires
-write-requires c κs = search needs
-
-give-size-requires : tie.Need-give-size-requires
-give-size-requires c κs = search needs
-
-same-length : tie.Need-same-length
-same-length c = search needs
-
-same-length-2 : tie.Need-same-length-2
-same-length-2 c = search needs
-
 returns : tie.Need-returns
 returns c =
     let f = c .before .before .give-size .ensures in
@@ -32,4 +17,10 @@ returns c =
 pub probe-write-spec : {M : Type 1} → statement M
 probe-write-spec =
     tie.close
-    (tie.spec header-requires write-requires give-size-requires same-length same-length-2 returns)
+    (tie.spec
+    (λ c κs. search needs)  -- header-requires
+    (λ c κs. search needs)  -- write-requires
+    (λ c κs. search needs)  -- give-size-requires
+    (λ c. search needs)  -- same-length
+    (λ c. search needs)  -- same-length-2
+    returns)

@@ -7,18 +7,6 @@ use Rattle.record_runs.proofs.RunLaws.{Outcome}
 use Rattle.record_runs.proofs.run_words.Statement.{statement}
 use Rattle.record_runs.proofs.run_words.Tie as tie
 
-used-words-requires : tie.Need-used-words-requires
-used-words-requires c κs = search needs
-
-run-requires : tie.Need-run-requires
-run-requires c κs = search needs
-
-same-length : tie.Need-same-length
-same-length c = search needs
-
-same-length-2 : tie.Need-same-length-2
-same-length-2 c = search needs
-
 returns : tie.Need-returns
 returns c =
     let a = c .before .before .before .before .before .before .before .before .before .before .before .args in
@@ -27,4 +15,11 @@ returns c =
     (c .before .before .before .before .before .before .before .used-words .ensures) (r .ensures)
 
 pub run-words-spec : {M : Type 1} → statement M
-run-words-spec = tie.close (tie.spec used-words-requires run-requires same-length same-length-2 returns)
+run-words-spec =
+    tie.close
+    (tie.spec
+    (λ c κs. search needs)  -- used-words-requires
+    (λ c κs. search needs)  -- run-requires
+    (λ c. search needs)  -- same-length
+    (λ c. search needs)  -- same-length-2
+    returns)

@@ -5,21 +5,6 @@ use Rattle.answers.proofs.NumberLaws.{run-back}
 use Rattle.run_answers.proofs.run_at.Statement.{statement}
 use Rattle.run_answers.proofs.run_at.Tie as tie
 
-run-at-requires : tie.Need-run-at-requires
-run-at-requires c κs = search needs
-
-give-totals-requires : tie.Need-give-totals-requires
-give-totals-requires c κs = search needs
-
-same-length : tie.Need-same-length
-same-length c = search needs
-
-same-length-2 : tie.Need-same-length-2
-same-length-2 c = search needs
-
-same-length-3 : tie.Need-same-length-3
-same-length-3 c = search needs
-
 returns : tie.Need-returns
 returns c =
     let f = c .before .before .give-totals .ensures in
@@ -30,4 +15,11 @@ returns c =
 
 pub run-at-spec : {M : Type 1} → statement M
 run-at-spec =
-    tie.close (tie.spec run-at-requires give-totals-requires same-length same-length-2 same-length-3 returns)
+    tie.close
+    (tie.spec
+    (λ c κs. search needs)  -- run-at-requires
+    (λ c κs. search needs)  -- give-totals-requires
+    (λ c. search needs)  -- same-length
+    (λ c. search needs)  -- same-length-2
+    (λ c. search needs)  -- same-length-3
+    returns)

@@ -5,9 +5,6 @@ use Rattle.sets.proofs.Digits.{shifted-pos, first-is, all-is}
 use Rattle.sets.proofs.first.Statement.{statement}
 use Rattle.sets.proofs.first.Tie as tie
 
-shl-result : tie.Need-shl-result
-shl-result c = search needs
-
 sub-result : tie.Need-sub-result
 sub-result c = omega (arith, shifted-pos (c .before .args .k) (c .if1 .taken))
 
@@ -18,4 +15,10 @@ returns-2 : tie.Need-returns-2
 returns-2 c = λ j. all-is (c .before .args .k) j (c .before .pre) (c .if1 .left)
 
 pub first-spec : {M : Type 1} → statement M
-first-spec = tie.close (tie.spec shl-result sub-result returns returns-2)
+first-spec =
+    tie.close
+    (tie.spec
+    (λ c. search needs)  -- shl-result
+    sub-result
+    returns
+    returns-2)

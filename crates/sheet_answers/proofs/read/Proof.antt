@@ -5,18 +5,6 @@ use borrow.Author.Needs.{needs}
 use Rattle.sheet_answers.proofs.read.Statement.{statement}
 use Rattle.sheet_answers.proofs.read.Tie as tie
 
-read-requires : tie.Need-read-requires
-read-requires c κs = search needs
-
-give-counts-requires : tie.Need-give-counts-requires
-give-counts-requires c κs = search needs
-
-same-length : tie.Need-same-length
-same-length c = search needs
-
-same-length-2 : tie.Need-same-length-2
-same-length-2 c = search needs
-
 returns : tie.Need-returns
 returns c =
     let f = c .before .before .give-counts .ensures in
@@ -27,4 +15,10 @@ returns c =
 
 pub read-spec : {M : Type 1} → statement M
 read-spec =
-    tie.close (tie.spec read-requires give-counts-requires same-length same-length-2 returns)
+    tie.close
+    (tie.spec
+    (λ c κs. search needs)  -- read-requires
+    (λ c κs. search needs)  -- give-counts-requires
+    (λ c. search needs)  -- same-length
+    (λ c. search needs)  -- same-length-2
+    returns)

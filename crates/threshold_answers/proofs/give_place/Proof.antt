@@ -5,24 +5,6 @@ use Rattle.threshold_answers.proofs.PlaceLaws.{three-put}
 use Rattle.threshold_answers.proofs.give_place.Statement.{statement}
 use Rattle.threshold_answers.proofs.give_place.Tie as tie
 
-put-requires : tie.Need-put-requires
-put-requires c κs = search needs
-
-add-put : tie.Need-add-put
-add-put c = search needs
-
-put-requires-2 : tie.Need-put-requires-2
-put-requires-2 c κs = search needs
-
-add-put-2 : tie.Need-add-put-2
-add-put-2 c = search needs
-
-put-requires-3 : tie.Need-put-requires-3
-put-requires-3 c κs = search needs
-
-same-length : tie.Need-same-length
-same-length c = search needs
-
 returns : tie.Need-returns
 returns c =
     let two = c .before .before .before .before .before .before in
@@ -31,4 +13,13 @@ returns c =
     rw (one .put .ensures) at (rw (two .put2 .ensures) at (c .before .before .put3 .ensures)) ∙ three-put (a .list .now) (a .at) (a .a) (a .b) (a .c)
 
 pub give-place-spec : {M : Type 1} → statement M
-give-place-spec = tie.close (tie.spec put-requires add-put put-requires-2 add-put-2 put-requires-3 same-length returns)
+give-place-spec =
+    tie.close
+    (tie.spec
+    (λ c κs. search needs)  -- put-requires
+    (λ c. search needs)  -- add-put
+    (λ c κs. search needs)  -- put-requires-2
+    (λ c. search needs)  -- add-put-2
+    (λ c κs. search needs)  -- put-requires-3
+    (λ c. search needs)  -- same-length
+    returns)

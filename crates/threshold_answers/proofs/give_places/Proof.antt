@@ -28,36 +28,6 @@ mass-size c = length-unmapped ℕ (c .args .answer .mass) 16 (c .good .0 .1 .1 .
 loop-holds : tie.Need-loop-holds Inv-loop μ-loop
 loop-holds c = refl
 
-mul-give-place : tie.Need-mul-give-place Inv-loop μ-loop
-mul-give-place c = search needs
-
-mul-give-place-2 : tie.Need-mul-give-place-2 Inv-loop μ-loop
-mul-give-place-2 c = search needs
-
-array-read-give-place : tie.Need-array-read-give-place Inv-loop μ-loop
-array-read-give-place c = search needs
-
-mul-give-place-3 : tie.Need-mul-give-place-3 Inv-loop μ-loop
-mul-give-place-3 c = search needs
-
-array-read-give-place-2 : tie.Need-array-read-give-place-2 Inv-loop μ-loop
-array-read-give-place-2 c = search needs
-
-mul-give-place-4 : tie.Need-mul-give-place-4 Inv-loop μ-loop
-mul-give-place-4 c = search needs
-
-array-read-give-place-3 : tie.Need-array-read-give-place-3 Inv-loop μ-loop
-array-read-give-place-3 c = search needs
-
-give-place-requires : tie.Need-give-place-requires Inv-loop μ-loop
-give-place-requires c κs = search needs
-
-add-i : tie.Need-add-i Inv-loop μ-loop
-add-i c = search needs
-
-loop-less : tie.Need-loop-less Inv-loop μ-loop
-loop-less c = search needs
-
 loop-again : tie.Need-loop-again Inv-loop μ-loop
 loop-again c =
     let in-loop = c .before .before .before .before in
@@ -82,16 +52,16 @@ give-places-spec =
     Inv-loop
     μ-loop
     loop-holds
-    mul-give-place
-    mul-give-place-2
-    array-read-give-place
-    mul-give-place-3
-    array-read-give-place-2
-    mul-give-place-4
-    array-read-give-place-3
-    give-place-requires
-    add-i
-    loop-less
+    (λ c. search needs)  -- mul-give-place
+    (λ c. search needs)  -- mul-give-place-2
+    (λ c. search needs)  -- array-read-give-place
+    (λ c. search needs)  -- mul-give-place-3
+    (λ c. search needs)  -- array-read-give-place-2
+    (λ c. search needs)  -- mul-give-place-4
+    (λ c. search needs)  -- array-read-give-place-3
+    (λ c κs. search needs)  -- give-place-requires
+    (λ c. search needs)  -- add-i
+    (λ c. search needs)  -- loop-less
     loop-again
     same-length
     returns)

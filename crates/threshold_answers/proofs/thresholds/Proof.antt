@@ -5,21 +5,6 @@ use Rattle.threshold_answers.proofs.PlaceLaws.{thresholds-back}
 use Rattle.threshold_answers.proofs.thresholds.Statement.{statement}
 use Rattle.threshold_answers.proofs.thresholds.Tie as tie
 
-thresholds-requires : tie.Need-thresholds-requires
-thresholds-requires c κs = search needs
-
-give-places-requires : tie.Need-give-places-requires
-give-places-requires c κs = search needs
-
-same-length : tie.Need-same-length
-same-length c = search needs
-
-same-length-2 : tie.Need-same-length-2
-same-length-2 c = search needs
-
-same-length-3 : tie.Need-same-length-3
-same-length-3 c = search needs
-
 returns : tie.Need-returns
 returns c =
     let f = c .before .before .give-places .ensures in
@@ -29,4 +14,12 @@ returns c =
     rw n (refl, (k .thresholds .ensures .1 .0, (k .thresholds .ensures .1 .1 .0, rw e at (f .1))))
 
 pub thresholds-spec : {M : Type 1} → statement M
-thresholds-spec = tie.close (tie.spec thresholds-requires give-places-requires same-length same-length-2 same-length-3 returns)
+thresholds-spec =
+    tie.close
+    (tie.spec
+    (λ c κs. search needs)  -- thresholds-requires
+    (λ c κs. search needs)  -- give-places-requires
+    (λ c. search needs)  -- same-length
+    (λ c. search needs)  -- same-length-2
+    (λ c. search needs)  -- same-length-3
+    returns)

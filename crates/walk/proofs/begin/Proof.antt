@@ -4,11 +4,12 @@ use mathlib.Core.Path.{refl}
 use Rattle.walk.proofs.begin.Statement.{statement}
 use Rattle.walk.proofs.begin.Tie as tie
 
-put-requires : tie.Need-put-requires
-put-requires c κs = search needs
-
 returns : tie.Need-returns
 returns c = record { place = refl; laid = c .put .ensures }
 
 pub begin-spec : {M : Type 1} → statement M
-begin-spec = tie.close (tie.spec put-requires returns)
+begin-spec =
+    tie.close
+    (tie.spec
+    (λ c κs. search needs)  -- put-requires
+    returns)

@@ -4,17 +4,11 @@ use Rattle.walk.proofs.Words.{low-fits, low-joined, high-fits, high-joi
 use Rattle.walk.proofs.with_event.Statement.{statement}
 use Rattle.walk.proofs.with_event.Tie as tie
 
-shl-t5 : tie.Need-shl-t5
-shl-t5 c = search needs
-
 add-t6 : tie.Need-add-t6
 add-t6 c = record { fits = low-fits _ _ _ (c .before .pre .2) (c .if1 .taken) }
 
 returns : tie.Need-returns
 returns c = low-joined _ _ _ (c .before .pre .2) (c .if1 .taken)
-
-shl-t8 : tie.Need-shl-t8
-shl-t8 c = search needs
 
 add-t9 : tie.Need-add-t9
 add-t9 c = record { fits = high-fits _ _ _ (c .before .pre .2) (c .if1 .left) (c .before .pre .1) }
@@ -23,4 +17,12 @@ returns-2 : tie.Need-returns-2
 returns-2 c = high-joined _ _ _ (c .before .pre .2) (c .if1 .left) (c .before .pre .1)
 
 pub with-event-spec : {M : Type 1} → statement M
-with-event-spec = tie.close (tie.spec shl-t5 add-t6 returns shl-t8 add-t9 returns-2)
+with-event-spec =
+    tie.close
+    (tie.spec
+    (λ c. search needs)  -- shl-t5
+    add-t6
+    returns
+    (λ c. search needs)  -- shl-t8
+    add-t9
+    returns-2)

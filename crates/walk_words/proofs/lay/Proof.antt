@@ -66,26 +66,11 @@ room-3 c = omega (arith, c .put-words2 .kept .1 .0, room-2 (c .before .before .b
 room-4 : (c : tie.After-put-words3) → walkLength ≤ length (c .put-words3 .last .1 .0)
 room-4 c = omega (arith, c .put-words3 .kept .1 .0, room-3 (c .before .before .before .before .before .before))
 
-slice-aggregate-put-words : tie.Need-slice-aggregate-put-words
-slice-aggregate-put-words c = search needs
-
-put-words-requires : tie.Need-put-words-requires
-put-words-requires c κs = search needs
-
-slice-aggregate-widen : tie.Need-slice-aggregate-widen
-slice-aggregate-widen c = search needs
-
 widen-requires : tie.Need-widen-requires
 widen-requires c κs = omega (arith, sized (start-1 (c .before .before .before .before .before)) .links, room-1 (c .before .before .before .before .before))
 
-slice-aggregate-put-words-2 : tie.Need-slice-aggregate-put-words-2
-slice-aggregate-put-words-2 c = search needs
-
 put-words-requires-2 : tie.Need-put-words-requires-2
 put-words-requires-2 c κs = omega (arith, sized (start-2 (c .before .before .before .before .before)) .events, room-2 (c .before .before .before .before .before))
-
-slice-aggregate-put-words-3 : tie.Need-slice-aggregate-put-words-3
-slice-aggregate-put-words-3 c = search needs
 
 put-words-requires-3 : tie.Need-put-words-requires-3
 put-words-requires-3 c κs = omega (arith, sized (start-3 (c .before .before .before .before .before)) .stack, room-3 (c .before .before .before .before .before))
@@ -95,9 +80,6 @@ slice-aggregate-put-words-4 c = sym (sized (start-4 (c .before .before .before .
 
 put-words-requires-4 : tie.Need-put-words-requires-4
 put-words-requires-4 c κs = omega (arith, sized (start-4 (c .before .before .before .before .before)) .sums, room-4 (c .before .before .before .before .before))
-
-same-length : tie.Need-same-length
-same-length c = search needs
 
 returns : tie.Need-returns
 unfolding walkWords
@@ -119,15 +101,15 @@ pub lay-spec : {M : Type 1} → statement M
 lay-spec =
     tie.close
     (tie.spec
-    slice-aggregate-put-words
-    put-words-requires
-    slice-aggregate-widen
+    (λ c. search needs)  -- slice-aggregate-put-words
+    (λ c κs. search needs)  -- put-words-requires
+    (λ c. search needs)  -- slice-aggregate-widen
     widen-requires
-    slice-aggregate-put-words-2
+    (λ c. search needs)  -- slice-aggregate-put-words-2
     put-words-requires-2
-    slice-aggregate-put-words-3
+    (λ c. search needs)  -- slice-aggregate-put-words-3
     put-words-requires-3
     slice-aggregate-put-words-4
     put-words-requires-4
-    same-length
+    (λ c. search needs)  -- same-length
     returns)

@@ -13,20 +13,21 @@ use Rattle.walk_words.proofs.pack.Tie as tie
 long : (c : tie.Else1) → roomTest (length (c .before .before .before .args .state .now)) walkLength ≡ 0
 long c = sym (c .before .room-test .ensures) ∙ c .if1 .left
 
-room-test-requires : tie.Need-room-test-requires
-room-test-requires c κs = search needs
-
 returns : tie.Need-returns
 returns c = (c .before .room-test .ensures, (filled-none _ _ _ (c .if1 .taken), λ z. absurd (c .if1 .taken z)))
 
 lay-requires : tie.Need-lay-requires
 lay-requires c κs = room-none _ _ (long (c .before))
 
-same-length : tie.Need-same-length
-same-length c = search needs
-
 returns-2 : tie.Need-returns-2
 returns-2 c = (sym (long (c .before .before .before .before)), (c .before .before .lay .ensures .0, λ z. c .before .before .lay .ensures .1))
 
 pub pack-spec : {M : Type 1} → statement M
-pack-spec = tie.close (tie.spec room-test-requires returns lay-requires same-length returns-2)
+pack-spec =
+    tie.close
+    (tie.spec
+    (λ c κs. search needs)  -- room-test-requires
+    returns
+    lay-requires
+    (λ c. search needs)  -- same-length
+    returns-2)

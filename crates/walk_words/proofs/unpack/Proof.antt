@@ -20,12 +20,6 @@ taken test walk walk′ e z = rw (e, z)
 long : (c : tie.Else1) → roomTest (length (c .before .before .before .args .state .now)) walkLength ≡ 0
 long c = sym (c .before .room-test .ensures) ∙ c .if1 .left
 
-room-test-requires : tie.Need-room-test-requires
-room-test-requires c κs = search needs
-
-no-walk-requires : tie.Need-no-walk-requires
-no-walk-requires c κs = search needs
-
 returns : tie.Need-returns
 returns c =
     let walk = walkOf (c .before .before .before .before .args .state .now) in
@@ -38,4 +32,11 @@ returns-2 : tie.Need-returns-2
 returns-2 c = taken _ _ _ (long (c .before)) (c .walk-of .ensures)
 
 pub unpack-spec : {M : Type 1} → statement M
-unpack-spec = tie.close (tie.spec room-test-requires no-walk-requires returns walk-of-requires returns-2)
+unpack-spec =
+    tie.close
+    (tie.spec
+    (λ c κs. search needs)  -- room-test-requires
+    (λ c κs. search needs)  -- no-walk-requires
+    returns
+    walk-of-requires
+    returns-2)

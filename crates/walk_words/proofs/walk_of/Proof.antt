@@ -31,57 +31,6 @@ made : (s links events stack sums : List ℕ) → links ≡ map (λ (x : ℕ). x
 unfolding walkOf
 made s links events stack sums l e k m = rw (l, e, k, m)
 
-slice-aggregate-narrow : tie.Need-slice-aggregate-narrow
-slice-aggregate-narrow c = search needs
-
-narrow-requires : tie.Need-narrow-requires
-narrow-requires c κs = search needs
-
-slice-aggregate-take-words : tie.Need-slice-aggregate-take-words
-slice-aggregate-take-words c = search needs
-
-take-words-requires : tie.Need-take-words-requires
-take-words-requires c κs = search needs
-
-slice-aggregate-take-words-2 : tie.Need-slice-aggregate-take-words-2
-slice-aggregate-take-words-2 c = search needs
-
-take-words-requires-2 : tie.Need-take-words-requires-2
-take-words-requires-2 c κs = search needs
-
-slice-aggregate-take-words-3 : tie.Need-slice-aggregate-take-words-3
-slice-aggregate-take-words-3 c = search needs
-
-take-words-requires-3 : tie.Need-take-words-requires-3
-take-words-requires-3 c κs = search needs
-
-shared-slice-read-t16 : tie.Need-shared-slice-read-t16
-shared-slice-read-t16 c = search needs
-
-shared-slice-read-t18 : tie.Need-shared-slice-read-t18
-shared-slice-read-t18 c = search needs
-
-shared-slice-read-t20 : tie.Need-shared-slice-read-t20
-shared-slice-read-t20 c = search needs
-
-shared-slice-read-t22 : tie.Need-shared-slice-read-t22
-shared-slice-read-t22 c = search needs
-
-shared-slice-read-t24 : tie.Need-shared-slice-read-t24
-shared-slice-read-t24 c = search needs
-
-shared-slice-read-t31 : tie.Need-shared-slice-read-t31
-shared-slice-read-t31 c = search needs
-
-shared-slice-read-t34 : tie.Need-shared-slice-read-t34
-shared-slice-read-t34 c = search needs
-
-shared-slice-read-t36 : tie.Need-shared-slice-read-t36
-shared-slice-read-t36 c = search needs
-
-shared-slice-read-t38 : tie.Need-shared-slice-read-t38
-shared-slice-read-t38 c = search needs
-
 returns : tie.Need-returns
 unfolding walkOf
 returns c =
@@ -95,21 +44,21 @@ pub walk-of-spec : {M : Type 1} → statement M
 walk-of-spec =
     tie.close
     (tie.spec
-    slice-aggregate-narrow
-    narrow-requires
-    slice-aggregate-take-words
-    take-words-requires
-    slice-aggregate-take-words-2
-    take-words-requires-2
-    slice-aggregate-take-words-3
-    take-words-requires-3
-    shared-slice-read-t16
-    shared-slice-read-t18
-    shared-slice-read-t20
-    shared-slice-read-t22
-    shared-slice-read-t24
-    shared-slice-read-t31
-    shared-slice-read-t34
-    shared-slice-read-t36
-    shared-slice-read-t38
+    (λ c. search needs)  -- slice-aggregate-narrow
+    (λ c κs. search needs)  -- narrow-requires
+    (λ c. search needs)  -- slice-aggregate-take-words
+    (λ c κs. search needs)  -- take-words-requires
+    (λ c. search needs)  -- slice-aggregate-take-words-2
+    (λ c κs. search needs)  -- take-words-requires-2
+    (λ c. search needs)  -- slice-aggregate-take-words-3
+    (λ c κs. search needs)  -- take-words-requires-3
+    (λ c. search needs)  -- shared-slice-read-t16
+    (λ c. search needs)  -- shared-slice-read-t18
+    (λ c. search needs)  -- shared-slice-read-t20
+    (λ c. search needs)  -- shared-slice-read-t22
+    (λ c. search needs)  -- shared-slice-read-t24
+    (λ c. search needs)  -- shared-slice-read-t31
+    (λ c. search needs)  -- shared-slice-read-t34
+    (λ c. search needs)  -- shared-slice-read-t36
+    (λ c. search needs)  -- shared-slice-read-t38
     returns)

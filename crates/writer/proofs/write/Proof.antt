@@ -65,9 +65,6 @@ fits : (c : tie.Else2)
     → (let a = entry (first (sized c)) .args in 20 + 2 * a .h .links + sized c .events-size .result ≤ length (a .out .now))
 fits c = room-none _ _ (sym (c .before .room-test .ensures) ∙ c .if2 .left)
 
-accept-requires : tie.Need-accept-requires
-accept-requires c κs = search needs
-
 returns : tie.Need-returns
 returns c = lists-refuse _ _ _ _ _ _ _ (c .before .accept .ensures .0) (c .if1 .taken)
 
@@ -96,9 +93,6 @@ add-size-2 c =
       events-most es,
       length-events-of (h .events) (words (first c)),
     )
-
-room-test-requires : tie.Need-room-test-requires
-room-test-requires c κs = search needs
 
 returns-2 : tie.Need-returns-2
 returns-2 c =
@@ -142,14 +136,14 @@ pub write-spec : {M : Type 1} → statement M
 write-spec =
     tie.close
     (tie.spec
-    accept-requires
+    (λ c κs. search needs)  -- accept-requires
     returns
     mul-size
     add-size
     slice-aggregate-events-size
     events-size-requires
     add-size-2
-    room-test-requires
+    (λ c κs. search needs)  -- room-test-requires
     returns-2
     slice-aggregate-put-plan
     slice-aggregate-put-plan-2

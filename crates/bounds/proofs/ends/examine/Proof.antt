@@ -40,9 +40,6 @@ start-of-requires c κs =
 loop-holds : tie.Need-loop-holds Inv-loop μ-loop
 loop-holds c = λ out s. blocks-begin _ _ _ _ _ _ _ _ _
 
-lowest-requires : tie.Need-lowest-requires Inv-loop μ-loop
-lowest-requires c κs = search needs
-
 mul-add-cut : tie.Need-mul-add-cut Inv-loop μ-loop
 mul-add-cut c =
     let loop = c .before .before .before in
@@ -60,9 +57,6 @@ add-cut-requires c κs =
     let s = shown-by _ _ _ _ _ _ _ _ _ (near .before .before .failed-by .ensures) (near .before .working-nodes .ensures) (near .neighbours .ensures) in
     rw (loop .before .start-of .ensures)
     (block-asked _ _ _ _ _ _ _ _ _ _ _ (loop .loop .inv _ s) (p .0) (p .1 .1 .1) _ _ s _ (c .lowest .ensures .1 .1 .0))
-
-rest-requires : tie.Need-rest-requires Inv-loop μ-loop
-rest-requires c κs = search needs
 
 loop-less : tie.Need-loop-less Inv-loop μ-loop
 loop-less c = c .rest .ensures .0
@@ -102,10 +96,10 @@ examine-spec =
     neighbours-requires
     start-of-requires
     loop-holds
-    lowest-requires
+    (λ c κs. search needs)  -- lowest-requires
     mul-add-cut
     add-cut-requires
-    rest-requires
+    (λ c κs. search needs)  -- rest-requires
     loop-less
     loop-again
     same-length

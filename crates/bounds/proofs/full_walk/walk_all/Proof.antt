@@ -9,16 +9,10 @@ use Rattle.bounds.proofs.full_walk.walk_all.Tie as tie
 links-at-requires : tie.Need-links-at-requires
 links-at-requires c κs = c .pre .0 .links-held
 
-begin-requires : tie.Need-begin-requires
-begin-requires c κs = search needs
-
 go-on-requires : tie.Need-go-on-requires
 go-on-requires c κs =
     let pre = c .before .before .before .before .before .before .pre in
     (c .before .before .before .before .before .links-at .ensures, ready-whole _ _ _ _ _ _ (begun-alone _ _ _ _ _ _ _ refl (c .before .before .before .begin .ensures)) (pre .1 .1) (pre .0) (pre .1 .0))
-
-none-left-requires : tie.Need-none-left-requires
-none-left-requires c κs = search needs
 
 returns : tie.Need-returns
 returns c =
@@ -31,4 +25,10 @@ returns c =
 
 pub walk-all-spec : {M : Type 1} → statement M
 walk-all-spec =
-    tie.close (tie.spec links-at-requires begin-requires go-on-requires none-left-requires returns)
+    tie.close
+    (tie.spec
+    links-at-requires
+    (λ c κs. search needs)  -- begin-requires
+    go-on-requires
+    (λ c κs. search needs)  -- none-left-requires
+    returns)

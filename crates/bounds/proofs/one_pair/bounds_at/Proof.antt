@@ -11,15 +11,6 @@ use Rattle.bounds.proofs.one_pair.bounds_at.Tie as tie
 place-of-requires : tie.Need-place-of-requires
 place-of-requires c κs = (c .pre .0 .few, c .pre .1 .0, c .pre .1 .1)
 
-mul-lower : tie.Need-mul-lower
-mul-lower c = search needs
-
-element-copy-out-lower : tie.Need-element-copy-out-lower
-element-copy-out-lower c = search needs
-
-sub-t11 : tie.Need-sub-t11
-sub-t11 c = search needs
-
 add-t13 : tie.Need-add-t13
 add-t13 c = omega (arith, c .before .before .before .pre .0 .below (c .before .before .place-of .result))
 
@@ -31,4 +22,11 @@ returns c =
 
 pub bounds-at-spec : {M : Type 1} → statement M
 bounds-at-spec =
-    tie.close (tie.spec place-of-requires mul-lower element-copy-out-lower sub-t11 add-t13 returns)
+    tie.close
+    (tie.spec
+    place-of-requires
+    (λ c. search needs)  -- mul-lower
+    (λ c. search needs)  -- element-copy-out-lower
+    (λ c. search needs)  -- sub-t11
+    add-t13
+    returns)

@@ -6,9 +6,6 @@ use Rattle.bounds.proofs.Outcome.{lists-refuse, rooms-decide, rooms-fit
 use Rattle.bounds.proofs.runs.accept_run.Statement.{statement}
 use Rattle.bounds.proofs.runs.accept_run.Tie as tie
 
-accept-requires : tie.Need-accept-requires
-accept-requires c κs = search needs
-
 returns : tie.Need-returns
 returns c =
     let a = c .before .before .before .before .before .before .args in (
@@ -18,9 +15,6 @@ returns c =
 
 start-of-requires : tie.Need-start-of-requires
 start-of-requires c κs = (c .before .accept .ensures .1 .0 (c .if1 .left) .held .links-held .nodes-fit, omega arith)
-
-bounds-test-requires : tie.Need-bounds-test-requires
-bounds-test-requires c κs = search needs
 
 returns-2 : tie.Need-returns-2
 returns-2 c =
@@ -37,4 +31,11 @@ returns-2 c =
     )
 
 pub accept-run-spec : {M : Type 1} → statement M
-accept-run-spec = tie.close (tie.spec accept-requires returns start-of-requires bounds-test-requires returns-2)
+accept-run-spec =
+    tie.close
+    (tie.spec
+    (λ c κs. search needs)  -- accept-requires
+    returns
+    start-of-requires
+    (λ c κs. search needs)  -- bounds-test-requires
+    returns-2)

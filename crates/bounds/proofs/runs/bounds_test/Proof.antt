@@ -4,17 +4,17 @@ use Rattle.refusals.proofs.OrderLaws.{stop, skip, last}
 use Rattle.bounds.proofs.runs.bounds_test.Statement.{statement}
 use Rattle.bounds.proofs.runs.bounds_test.Tie as tie
 
-room-test-requires : tie.Need-room-test-requires
-room-test-requires c κs = search needs
-
 returns : tie.Need-returns
 returns c = stop _ (c .before .room-test .ensures) (c .if1 .taken)
-
-room-test-requires-2 : tie.Need-room-test-requires-2
-room-test-requires-2 c κs = search needs
 
 returns-2 : tie.Need-returns-2
 returns-2 c = skip _ (c .before .before .room-test .ensures) (c .before .if1 .left) (last (c .room-test2 .ensures))
 
 pub bounds-test-spec : {M : Type 1} → statement M
-bounds-test-spec = tie.close (tie.spec room-test-requires returns room-test-requires-2 returns-2)
+bounds-test-spec =
+    tie.close
+    (tie.spec
+    (λ c κs. search needs)  -- room-test-requires
+    returns
+    (λ c κs. search needs)  -- room-test-requires-2
+    returns-2)

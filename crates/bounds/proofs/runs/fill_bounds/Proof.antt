@@ -23,12 +23,6 @@ give-bounds-requires c κs =
     (a .upper .now)
     (s .pre .1 .1 .1)
 
-same-length : tie.Need-same-length
-same-length c = search needs
-
-same-length-2 : tie.Need-same-length-2
-same-length-2 c = search needs
-
 returns : tie.Need-returns
 returns c =
     let give = c .before .before .before .before in
@@ -48,4 +42,10 @@ returns c =
 
 pub fill-bounds-spec : {M : Type 1} → statement M
 fill-bounds-spec =
-    tie.close (tie.spec walk-all-requires give-bounds-requires same-length same-length-2 returns)
+    tie.close
+    (tie.spec
+    walk-all-requires
+    give-bounds-requires
+    (λ c. search needs)  -- same-length
+    (λ c. search needs)  -- same-length-2
+    returns)

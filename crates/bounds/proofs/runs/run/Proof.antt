@@ -14,9 +14,6 @@ entry k = k .before .before .before .before .before .before .before
 abbrev passed : tie.After-fill-bounds-arg2 → tie.Else1
 passed c = c .before .before .before .before
 
-accept-run-requires : tie.Need-accept-run-requires
-accept-run-requires c κs = search needs
-
 returns : tie.Need-returns
 returns c =
     let a = entry (c .before) .args in
@@ -29,12 +26,6 @@ fill-bounds-requires c κs =
     let k = passed c in
     let t = k .before .accept-run .ensures .1 (k .if1 .left) in
     (t .0 .held, (arrays-valid _ _ _ _ _ (t .0), (t .0 .limited, t .1)))
-
-same-length : tie.Need-same-length
-same-length c = search needs
-
-same-length-2 : tie.Need-same-length-2
-same-length-2 c = search needs
 
 returns-2 : tie.Need-returns-2
 returns-2 c =
@@ -52,4 +43,10 @@ returns-2 c =
 pub run-spec : {M : Type 1} → statement M
 run-spec =
     tie.close
-    (tie.spec accept-run-requires returns fill-bounds-requires same-length same-length-2 returns-2)
+    (tie.spec
+    (λ c κs. search needs)  -- accept-run-requires
+    returns
+    fill-bounds-requires
+    (λ c. search needs)  -- same-length
+    (λ c. search needs)  -- same-length-2
+    returns-2)

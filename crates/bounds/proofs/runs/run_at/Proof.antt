@@ -17,9 +17,6 @@ ran c = c .before .before
 abbrev passed : tie.After-fill-bounds-arg2 → tie.Else2
 passed c = c .before .before .before .before .before
 
-accept-run-requires : tie.Need-accept-run-requires
-accept-run-requires c κs = search needs
-
 returns : tie.Need-returns
 returns c =
     let a = entry (c .before) .args in
@@ -40,20 +37,11 @@ returns-2 c =
     (work-decides (a .h) (a .links .now) (a .events .now) (a .windows .now) (a .minute) (a .lower .now) (a .upper .now) _ _ (k .before .accept-run .ensures .0) (k .if1 .left) (c .before .work-refusal .ensures))
     (c .if2 .taken)
 
-out-at-requires : tie.Need-out-at-requires
-out-at-requires c κs = search needs
-
 fill-bounds-requires : tie.Need-fill-bounds-requires
 fill-bounds-requires c κs =
     let k = ran (passed c) in
     let t = k .before .accept-run .ensures .1 (k .if1 .left) in
     (t .0 .held, (arrays-valid _ _ _ _ _ (t .0), (t .0 .limited, t .1)))
-
-same-length : tie.Need-same-length
-same-length c = search needs
-
-same-length-2 : tie.Need-same-length-2
-same-length-2 c = search needs
 
 returns-3 : tie.Need-returns-3
 returns-3 c =
@@ -75,12 +63,12 @@ pub run-at-spec : {M : Type 1} → statement M
 run-at-spec =
     tie.close
     (tie.spec
-    accept-run-requires
+    (λ c κs. search needs)  -- accept-run-requires
     returns
     work-refusal-requires
     returns-2
-    out-at-requires
+    (λ c κs. search needs)  -- out-at-requires
     fill-bounds-requires
-    same-length
-    same-length-2
+    (λ c. search needs)  -- same-length
+    (λ c. search needs)  -- same-length-2
     returns-3)

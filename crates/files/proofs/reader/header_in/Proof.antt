@@ -10,14 +10,14 @@ use Rattle.files.proofs.reader.header_in.Lts as lts
 enum-told : tie.Need-enum-told
 enum-told c = search needs
 
-enum-known-answer : tie.Need-enum-known-answer
-enum-known-answer c = search needs
-
 returns : tie.Need-returns
 returns c = sym (ap headerIn (c .enum-told .given .1))
 
-returns-2 : tie.Need-returns-2
-returns-2 c = search needs
-
 pub header-in-spec : {M : Type 1} → statement M
-header-in-spec = tie.close (tie.spec enum-told enum-known-answer returns returns-2)
+header-in-spec =
+    tie.close
+    (tie.spec
+    enum-told
+    (λ c. search needs)  -- enum-known-answer
+    returns
+    (λ c. search needs))  -- returns-2

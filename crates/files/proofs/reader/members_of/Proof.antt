@@ -35,9 +35,6 @@ loop-holds c = (c .before .pre .1, omega arith, omega arith, omega arith, omega 
 member-at-requires : tie.Need-member-at-requires Inv-loop μ-loop
 member-at-requires c κs = tt
 
-enum-known-answer : tie.Need-enum-known-answer Inv-loop μ-loop
-enum-known-answer c = search needs
-
 enum-told : tie.Need-enum-told Inv-loop μ-loop
 enum-told c = search needs
 
@@ -161,7 +158,7 @@ members-of-spec =
     μ-loop
     loop-holds
     member-at-requires
-    enum-known-answer
+    (λ c. search needs)  -- enum-known-answer
     enum-told
     returns
     with-element-requires

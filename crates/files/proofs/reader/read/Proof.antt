@@ -74,12 +74,6 @@ copy-words-requires : tie.Need-copy-words-requires
 copy-words-requires c κs =
     let b = bounds (c .before .before .before .before .before .before .before) in (omega (arith, b, words-long (c .before .before .before .before .before .before .before .before)), omega (arith, b))
 
-same-length : tie.Need-same-length
-same-length c = search needs
-
-same-length-2 : tie.Need-same-length-2
-same-length-2 c = search needs
-
 returns : tie.Need-returns
 returns c =
     let r = c .before .before .before .before .before .before .before .before .before .before .before in
@@ -110,6 +104,6 @@ read-spec =
     slice-aggregate-copy-words
     mul-copy-words
     copy-words-requires
-    same-length
-    same-length-2
+    (λ c. search needs)  -- same-length
+    (λ c. search needs)  -- same-length-2
     returns)

@@ -14,15 +14,6 @@ use Rattle.files.proofs.reader.read_at.Tie as tie
 smaller-requires : tie.Need-smaller-requires
 smaller-requires c κs = tt
 
-sub-read-core : tie.Need-sub-read-core
-sub-read-core c = search needs
-
-part-read-core-start : tie.Need-part-read-core-start
-part-read-core-start c = search needs
-
-part-read-core-end : tie.Need-part-read-core-end
-part-read-core-end c = search needs
-
 read-core-requires : tie.Need-read-core-requires
 read-core-requires c κs = tt
 
@@ -44,8 +35,8 @@ read-at-spec =
     tie.close
     (tie.spec
     smaller-requires
-    sub-read-core
-    part-read-core-start
-    part-read-core-end
+    (λ c. search needs)  -- sub-read-core
+    (λ c. search needs)  -- part-read-core-start
+    (λ c. search needs)  -- part-read-core-end
     read-core-requires
     returns)

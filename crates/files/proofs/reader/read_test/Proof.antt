@@ -25,9 +25,6 @@ returns c = stop _ (c .before .check .ensures) (c .if1 .taken)
 byte-at-requires : tie.Need-byte-at-requires
 byte-at-requires c κs = omega (arith, there c)
 
-mul-room-test : tie.Need-mul-room-test
-mul-room-test c = search needs
-
 room-test-requires : tie.Need-room-test-requires
 room-test-requires c κs = tt
 
@@ -62,7 +59,7 @@ read-test-spec =
     check-requires
     returns
     byte-at-requires
-    mul-room-test
+    (λ c. search needs)  -- mul-room-test
     room-test-requires
     returns-2
     byte-at-requires-2

@@ -10,9 +10,6 @@ use Rattle.files.proofs.ReaderLaws.{shift-one, bit-fits, low-below, hig
 use Rattle.files.proofs.reader.with_element.Statement.{statement}
 use Rattle.files.proofs.reader.with_element.Tie as tie
 
-enum-known-element : tie.Need-enum-known-element
-enum-known-element c = search needs
-
 -- the element, as its arm knows it, is above its set
 node-above : (c : tie.After-known-told) → (c .before .element .given .0 .0 < 64) × (c .before .before .before .args .m .nodes < 2 ^ c .before .element .given .0 .0)
 node-above c =
@@ -25,9 +22,6 @@ shl-t6 c = node-above c .0
 add-t7 : tie.Need-add-t7
 add-t7 c = record { fits = bit-fits _ _ (node-above (c .before) .0) (node-above (c .before) .1) }
 
-enum-known-element-2 : tie.Need-enum-known-element-2
-enum-known-element-2 c = search needs
-
 link-above :
     (c : tie.After-known-told2)
     → (c .before .element2 .given .0 .0 < 128)
@@ -35,9 +29,6 @@ link-above :
 link-above c =
     let a = c .before .before .before .args in
     subst (λ (e : Element). Above e (a .m .nodes) (joined (a .m .low) (a .m .high))) (c .before .element2 .given .1) (c .before .before .before .pre)
-
-shl-t10 : tie.Need-shl-t10
-shl-t10 c = search needs
 
 add-t11 : tie.Need-add-t11
 add-t11 c =
@@ -73,11 +64,11 @@ pub with-element-spec : {M : Type 1} → statement M
 with-element-spec =
     tie.close
     (tie.spec
-    enum-known-element
+    (λ c. search needs)  -- enum-known-element
     shl-t6
     add-t7
-    enum-known-element-2
-    shl-t10
+    (λ c. search needs)  -- enum-known-element-2
+    (λ c. search needs)  -- shl-t10
     add-t11
     shl-t13
     add-t14

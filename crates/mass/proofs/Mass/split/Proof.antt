@@ -7,14 +7,8 @@ use Rattle.mass.proofs.Answer.{too-heavy, too-probable, parted, mass-fi
 use Rattle.mass.proofs.Mass.split.Statement.{statement}
 use Rattle.mass.proofs.Mass.split.Tie as tie
 
-mass-test-requires : tie.Need-mass-test-requires
-mass-test-requires c κs = search needs
-
 returns : tie.Need-returns
 returns c = too-heavy _ _ _ (c .before .mass-test .ensures) (c .if1 .taken)
-
-probability-test-requires : tie.Need-probability-test-requires
-probability-test-requires c κs = search needs
 
 returns-2 : tie.Need-returns-2
 returns-2 c =
@@ -41,9 +35,9 @@ pub split-spec : {M : Type 1} → statement M
 split-spec =
     tie.close
     (tie.spec
-    mass-test-requires
+    (λ c κs. search needs)  -- mass-test-requires
     returns
-    probability-test-requires
+    (λ c κs. search needs)  -- probability-test-requires
     returns-2
     both-parts-requires
     returns-3)

@@ -22,9 +22,6 @@ abbrev μ-loop : tie.MeasureT-loop
 loop-holds : tie.Need-loop-holds Inv-loop μ-loop
 loop-holds c = (omega arith, refl)
 
-lowest-requires : tie.Need-lowest-requires Inv-loop μ-loop
-lowest-requires c κs = search needs
-
 -- the element found is the number of an event
 below : (c : tie.After-lowest Inv-loop μ-loop) → c .before .before .before .args .base + c .lowest .result < c .before .before .before .args .count
 below c =
@@ -39,9 +36,6 @@ add-with-event c = omega (arith, below c)
 
 with-event-requires : tie.Need-with-event-requires Inv-loop μ-loop
 with-event-requires c κs = omega (arith, below c)
-
-rest-requires : tie.Need-rest-requires Inv-loop μ-loop
-rest-requires c κs = search needs
 
 loop-less : tie.Need-loop-less Inv-loop μ-loop
 loop-less c = c .rest .ensures .0
@@ -69,4 +63,15 @@ returns c =
 
 pub failed-word-spec : {M : Type 1} → statement M
 failed-word-spec =
-    tie.close (tie.spec Inv-loop μ-loop loop-holds lowest-requires add-with-event with-event-requires rest-requires loop-less loop-again returns)
+    tie.close
+    (tie.spec
+    Inv-loop
+    μ-loop
+    loop-holds
+    (λ c κs. search needs)  -- lowest-requires
+    add-with-event
+    with-event-requires
+    (λ c κs. search needs)  -- rest-requires
+    loop-less
+    loop-again
+    returns)

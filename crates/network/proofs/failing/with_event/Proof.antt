@@ -7,30 +7,6 @@ use Rattle.network.proofs.Events.{named-words}
 use Rattle.network.proofs.failing.with_event.Statement.{statement}
 use Rattle.network.proofs.failing.with_event.Tie as tie
 
-mul-at : tie.Need-mul-at
-mul-at c = search needs
-
-add-word : tie.Need-add-word
-add-word c = search needs
-
-word-requires : tie.Need-word-requires
-word-requires c κs = search needs
-
-add-word-2 : tie.Need-add-word-2
-add-word-2 c = search needs
-
-word-requires-2 : tie.Need-word-requires-2
-word-requires-2 c κs = search needs
-
-add-word-3 : tie.Need-add-word-3
-add-word-3 c = search needs
-
-word-requires-3 : tie.Need-word-requires-3
-word-requires-3 c κs = search needs
-
-beside-requires : tie.Need-beside-requires
-beside-requires c κs = search needs
-
 returns : tie.Need-returns
 returns c =
     let e = c .before in
@@ -46,12 +22,12 @@ pub with-event-spec : {M : Type 1} → statement M
 with-event-spec =
     tie.close
     (tie.spec
-    mul-at
-    add-word
-    word-requires
-    add-word-2
-    word-requires-2
-    add-word-3
-    word-requires-3
-    beside-requires
+    (λ c. search needs)  -- mul-at
+    (λ c. search needs)  -- add-word
+    (λ c κs. search needs)  -- word-requires
+    (λ c. search needs)  -- add-word-2
+    (λ c κs. search needs)  -- word-requires-2
+    (λ c. search needs)  -- add-word-3
+    (λ c κs. search needs)  -- word-requires-3
+    (λ c κs. search needs)  -- beside-requires
     returns)

@@ -8,42 +8,6 @@ use Rattle.network.proofs.RowSets.{both-put}
 use Rattle.network.proofs.rows.join.Statement.{statement}
 use Rattle.network.proofs.rows.join.Tie as tie
 
-mul-union : tie.Need-mul-union
-mul-union c = search needs
-
-element-copy-out-union : tie.Need-element-copy-out-union
-element-copy-out-union c = search needs
-
-only-requires : tie.Need-only-requires
-only-requires c κs = search needs
-
-union-requires : tie.Need-union-requires
-union-requires c κs = search needs
-
-mul-rows : tie.Need-mul-rows
-mul-rows c = search needs
-
-element-write-rows : tie.Need-element-write-rows
-element-write-rows c = search needs
-
-mul-union-2 : tie.Need-mul-union-2
-mul-union-2 c = search needs
-
-element-copy-out-union-2 : tie.Need-element-copy-out-union-2
-element-copy-out-union-2 c = search needs
-
-only-requires-2 : tie.Need-only-requires-2
-only-requires-2 c κs = search needs
-
-union-requires-2 : tie.Need-union-requires-2
-union-requires-2 c κs = search needs
-
-mul-rows-2 : tie.Need-mul-rows-2
-mul-rows-2 c = search needs
-
-element-write-rows-2 : tie.Need-element-write-rows-2
-element-write-rows-2 c = search needs
-
 returns : tie.Need-returns
 returns c =
     let start = c .before .before .before .before .before .before in
@@ -63,16 +27,16 @@ pub join-spec : {M : Type 1} → statement M
 join-spec =
     tie.close
     (tie.spec
-    mul-union
-    element-copy-out-union
-    only-requires
-    union-requires
-    mul-rows
-    element-write-rows
-    mul-union-2
-    element-copy-out-union-2
-    only-requires-2
-    union-requires-2
-    mul-rows-2
-    element-write-rows-2
+    (λ c. search needs)  -- mul-union
+    (λ c. search needs)  -- element-copy-out-union
+    (λ c κs. search needs)  -- only-requires
+    (λ c κs. search needs)  -- union-requires
+    (λ c. search needs)  -- mul-rows
+    (λ c. search needs)  -- element-write-rows
+    (λ c. search needs)  -- mul-union-2
+    (λ c. search needs)  -- element-copy-out-union-2
+    (λ c κs. search needs)  -- only-requires-2
+    (λ c κs. search needs)  -- union-requires-2
+    (λ c. search needs)  -- mul-rows-2
+    (λ c. search needs)  -- element-write-rows-2
     returns)

@@ -7,9 +7,6 @@ use Rattle.network.proofs.Adjacent.{low-below, high-below, rows-adjacen
 use Rattle.network.proofs.rows.neighbours.Statement.{statement}
 use Rattle.network.proofs.rows.neighbours.Tie as tie
 
-working-links-requires : tie.Need-working-links-requires
-working-links-requires c κs = search needs
-
 put-in-requires : tie.Need-put-in-requires
 put-in-requires c κs =
     let w = c .before in
@@ -47,4 +44,9 @@ returns c =
 
 pub neighbours-spec : {M : Type 1} → statement M
 neighbours-spec =
-    tie.close (tie.spec working-links-requires put-in-requires put-in-requires-2 returns)
+    tie.close
+    (tie.spec
+    (λ c κs. search needs)  -- working-links-requires
+    put-in-requires
+    put-in-requires-2
+    returns)

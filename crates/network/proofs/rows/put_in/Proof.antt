@@ -15,9 +15,6 @@ abbrev μ-loop : tie.MeasureT-loop
 loop-holds : tie.Need-loop-holds Inv-loop μ-loop
 loop-holds c = putting-none _ _ _ _ (c .pre .0)
 
-lowest-requires : tie.Need-lowest-requires Inv-loop μ-loop
-lowest-requires c κs = search needs
-
 -- the element found is the number of a link
 below : (c : tie.After-lowest Inv-loop μ-loop) → c .before .before .before .args .base + c .lowest .result < c .before .before .before .args .count
 below c =
@@ -34,9 +31,6 @@ end-requires-2 c κs = (c .before .before .before .before .before .pre .1 .0, (b
 
 join-requires : tie.Need-join-requires Inv-loop μ-loop
 join-requires c κs = (c .before .before .before .before .before .loop .inv .size, (c .before .end .ensures .1, c .end2 .ensures .1))
-
-rest-requires : tie.Need-rest-requires Inv-loop μ-loop
-rest-requires c κs = search needs
 
 loop-less : tie.Need-loop-less Inv-loop μ-loop
 loop-less c = c .rest .ensures .0
@@ -74,12 +68,12 @@ put-in-spec =
     Inv-loop
     μ-loop
     loop-holds
-    lowest-requires
+    (λ c κs. search needs)  -- lowest-requires
     add-i
     end-requires
     end-requires-2
     join-requires
-    rest-requires
+    (λ c κs. search needs)  -- rest-requires
     loop-less
     loop-again
     returns)

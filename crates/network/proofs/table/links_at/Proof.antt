@@ -18,23 +18,11 @@ abbrev μ-loop : tie.MeasureT-loop
 loop-holds : tie.Need-loop-holds Inv-loop μ-loop
 loop-holds c = (omega arith, refl, table-none (c .args .links .now))
 
-end-requires : tie.Need-end-requires Inv-loop μ-loop
-end-requires c κs = search needs
-
 put-at-requires : tie.Need-put-at-requires Inv-loop μ-loop
 put-at-requires c κs = (c .before .before .before .loop .inv .1, (c .end .ensures .1, omega arith))
 
-end-requires-2 : tie.Need-end-requires-2 Inv-loop μ-loop
-end-requires-2 c κs = search needs
-
 put-at-requires-2 : tie.Need-put-at-requires-2 Inv-loop μ-loop
 put-at-requires-2 c κs = (c .before .before .put-at .ensures .0, (c .end2 .ensures .1, omega arith))
-
-add-i : tie.Need-add-i Inv-loop μ-loop
-add-i c = search needs
-
-loop-less : tie.Need-loop-less Inv-loop μ-loop
-loop-less c = search needs
 
 loop-again : tie.Need-loop-again Inv-loop μ-loop
 loop-again c =
@@ -66,11 +54,11 @@ links-at-spec =
     Inv-loop
     μ-loop
     loop-holds
-    end-requires
+    (λ c κs. search needs)  -- end-requires
     put-at-requires
-    end-requires-2
+    (λ c κs. search needs)  -- end-requires-2
     put-at-requires-2
-    add-i
-    loop-less
+    (λ c. search needs)  -- add-i
+    (λ c. search needs)  -- loop-less
     loop-again
     returns)

@@ -9,30 +9,6 @@ use Rattle.network.proofs.NodeLinks.{table-put}
 use Rattle.network.proofs.table.put_at.Statement.{statement}
 use Rattle.network.proofs.table.put_at.Tie as tie
 
-mul-k : tie.Need-mul-k
-mul-k c = search needs
-
-add-k : tie.Need-add-k
-add-k c = search needs
-
-mul-union : tie.Need-mul-union
-mul-union c = search needs
-
-element-copy-out-union : tie.Need-element-copy-out-union
-element-copy-out-union c = search needs
-
-only-requires : tie.Need-only-requires
-only-requires c κs = search needs
-
-union-requires : tie.Need-union-requires
-union-requires c κs = search needs
-
-mul-table : tie.Need-mul-table
-mul-table c = search needs
-
-element-write-table : tie.Need-element-write-table
-element-write-table c = search needs
-
 returns : tie.Need-returns
 returns c =
     let start = c .before .before .before in
@@ -49,12 +25,12 @@ pub put-at-spec : {M : Type 1} → statement M
 put-at-spec =
     tie.close
     (tie.spec
-    mul-k
-    add-k
-    mul-union
-    element-copy-out-union
-    only-requires
-    union-requires
-    mul-table
-    element-write-table
+    (λ c. search needs)  -- mul-k
+    (λ c. search needs)  -- add-k
+    (λ c. search needs)  -- mul-union
+    (λ c. search needs)  -- element-copy-out-union
+    (λ c κs. search needs)  -- only-requires
+    (λ c κs. search needs)  -- union-requires
+    (λ c. search needs)  -- mul-table
+    (λ c. search needs)  -- element-write-table
     returns)

@@ -18,33 +18,6 @@ abbrev μ-loop : tie.MeasureT-loop
 loop-holds : tie.Need-loop-holds Inv-loop μ-loop
 loop-holds c = (omega arith, λ i h. refl)
 
-lowest-requires : tie.Need-lowest-requires Inv-loop μ-loop
-lowest-requires c κs = search needs
-
-mul-word : tie.Need-mul-word Inv-loop μ-loop
-mul-word c = search needs
-
-word-requires : tie.Need-word-requires Inv-loop μ-loop
-word-requires c κs = search needs
-
-less-requires : tie.Need-less-requires Inv-loop μ-loop
-less-requires c κs = search needs
-
-mul-word-2 : tie.Need-mul-word-2 Inv-loop μ-loop
-mul-word-2 c = search needs
-
-add-word : tie.Need-add-word Inv-loop μ-loop
-add-word c = search needs
-
-word-requires-2 : tie.Need-word-requires-2 Inv-loop μ-loop
-word-requires-2 c κs = search needs
-
-less-requires-2 : tie.Need-less-requires-2 Inv-loop μ-loop
-less-requires-2 c κs = search needs
-
-rest-requires : tie.Need-rest-requires Inv-loop μ-loop
-rest-requires c κs = search needs
-
 loop-less : tie.Need-loop-less Inv-loop μ-loop
 loop-less c = c .rest .ensures .0
 
@@ -85,15 +58,15 @@ apart-from-spec =
     Inv-loop
     μ-loop
     loop-holds
-    lowest-requires
-    mul-word
-    word-requires
-    less-requires
-    mul-word-2
-    add-word
-    word-requires-2
-    less-requires-2
-    rest-requires
+    (λ c κs. search needs)  -- lowest-requires
+    (λ c. search needs)  -- mul-word
+    (λ c κs. search needs)  -- word-requires
+    (λ c κs. search needs)  -- less-requires
+    (λ c. search needs)  -- mul-word-2
+    (λ c. search needs)  -- add-word
+    (λ c κs. search needs)  -- word-requires-2
+    (λ c κs. search needs)  -- less-requires-2
+    (λ c κs. search needs)  -- rest-requires
     loop-less
     loop-again
     returns)

@@ -5,18 +5,6 @@ use Rattle.network.proofs.LinkBytes.{end-below}
 use Rattle.network.proofs.working.end.Statement.{statement}
 use Rattle.network.proofs.working.end.Tie as tie
 
-mul-wide : tie.Need-mul-wide
-mul-wide c = search needs
-
-add-wide : tie.Need-add-wide
-add-wide c = search needs
-
-element-copy-out-wide : tie.Need-element-copy-out-wide
-element-copy-out-wide c = search needs
-
-wide-requires : tie.Need-wide-requires
-wide-requires c κs = search needs
-
 returns : tie.Need-returns
 returns c =
     let a = c .before .before .args in
@@ -25,4 +13,11 @@ returns c =
     (c .wide .ensures, omega (arith, c .wide .ensures))
 
 pub end-spec : {M : Type 1} → statement M
-end-spec = tie.close (tie.spec mul-wide add-wide element-copy-out-wide wide-requires returns)
+end-spec =
+    tie.close
+    (tie.spec
+    (λ c. search needs)  -- mul-wide
+    (λ c. search needs)  -- add-wide
+    (λ c. search needs)  -- element-copy-out-wide
+    (λ c κs. search needs)  -- wide-requires
+    returns)

@@ -6,17 +6,8 @@ use Rattle.network.proofs.NodeLinks.{first-few, first-many}
 use Rattle.network.proofs.working.first_links.Statement.{statement}
 use Rattle.network.proofs.working.first_links.Tie as tie
 
-first-requires : tie.Need-first-requires
-first-requires c κs = search needs
-
 returns : tie.Need-returns
 returns c = first-few (c .before .before .args .count) (c .first .result) 0 (omega arith) (c .before .if1 .taken) refl (c .first .ensures)
-
-first-requires-2 : tie.Need-first-requires-2
-first-requires-2 c κs = search needs
-
-first-requires-3 : tie.Need-first-requires-3
-first-requires-3 c κs = search needs
 
 returns-2 : tie.Need-returns-2
 returns-2 c =
@@ -27,4 +18,10 @@ returns-2 c =
 
 pub first-links-spec : {M : Type 1} → statement M
 first-links-spec =
-    tie.close (tie.spec first-requires returns first-requires-2 first-requires-3 returns-2)
+    tie.close
+    (tie.spec
+    (λ c κs. search needs)  -- first-requires
+    returns
+    (λ c κs. search needs)  -- first-requires-2
+    (λ c κs. search needs)  -- first-requires-3
+    returns-2)

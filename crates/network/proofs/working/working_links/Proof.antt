@@ -11,18 +11,6 @@ use Rattle.network.proofs.NodeLinks.{working-are}
 use Rattle.network.proofs.working.working_links.Statement.{statement}
 use Rattle.network.proofs.working.working_links.Tie as tie
 
-first-links-requires : tie.Need-first-links-requires
-first-links-requires c κs = search needs
-
-less-requires : tie.Need-less-requires
-less-requires c κs = search needs
-
-less-requires-2 : tie.Need-less-requires-2
-less-requires-2 c κs = search needs
-
-apart-from-requires : tie.Need-apart-from-requires
-apart-from-requires c κs = search needs
-
 returns : tie.Need-returns
 returns c = λ n bytes held made.
     let first = c .before .before .before .first-links in
@@ -45,4 +33,9 @@ returns c = λ n bytes held made.
 pub working-links-spec : {M : Type 1} → statement M
 working-links-spec =
     tie.close
-    (tie.spec first-links-requires less-requires less-requires-2 apart-from-requires returns)
+    (tie.spec
+    (λ c κs. search needs)  -- first-links-requires
+    (λ c κs. search needs)  -- less-requires
+    (λ c κs. search needs)  -- less-requires-2
+    (λ c κs. search needs)  -- apart-from-requires
+    returns)

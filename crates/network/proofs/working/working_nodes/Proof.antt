@@ -6,14 +6,13 @@ use Rattle.sets.specs.Sets.{bit}
 use Rattle.network.proofs.working.working_nodes.Statement.{statement}
 use Rattle.network.proofs.working.working_nodes.Tie as tie
 
-first-requires : tie.Need-first-requires
-first-requires c κs = search needs
-
-less-requires : tie.Need-less-requires
-less-requires c κs = search needs
-
 returns : tie.Need-returns
 returns c = λ v. c .less .ensures v ∙ ap (λ (x : Bool). x && not (bit (c .before .before .args .failed) v)) (c .before .first .ensures v)
 
 pub working-nodes-spec : {M : Type 1} → statement M
-working-nodes-spec = tie.close (tie.spec first-requires less-requires returns)
+working-nodes-spec =
+    tie.close
+    (tie.spec
+    (λ c κs. search needs)  -- first-requires
+    (λ c κs. search needs)  -- less-requires
+    returns)

@@ -13,20 +13,8 @@ Inv-loop lower₀ base n rows nodes mass all left₀ lower left = CutTurn lower�
 abbrev μ-loop : tie.MeasureT-loop
 μ-loop lower₀ base n rows nodes mass all left₀ lower left = left
 
-first-requires : tie.Need-first-requires Inv-loop μ-loop
-first-requires c κs = search needs
-
 loop-holds : tie.Need-loop-holds Inv-loop μ-loop
 loop-holds c = cut-begins _ _ _ _ _ _ (c .before .before .pre)
-
-lowest-requires : tie.Need-lowest-requires Inv-loop μ-loop
-lowest-requires c κs = search needs
-
-reach-requires : tie.Need-reach-requires Inv-loop μ-loop
-reach-requires c κs = search needs
-
-less-requires : tie.Need-less-requires Inv-loop μ-loop
-less-requires c κs = search needs
 
 same-length : tie.Need-same-length Inv-loop μ-loop
 same-length c = c .before .before .before .before .before .loop .inv .sized
@@ -39,9 +27,6 @@ add-rows-requires : tie.Need-add-rows-requires Inv-loop μ-loop
 add-rows-requires c κs =
     part-asked _ _ _ _ _ _ _ _ (c .before .before .before .before .before .before .loop .inv) _ (c .before .before .before .before .before .before .before .first .ensures) _ _ (c .before .before .before .before .lowest .ensures .1 .1 .0) (c .before .before .before .reach .ensures .0) _ (c .before .before .less .ensures)
 
-less-requires-2 : tie.Need-less-requires-2 Inv-loop μ-loop
-less-requires-2 c κs = search needs
-
 loop-less : tie.Need-loop-less Inv-loop μ-loop
 loop-less c =
     let low = c .before .before .before .before .before .before .before .before .lowest in
@@ -52,9 +37,6 @@ loop-less c =
 loop-again : tie.Need-loop-again Inv-loop μ-loop
 loop-again c =
     cut-turned _ _ _ _ _ _ _ _ (c .before .before .before .before .before .before .before .before .before .before .loop .inv) _ (c .before .before .before .before .before .before .before .before .before .before .before .first .ensures) _ _ (c .before .before .before .before .before .before .before .before .lowest .ensures .1 .1 .0) (c .before .before .before .before .before .before .before .reach .ensures .0) _ (c .before .before .before .before .before .before .less .ensures) _ (c .before .before .before .add-rows .ensures) _ (c .less2 .ensures)
-
-less-requires-3 : tie.Need-less-requires-3 Inv-loop μ-loop
-less-requires-3 c κs = search needs
 
 add-rows-requires-2 : tie.Need-add-rows-requires-2 Inv-loop μ-loop
 add-rows-requires-2 c κs =
@@ -73,18 +55,18 @@ add-cut-spec =
     (tie.spec
     Inv-loop
     μ-loop
-    first-requires
+    (λ c κs. search needs)  -- first-requires
     loop-holds
-    lowest-requires
-    reach-requires
-    less-requires
+    (λ c κs. search needs)  -- lowest-requires
+    (λ c κs. search needs)  -- reach-requires
+    (λ c κs. search needs)  -- less-requires
     same-length
     returns
     add-rows-requires
-    less-requires-2
+    (λ c κs. search needs)  -- less-requires-2
     loop-less
     loop-again
-    less-requires-3
+    (λ c κs. search needs)  -- less-requires-3
     add-rows-requires-2
     same-length-2
     returns-2)

@@ -20,18 +20,6 @@ abbrev μ-loop : tie.MeasureT-loop
 loop-holds : tie.Need-loop-holds Inv-loop μ-loop
 loop-holds c = rows-begin _ _ _ _ _ _ (c .before .pre)
 
-lowest-requires : tie.Need-lowest-requires Inv-loop μ-loop
-lowest-requires c κs = search needs
-
-add-first : tie.Need-add-first Inv-loop μ-loop
-add-first c = search needs
-
-first-requires : tie.Need-first-requires Inv-loop μ-loop
-first-requires c κs = search needs
-
-less-requires : tie.Need-less-requires Inv-loop μ-loop
-less-requires c κs = search needs
-
 same-length : tie.Need-same-length Inv-loop μ-loop
 same-length c = c .before .before .before .before .before .loop .inv .sized
 
@@ -50,16 +38,10 @@ add-add-row c =
     let g = c .before .before .before .before .before .before .before .loop .inv in
     omega (arith, g .asked .low, c .start-of .ensures, start-most _ _ (g .asked .few) (start-of-requires (c .before) _ .1))
 
-add-add-row-2 : tie.Need-add-add-row-2 Inv-loop μ-loop
-add-add-row-2 c = search needs
-
 add-row-requires : tie.Need-add-row-requires Inv-loop μ-loop
 add-row-requires c κs =
     rw (c .start-of .ensures)
     (row-asked _ _ _ _ _ _ _ _ (c .before .before .before .before .before .before .before .loop .inv) _ (c .before .before .before .before .before .lowest .ensures .1 .1 .0) _ (c .before .before .before .before .first .ensures) _ (c .before .before .before .less .ensures))
-
-rest-requires : tie.Need-rest-requires Inv-loop μ-loop
-rest-requires c κs = search needs
 
 loop-less : tie.Need-loop-less Inv-loop μ-loop
 loop-less c = c .rest .ensures .0
@@ -87,17 +69,17 @@ add-rows-spec =
     Inv-loop
     μ-loop
     loop-holds
-    lowest-requires
-    add-first
-    first-requires
-    less-requires
+    (λ c κs. search needs)  -- lowest-requires
+    (λ c. search needs)  -- add-first
+    (λ c κs. search needs)  -- first-requires
+    (λ c κs. search needs)  -- less-requires
     same-length
     returns
     start-of-requires
     add-add-row
-    add-add-row-2
+    (λ c. search needs)  -- add-add-row-2
     add-row-requires
-    rest-requires
+    (λ c κs. search needs)  -- rest-requires
     loop-less
     loop-again
     same-length-2

@@ -5,15 +5,6 @@ use Rattle.pairs.proofs.PairLaws.{at-place-is, inside}
 use Rattle.pairs.proofs.places.place_of.Statement.{statement}
 use Rattle.pairs.proofs.places.place_of.Tie as tie
 
-start-of-requires : tie.Need-start-of-requires
-start-of-requires c κs = search needs
-
-add-result : tie.Need-add-result
-add-result c = search needs
-
-sub-result : tie.Need-sub-result
-sub-result c = search needs
-
 add-result-2 : tie.Need-add-result-2
 add-result-2 c =
     let pre = c .before .pre in
@@ -26,4 +17,11 @@ returns c =
     (at-place-is (a .n) (a .v) (a .w) _ (c .start-of .ensures), inside (a .n) (a .v) (a .w) _ (c .start-of .ensures) (pre .0) (pre .1) (pre .2))
 
 pub place-of-spec : {M : Type 1} → statement M
-place-of-spec = tie.close (tie.spec start-of-requires add-result sub-result add-result-2 returns)
+place-of-spec =
+    tie.close
+    (tie.spec
+    (λ c κs. search needs)  -- start-of-requires
+    (λ c. search needs)  -- add-result
+    (λ c. search needs)  -- sub-result
+    add-result-2
+    returns)

@@ -6,12 +6,6 @@ use Rattle.pairs.proofs.PairLaws.{product-fits, once-at-least, start-cl
 use Rattle.pairs.proofs.places.start_of.Statement.{statement}
 use Rattle.pairs.proofs.places.start_of.Tie as tie
 
-mul-result : tie.Need-mul-result
-mul-result c = search needs
-
-sub-result : tie.Need-sub-result
-sub-result c = search needs
-
 mul-result-2 : tie.Need-mul-result-2
 mul-result-2 c = record { fits = product-fits _ _ (omega (arith, c .pre)) (omega (arith, c .pre)) }
 
@@ -22,4 +16,11 @@ returns : tie.Need-returns
 returns c = omega (arith, start-closed (c .args .n) (c .args .v) (2 * c .args .n - c .args .v) (c .pre .1) (omega (arith, c .pre)))
 
 pub start-of-spec : {M : Type 1} → statement M
-start-of-spec = tie.close (tie.spec mul-result sub-result mul-result-2 sub-result-2 returns)
+start-of-spec =
+    tie.close
+    (tie.spec
+    (λ c. search needs)  -- mul-result
+    (λ c. search needs)  -- sub-result
+    mul-result-2
+    sub-result-2
+    returns)

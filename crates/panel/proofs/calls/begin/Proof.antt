@@ -11,12 +11,6 @@ use Rattle.panel.proofs.Beginning.{is-root, begun}
 use Rattle.panel.proofs.calls.begin.Statement.{statement}
 use Rattle.panel.proofs.calls.begin.Tie as tie
 
-accept-requires : tie.Need-accept-requires
-accept-requires c κs = search needs
-
-no-walk-requires : tie.Need-no-walk-requires
-no-walk-requires c κs = search needs
-
 returns : tie.Need-returns
 returns c =
     let one = c .before in
@@ -26,9 +20,6 @@ returns c =
       rw (c .no-walk .ensures) (refused _ walk (one .if1 .taken)) ∙ ap (λ (n : ℕ). walkAnswer n walk) number,
       λ z. absurd (one .if1 .taken (number ∙ z)),
     )
-
-begin-requires : tie.Need-begin-requires
-begin-requires c κs = search needs
 
 returns-2 : tie.Need-returns-2
 returns-2 c =
@@ -43,4 +34,11 @@ returns-2 c =
     )
 
 pub begin-spec : {M : Type 1} → statement M
-begin-spec = tie.close (tie.spec accept-requires no-walk-requires returns begin-requires returns-2)
+begin-spec =
+    tie.close
+    (tie.spec
+    (λ c κs. search needs)  -- accept-requires
+    (λ c κs. search needs)  -- no-walk-requires
+    returns
+    (λ c κs. search needs)  -- begin-requires
+    returns-2)

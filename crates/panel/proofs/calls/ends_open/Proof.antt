@@ -7,9 +7,6 @@ use Rattle.panel.proofs.Wanted.{open-unsound, open-ended, open-sound}
 use Rattle.panel.proofs.calls.ends_open.Statement.{statement}
 use Rattle.panel.proofs.calls.ends_open.Tie as tie
 
-is-sound-requires : tie.Need-is-sound-requires
-is-sound-requires c κs = search needs
-
 returns : tie.Need-returns
 returns c = sym (open-unsound _ (sym (c .before .is-sound .ensures) ∙ not-true _ (c .if1 .taken)))
 
@@ -30,4 +27,11 @@ returns-3 c =
     sym (open-sound _ (two .if2 .left) (sym (one .before .is-sound .ensures) ∙ not-false _ (one .if1 .left)))
 
 pub ends-open-spec : {M : Type 1} → statement M
-ends-open-spec = tie.close (tie.spec is-sound-requires returns returns-2 sub-result returns-3)
+ends-open-spec =
+    tie.close
+    (tie.spec
+    (λ c κs. search needs)  -- is-sound-requires
+    returns
+    returns-2
+    sub-result
+    returns-3)

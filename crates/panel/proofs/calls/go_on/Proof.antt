@@ -41,33 +41,15 @@ some-allowed c =
     let left = entry (tested c) .args .quota .left in
     omega (arith, c .smaller2 .ensures, tested c .if1 .left, quota-some left (full c))
 
-ends-open-requires : tie.Need-ends-open-requires
-ends-open-requires c κs = search needs
-
-smaller-requires : tie.Need-smaller-requires
-smaller-requires c κs = search needs
-
-unmoved-requires : tie.Need-unmoved-requires
-unmoved-requires c κs = search needs
-
 returns : tie.Need-returns
 returns c =
     let s = c .before .before in
     rw (c .unmoved .ensures) (none-wanted _ _ _ (none-open _ (size (s .before .before)) _ (sym (wanted s) ∙ c .before .if1 .taken)))
 
-quota-test-requires : tie.Need-quota-test-requires
-quota-test-requires c κs = search needs
-
-unmoved-requires-2 : tie.Need-unmoved-requires-2
-unmoved-requires-2 c κs = search needs
-
 returns-2 : tie.Need-returns-2
 returns-2 c =
     let one = c .before .before .before in
     rw (c .unmoved2 .ensures) (none-drawn _ _ _ (opened one .wanted) _ (c .before .before .quota-test .ensures) (c .before .if2 .taken))
-
-smaller-requires-2 : tie.Need-smaller-requires-2
-smaller-requires-2 c κs = search needs
 
 reach-requires : tie.Need-reach-requires
 reach-requires c κs =
@@ -99,14 +81,14 @@ pub go-on-spec : {M : Type 1} → statement M
 go-on-spec =
     tie.close
     (tie.spec
-    ends-open-requires
-    smaller-requires
-    unmoved-requires
+    (λ c κs. search needs)  -- ends-open-requires
+    (λ c κs. search needs)  -- smaller-requires
+    (λ c κs. search needs)  -- unmoved-requires
     returns
-    quota-test-requires
-    unmoved-requires-2
+    (λ c κs. search needs)  -- quota-test-requires
+    (λ c κs. search needs)  -- unmoved-requires-2
     returns-2
-    smaller-requires-2
+    (λ c κs. search needs)  -- smaller-requires-2
     reach-requires
     sub-reached
     sub-t8

@@ -26,12 +26,6 @@ go-on-requires c κs =
     let s = at .before .before .before .before .before .before .before in
     (at .links-at .ensures, ready (s .args .w) (sound-is _ (s .pre .0)) (stack-size s) (s .args .allowed) (s .pre .1) (sums-size s))
 
-sub-t25 : tie.Need-sub-t25
-sub-t25 c = search needs
-
-add-t26 : tie.Need-add-t26
-add-t26 c = search needs
-
 returns : tie.Need-returns
 returns c =
     let on = c .before .before in
@@ -39,4 +33,11 @@ returns c =
     walked (s .args .w) (s .args .allowed) _ _ _ (on .go-on .ensures) (s .pre .1)
 
 pub reach-spec : {M : Type 1} → statement M
-reach-spec = tie.close (tie.spec links-at-requires go-on-requires sub-t25 add-t26 returns)
+reach-spec =
+    tie.close
+    (tie.spec
+    links-at-requires
+    go-on-requires
+    (λ c. search needs)  -- sub-t25
+    (λ c. search needs)  -- add-t26
+    returns)

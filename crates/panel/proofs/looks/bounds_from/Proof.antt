@@ -7,9 +7,6 @@ use Rattle.panel.proofs.Shown.{may-is, shown-true, shown-false}
 use Rattle.panel.proofs.looks.bounds_from.Statement.{statement}
 use Rattle.panel.proofs.looks.bounds_from.Tie as tie
 
-may-show-requires : tie.Need-may-show-requires
-may-show-requires c κs = search needs
-
 returns : tie.Need-returns
 returns c = sym (shown-false _ _ _ (sym (c .before .may-show .ensures) ∙ not-true _ (c .if1 .taken)))
 
@@ -27,4 +24,11 @@ returns-2 : tie.Need-returns-2
 returns-2 c = sym (shown-true _ _ _ (sym (c .before .before .may-show .ensures) ∙ not-false _ (c .before .if1 .left)))
 
 pub bounds-from-spec : {M : Type 1} → statement M
-bounds-from-spec = tie.close (tie.spec may-show-requires returns sub-t8 add-t9 returns-2)
+bounds-from-spec =
+    tie.close
+    (tie.spec
+    (λ c κs. search needs)  -- may-show-requires
+    returns
+    sub-t8
+    add-t9
+    returns-2)

@@ -6,9 +6,6 @@ use Rattle.panel.proofs.Shown.{looked}
 use Rattle.panel.proofs.looks.look.Statement.{statement}
 use Rattle.panel.proofs.looks.look.Tie as tie
 
-none-left-requires : tie.Need-none-left-requires
-none-left-requires c κs = search needs
-
 returns : tie.Need-returns
 returns c =
     let w = c .before .args .w in
@@ -17,4 +14,8 @@ returns c =
     (shown, λ p n at. shown ∙ looked p n w at)
 
 pub look-spec : {M : Type 1} → statement M
-look-spec = tie.close (tie.spec none-left-requires returns)
+look-spec =
+    tie.close
+    (tie.spec
+    (λ c κs. search needs)  -- none-left-requires
+    returns)

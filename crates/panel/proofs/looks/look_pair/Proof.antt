@@ -11,9 +11,6 @@ use Rattle.panel.proofs.Shown.{shown-same, looked-pair}
 use Rattle.panel.proofs.looks.look_pair.Statement.{statement}
 use Rattle.panel.proofs.looks.look_pair.Tie as tie
 
-pair-test-requires : tie.Need-pair-test-requires
-pair-test-requires c κs = search needs
-
 returns : tie.Need-returns
 returns c =
     let a = c .before .before .args in
@@ -24,9 +21,6 @@ sum-of-requires : tie.Need-sum-of-requires
 sum-of-requires c κs =
     let one = c .before .before in
     pair-inside _ _ _ (sym (one .before .pair-test .ensures) ∙ one .if1 .left)
-
-bounds-from-requires : tie.Need-bounds-from-requires
-bounds-from-requires c κs = search needs
 
 returns-2 : tie.Need-returns-2
 returns-2 c =
@@ -39,4 +33,11 @@ returns-2 c =
     (e, λ p n at. e ∙ looked-pair p n (a .w) at (a .v) (a .x))
 
 pub look-pair-spec : {M : Type 1} → statement M
-look-pair-spec = tie.close (tie.spec pair-test-requires returns sum-of-requires bounds-from-requires returns-2)
+look-pair-spec =
+    tie.close
+    (tie.spec
+    (λ c κs. search needs)  -- pair-test-requires
+    returns
+    sum-of-requires
+    (λ c κs. search needs)  -- bounds-from-requires
+    returns-2)

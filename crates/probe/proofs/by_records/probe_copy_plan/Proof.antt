@@ -5,18 +5,6 @@ use borrow.Author.Needs.{needs}
 use Rattle.probe.proofs.by_records.probe_copy_plan.Statement.{statement}
 use Rattle.probe.proofs.by_records.probe_copy_plan.Tie as tie
 
-copy-plan-requires : tie.Need-copy-plan-requires
-copy-plan-requires c κs = search needs
-
-give-size-requires : tie.Need-give-size-requires
-give-size-requires c κs = search needs
-
-same-length : tie.Need-same-length
-same-length c = search needs
-
-same-length-2 : tie.Need-same-length-2
-same-length-2 c = search needs
-
 returns : tie.Need-returns
 returns c =
     let f = c .before .before .give-size .ensures in
@@ -27,4 +15,10 @@ returns c =
 
 pub probe-copy-plan-spec : {M : Type 1} → statement M
 probe-copy-plan-spec =
-    tie.close (tie.spec copy-plan-requires give-size-requires same-length same-length-2 returns)
+    tie.close
+    (tie.spec
+    (λ c κs. search needs)  -- copy-plan-requires
+    (λ c κs. search needs)  -- give-size-requires
+    (λ c. search needs)  -- same-length
+    (λ c. search needs)  -- same-length-2
+    returns)

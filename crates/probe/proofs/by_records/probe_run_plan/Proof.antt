@@ -5,21 +5,6 @@ use borrow.Author.Needs.{needs}
 use Rattle.probe.proofs.by_records.probe_run_plan.Statement.{statement}
 use Rattle.probe.proofs.by_records.probe_run_plan.Tie as tie
 
-run-plan-requires : tie.Need-run-plan-requires
-run-plan-requires c κs = search needs
-
-give-totals-requires : tie.Need-give-totals-requires
-give-totals-requires c κs = search needs
-
-same-length : tie.Need-same-length
-same-length c = search needs
-
-same-length-2 : tie.Need-same-length-2
-same-length-2 c = search needs
-
-same-length-3 : tie.Need-same-length-3
-same-length-3 c = search needs
-
 returns : tie.Need-returns
 returns c =
     let f = c .before .before .give-totals .ensures in
@@ -32,9 +17,9 @@ pub probe-run-plan-spec : {M : Type 1} → statement M
 probe-run-plan-spec =
     tie.close
     (tie.spec
-    run-plan-requires
-    give-totals-requires
-    same-length
-    same-length-2
-    same-length-3
+    (λ c κs. search needs)  -- run-plan-requires
+    (λ c κs. search needs)  -- give-totals-requires
+    (λ c. search needs)  -- same-length
+    (λ c. search needs)  -- same-length-2
+    (λ c. search needs)  -- same-length-3
     returns)

@@ -3,19 +3,16 @@ use borrow.Author.Needs.{needs}
 use Rattle.probe.proofs.further.probe_credit.Statement.{statement}
 use Rattle.probe.proofs.further.probe_credit.Tie as tie
 
-header-requires : tie.Need-header-requires
-header-requires c κs = search needs
-
-credit-requires : tie.Need-credit-requires
-credit-requires c κs = search needs
-
-same-length : tie.Need-same-length
-same-length c = search needs
-
 returns : tie.Need-returns
 returns c =
     let k = c .before .before in
     rw (k .before .before .header .ensures) at (k .credit .ensures)
 
 pub probe-credit-spec : {M : Type 1} → statement M
-probe-credit-spec = tie.close (tie.spec header-requires credit-requires same-length returns)
+probe-credit-spec =
+    tie.close
+    (tie.spec
+    (λ c κs. search needs)  -- header-requires
+    (λ c κs. search needs)  -- credit-requires
+    (λ c. search needs)  -- same-length
+    returns)

@@ -5,18 +5,6 @@ use borrow.Author.Needs.{needs}
 use Rattle.probe.proofs.further.probe_figure.Statement.{statement}
 use Rattle.probe.proofs.further.probe_figure.Tie as tie
 
-header-requires : tie.Need-header-requires
-header-requires c κs = search needs
-
-figure-requires : tie.Need-figure-requires
-figure-requires c κs = search needs
-
-give-figure-requires : tie.Need-give-figure-requires
-give-figure-requires c κs = search needs
-
-same-length : tie.Need-same-length
-same-length c = search needs
-
 returns : tie.Need-returns
 returns c =
     let f = c .before .before .give-figure .ensures in
@@ -28,4 +16,10 @@ returns c =
 
 pub probe-figure-spec : {M : Type 1} → statement M
 probe-figure-spec =
-    tie.close (tie.spec header-requires figure-requires give-figure-requires same-length returns)
+    tie.close
+    (tie.spec
+    (λ c κs. search needs)  -- header-requires
+    (λ c κs. search needs)  -- figure-requires
+    (λ c κs. search needs)  -- give-figure-requires
+    (λ c. search needs)  -- same-length
+    returns)

@@ -4,18 +4,6 @@ use borrow.Author.Needs.{needs}
 use Rattle.probe.proofs.further.probe_witness.Statement.{statement}
 use Rattle.probe.proofs.further.probe_witness.Tie as tie
 
-header-requires : tie.Need-header-requires
-header-requires c κs = search needs
-
-witness-requires : tie.Need-witness-requires
-witness-requires c κs = search needs
-
-give-failing-requires : tie.Need-give-failing-requires
-give-failing-requires c κs = search needs
-
-same-length : tie.Need-same-length
-same-length c = search needs
-
 returns : tie.Need-returns
 returns c =
     let f = c .before .before .give-failing .ensures in
@@ -26,4 +14,10 @@ returns c =
 
 pub probe-witness-spec : {M : Type 1} → statement M
 probe-witness-spec =
-    tie.close (tie.spec header-requires witness-requires give-failing-requires same-length returns)
+    tie.close
+    (tie.spec
+    (λ c κs. search needs)  -- header-requires
+    (λ c κs. search needs)  -- witness-requires
+    (λ c κs. search needs)  -- give-failing-requires
+    (λ c. search needs)  -- same-length
+    returns)

@@ -5,21 +5,6 @@ use borrow.Author.Needs.{needs}
 use Rattle.probe.proofs.list.probe_topologies.Statement.{statement}
 use Rattle.probe.proofs.list.probe_topologies.Tie as tie
 
-header-requires : tie.Need-header-requires
-header-requires c κs = search needs
-
-topologies-requires : tie.Need-topologies-requires
-topologies-requires c κs = search needs
-
-give-entries-requires : tie.Need-give-entries-requires
-give-entries-requires c κs = search needs
-
-same-length : tie.Need-same-length
-same-length c = search needs
-
-same-length-2 : tie.Need-same-length-2
-same-length-2 c = search needs
-
 returns : tie.Need-returns
 returns c =
     let f = c .before .before .give-entries .ensures in
@@ -33,9 +18,9 @@ pub probe-topologies-spec : {M : Type 1} → statement M
 probe-topologies-spec =
     tie.close
     (tie.spec
-    header-requires
-    topologies-requires
-    give-entries-requires
-    same-length
-    same-length-2
+    (λ c κs. search needs)  -- header-requires
+    (λ c κs. search needs)  -- topologies-requires
+    (λ c κs. search needs)  -- give-entries-requires
+    (λ c. search needs)  -- same-length
+    (λ c. search needs)  -- same-length-2
     returns)

@@ -3,19 +3,16 @@ use borrow.Author.Needs.{needs}
 use Rattle.probe.proofs.walks.probe_begin.Statement.{statement}
 use Rattle.probe.proofs.walks.probe_begin.Tie as tie
 
-header-requires : tie.Need-header-requires
-header-requires c κs = search needs
-
-begin-requires : tie.Need-begin-requires
-begin-requires c κs = search needs
-
-same-length : tie.Need-same-length
-same-length c = search needs
-
 returns : tie.Need-returns
 returns c =
     let k = c .before .before in
     rw (k .before .before .header .ensures) at (k .begin .ensures)
 
 pub probe-begin-spec : {M : Type 1} → statement M
-probe-begin-spec = tie.close (tie.spec header-requires begin-requires same-length returns)
+probe-begin-spec =
+    tie.close
+    (tie.spec
+    (λ c κs. search needs)  -- header-requires
+    (λ c κs. search needs)  -- begin-requires
+    (λ c. search needs)  -- same-length
+    returns)

@@ -33,9 +33,6 @@ loop-holds c = (refl, refl, refl, omega arith)
 read-member-requires : tie.Need-read-member-requires Inv-loop μ-loop
 read-member-requires c κs = tt
 
-enum-known-step : tie.Need-enum-known-step Inv-loop μ-loop
-enum-known-step c = search needs
-
 -- the step is refused: no rank is given, and the members are refused with its number
 returns : tie.Need-returns Inv-loop μ-loop
 returns c =
@@ -126,7 +123,7 @@ read-members-spec =
     μ-loop
     loop-holds
     read-member-requires
-    enum-known-step
+    (λ c. search needs)  -- enum-known-step
     returns
     enum-told
     rank-at-requires

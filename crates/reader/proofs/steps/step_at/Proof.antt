@@ -8,14 +8,8 @@ use Rattle.reader.proofs.StepLaws.{number-of, position-is}
 use Rattle.reader.proofs.steps.step_at.Statement.{statement}
 use Rattle.reader.proofs.steps.step_at.Tie as tie
 
-member-at-requires : tie.Need-member-at-requires
-member-at-requires c κs = search needs
-
 enum-told : tie.Need-enum-told
 enum-told c = search needs
-
-enum-told-2 : tie.Need-enum-told-2
-enum-told-2 c = search needs
 
 returns : tie.Need-returns
 returns c =
@@ -36,4 +30,12 @@ returns-2 c =
     (m .ensures, sym (position-is (a .at) (sym (m .ensures) ∙ c .enum-told .given .1)))
 
 pub step-at-spec : {M : Type 1} → statement M
-step-at-spec = tie.close (tie.spec member-at-requires enum-told enum-told-2 returns add-t7 returns-2)
+step-at-spec =
+    tie.close
+    (tie.spec
+    (λ c κs. search needs)  -- member-at-requires
+    enum-told
+    (λ c. search needs)  -- enum-told-2
+    returns
+    add-t7
+    returns-2)

@@ -15,12 +15,6 @@ use Rattle.files.proofs.ReaderLawsAnswer.{header-bounds, read-links}
 use Rattle.reader.proofs.words.read_words_at.Statement.{statement}
 use Rattle.reader.proofs.words.read_words_at.Tie as tie
 
-read-at-requires : tie.Need-read-at-requires
-read-at-requires c κs = search needs
-
-header-in-requires : tie.Need-header-in-requires
-header-in-requires c κs = search needs
-
 -- the array keeps its length, and the header is that of the answer
 bytes-long : (c : tie.After-read-at) → 256 ≡ length (c .read-at .last .1 .1 .1 .1 .0)
 bytes-long c =
@@ -53,9 +47,6 @@ copy-bytes-requires : tie.Need-copy-bytes-requires
 copy-bytes-requires c κs =
     let b = bounds (c .before .before) in (omega (arith, b, bytes-long (c .before .before .before)), omega (arith, b))
 
-same-length : tie.Need-same-length
-same-length c = search needs
-
 returns : tie.Need-returns
 returns c =
     let h = c .before .before .before .before .before in
@@ -74,10 +65,10 @@ pub read-words-at-spec : {M : Type 1} → statement M
 read-words-at-spec =
     tie.close
     (tie.spec
-    read-at-requires
-    header-in-requires
+    (λ c κs. search needs)  -- read-at-requires
+    (λ c κs. search needs)  -- header-in-requires
     slice-aggregate-copy-bytes
     mul-copy-bytes
     copy-bytes-requires
-    same-length
+    (λ c. search needs)  -- same-length
     returns)

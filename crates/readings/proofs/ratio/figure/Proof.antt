@@ -7,15 +7,6 @@ use Rattle.readings.proofs.PairTold.{done-told}
 use Rattle.readings.proofs.ratio.figure.Statement.{statement}
 use Rattle.readings.proofs.ratio.figure.Tie as tie
 
-pair-requires : tie.Need-pair-requires
-pair-requires c κs = search needs
-
-enum-known-answer : tie.Need-enum-known-answer
-enum-known-answer c = search needs
-
-enum-known-answer-2 : tie.Need-enum-known-answer-2
-enum-known-answer-2 c = search needs
-
 sub-figure-of : tie.Need-sub-figure-of
 sub-figure-of c =
     let k = c .before .before .before in
@@ -52,9 +43,9 @@ pub figure-spec : {M : Type 1} → statement M
 figure-spec =
     tie.close
     (tie.spec
-    pair-requires
-    enum-known-answer
-    enum-known-answer-2
+    (λ c κs. search needs)  -- pair-requires
+    (λ c. search needs)  -- enum-known-answer
+    (λ c. search needs)  -- enum-known-answer-2
     sub-figure-of
     add-figure-of
     figure-of-requires

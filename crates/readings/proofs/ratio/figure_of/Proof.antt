@@ -10,11 +10,13 @@ use Rattle.readings.proofs.ratio.shares_of.Reads as shares-of-reads
 returns : tie.Need-returns
 returns c = none-given _ _ (c .if1 .taken)
 
-shares-of-requires : tie.Need-shares-of-requires
-shares-of-requires c κs = search needs
-
 returns-2 : tie.Need-returns-2
 returns-2 c = given _ _ _ (c .before .if1 .left) (c .shares-of .ensures)
 
 pub figure-of-spec : {M : Type 1} → statement M
-figure-of-spec = tie.close (tie.spec returns shares-of-requires returns-2)
+figure-of-spec =
+    tie.close
+    (tie.spec
+    returns
+    (λ c κs. search needs)  -- shares-of-requires
+    returns-2)

@@ -7,14 +7,13 @@ use Rattle.readings.proofs.ratio.shares_of.Reads as reads
 use Rattle.readings.proofs.ratio.shares_of.Lts as lts
 use Rattle.readings.proofs.ratio.float_of.Reads as float-of-reads
 
-float-of-requires : tie.Need-float-of-requires
-float-of-requires c κs = search needs
-
-float-of-requires-2 : tie.Need-float-of-requires-2
-float-of-requires-2 c κs = search needs
-
 returns : tie.Need-returns
 returns c = shares-are _ _ _ _ _ (c .float-of2 .ensures) (c .before .float-of .ensures) whole-is
 
 pub shares-of-spec : {M : Type 1} → statement M
-shares-of-spec = tie.close (tie.spec float-of-requires float-of-requires-2 returns)
+shares-of-spec =
+    tie.close
+    (tie.spec
+    (λ c κs. search needs)  -- float-of-requires
+    (λ c κs. search needs)  -- float-of-requires-2
+    returns)

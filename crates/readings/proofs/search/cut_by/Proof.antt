@@ -5,9 +5,6 @@ use Rattle.readings.proofs.Seek.{cut-is}
 use Rattle.readings.proofs.search.cut_by.Statement.{statement}
 use Rattle.readings.proofs.search.cut_by.Tie as tie
 
-failed-by-requires : tie.Need-failed-by-requires
-failed-by-requires c κs = search needs
-
 is-disconnected-requires : tie.Need-is-disconnected-requires
 is-disconnected-requires c κs =
     let e = c .before in
@@ -19,4 +16,9 @@ returns c =
     c .is-disconnected .ensures ∙ cut-is _ _ _ _ _ (e .pre .1 .1 .0) _ (c .before .failed-by .ensures) _ _
 
 pub cut-by-spec : {M : Type 1} → statement M
-cut-by-spec = tie.close (tie.spec failed-by-requires is-disconnected-requires returns)
+cut-by-spec =
+    tie.close
+    (tie.spec
+    (λ c κs. search needs)  -- failed-by-requires
+    is-disconnected-requires
+    returns)

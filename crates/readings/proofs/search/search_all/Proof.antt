@@ -9,9 +9,6 @@ use Rattle.readings.proofs.search.search_all.Tie as tie
 links-at-requires : tie.Need-links-at-requires
 links-at-requires c κs = c .pre .0 .links-held
 
-begin-requires : tie.Need-begin-requires
-begin-requires c κs = search needs
-
 search-on-requires : tie.Need-search-on-requires
 search-on-requires c κs =
     let pre = c .before .before .before .before .before .pre in
@@ -23,4 +20,10 @@ returns c =
     ∙ answers-whole _ _ _ _ _ _ _ (begun-alone _ _ _ _ _ _ _ refl (c .before .before .before .begin .ensures))
 
 pub search-all-spec : {M : Type 1} → statement M
-search-all-spec = tie.close (tie.spec links-at-requires begin-requires search-on-requires returns)
+search-all-spec =
+    tie.close
+    (tie.spec
+    links-at-requires
+    (λ c κs. search needs)  -- begin-requires
+    search-on-requires
+    returns)

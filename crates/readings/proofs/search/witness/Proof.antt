@@ -27,16 +27,10 @@ words c = c .before .accept .last .1 .1 .1 .1 .0
 taken : (c : tie.Else1) → (let a = entry c .args in Taken (a .h) (a .links .now) (a .events .now) (bytes c) (words c))
 taken c = c .before .accept .ensures .1 .0 (c .if1 .left)
 
-accept-requires : tie.Need-accept-requires
-accept-requires c κs = search needs
-
 returns : tie.Need-returns
 returns c =
     let a = c .before .before .before .before .before .before .args in
     lists-refused (a .h) (a .links .now) (a .events .now) (a .v) (a .w) _ (c .before .accept .ensures .0) (c .if1 .taken)
-
-pair-test-requires : tie.Need-pair-test-requires
-pair-test-requires c κs = search needs
 
 returns-2 : tie.Need-returns-2
 returns-2 c =
@@ -69,9 +63,9 @@ pub witness-spec : {M : Type 1} → statement M
 witness-spec =
     tie.close
     (tie.spec
-    accept-requires
+    (λ c κs. search needs)  -- accept-requires
     returns
-    pair-test-requires
+    (λ c κs. search needs)  -- pair-test-requires
     returns-2
     search-all-requires
     returns-3)

@@ -44,16 +44,10 @@ module _ (lower upper : ℕ) where
 
 -- ---- the function
 
-mass-test-requires : tie.Need-mass-test-requires
-mass-test-requires c κs = search needs
-
 returns : tie.Need-returns
 returns c =
     concluded _ _ _
     (refuses downtimeAnswer timed.Refused (λ n x. refl) _ _ _ (stop _ (c .before .mass-test .ensures) (c .if1 .taken)) (c .if1 .taken))
-
-mass-test-requires-2 : tie.Need-mass-test-requires-2
-mass-test-requires-2 c κs = search needs
 
 returns-2 : tie.Need-returns-2
 returns-2 c =
@@ -80,9 +74,9 @@ pub downtime-spec : {M : Type 1} → statement M
 downtime-spec =
     tie.close
     (tie.spec
-    mass-test-requires
+    (λ c κs. search needs)  -- mass-test-requires
     returns
-    mass-test-requires-2
+    (λ c κs. search needs)  -- mass-test-requires-2
     returns-2
     seconds-of-requires
     returns-3)

@@ -10,9 +10,6 @@ use Rattle.readings.proofs.yearly.seconds_of.Tie as tie
 seconds-with-requires : tie.Need-seconds-with-requires
 seconds-with-requires c κs = (c .pre .0, omega arith)
 
-sub-seconds-with : tie.Need-sub-seconds-with
-sub-seconds-with c = search needs
-
 seconds-with-requires-2 : tie.Need-seconds-with-requires-2
 seconds-with-requires-2 c κs = (c .before .pre .1, omega arith)
 
@@ -24,4 +21,10 @@ returns c =
     ap₂ (λ (l u : ℕ). record { lower = l; upper = u }) down up
 
 pub seconds-of-spec : {M : Type 1} → statement M
-seconds-of-spec = tie.close (tie.spec seconds-with-requires sub-seconds-with seconds-with-requires-2 returns)
+seconds-of-spec =
+    tie.close
+    (tie.spec
+    seconds-with-requires
+    (λ c. search needs)  -- sub-seconds-with
+    seconds-with-requires-2
+    returns)

@@ -6,18 +6,15 @@ use Rattle.record_runs.specs.Running.{fileAnswer}
 use Rattle.record_runs.proofs.running.answer_of.Statement.{statement}
 use Rattle.record_runs.proofs.running.answer_of.Tie as tie
 
-enum-known-answer : tie.Need-enum-known-answer
-enum-known-answer c = search needs
-
-enum-told : tie.Need-enum-told
-enum-told c = search needs
-
 returns : tie.Need-returns
 returns c =
     sym (ap (λ (x : Reading). fileAnswer x (c .before .before .before .args .ran)) (c .before .answer .given .1))
 
-returns-2 : tie.Need-returns-2
-returns-2 c = search needs
-
 pub answer-of-spec : {M : Type 1} → statement M
-answer-of-spec = tie.close (tie.spec enum-known-answer enum-told returns returns-2)
+answer-of-spec =
+    tie.close
+    (tie.spec
+    (λ c. search needs)  -- enum-known-answer
+    (λ c. search needs)  -- enum-told
+    returns
+    (λ c. search needs))  -- returns-2

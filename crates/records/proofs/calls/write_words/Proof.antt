@@ -8,15 +8,6 @@ use Rattle.writer.proofs.WriterAnswer.{Outcome}
 use Rattle.records.proofs.calls.write_words.Statement.{statement}
 use Rattle.records.proofs.calls.write_words.Tie as tie
 
-used-words-requires : tie.Need-used-words-requires
-used-words-requires c κs = search needs
-
-write-requires : tie.Need-write-requires
-write-requires c κs = search needs
-
-same-length : tie.Need-same-length
-same-length c = search needs
-
 returns : tie.Need-returns
 returns c =
     let a = c .before .before .before .before .before .before .before .args in
@@ -25,4 +16,10 @@ returns c =
     (c .before .before .before .before .used-words .ensures) (w .ensures)
 
 pub write-words-spec : {M : Type 1} → statement M
-write-words-spec = tie.close (tie.spec used-words-requires write-requires same-length returns)
+write-words-spec =
+    tie.close
+    (tie.spec
+    (λ c κs. search needs)  -- used-words-requires
+    (λ c κs. search needs)  -- write-requires
+    (λ c. search needs)  -- same-length
+    returns)

@@ -5,51 +5,6 @@ use Rattle.records.proofs.EventLaws.{record-at}
 use Rattle.records.proofs.lists.event_at.Statement.{statement}
 use Rattle.records.proofs.lists.event_at.Tie as tie
 
-mul-t3 : tie.Need-mul-t3
-mul-t3 c = search needs
-
-mul-t4 : tie.Need-mul-t4
-mul-t4 c = search needs
-
-element-copy-out-t7 : tie.Need-element-copy-out-t7
-element-copy-out-t7 c = search needs
-
-mul-t8 : tie.Need-mul-t8
-mul-t8 c = search needs
-
-add-t9 : tie.Need-add-t9
-add-t9 c = search needs
-
-mul-t10 : tie.Need-mul-t10
-mul-t10 c = search needs
-
-element-copy-out-t13 : tie.Need-element-copy-out-t13
-element-copy-out-t13 c = search needs
-
-mul-t14 : tie.Need-mul-t14
-mul-t14 c = search needs
-
-add-t15 : tie.Need-add-t15
-add-t15 c = search needs
-
-mul-t16 : tie.Need-mul-t16
-mul-t16 c = search needs
-
-element-copy-out-t19 : tie.Need-element-copy-out-t19
-element-copy-out-t19 c = search needs
-
-mul-t20 : tie.Need-mul-t20
-mul-t20 c = search needs
-
-add-t21 : tie.Need-add-t21
-add-t21 c = search needs
-
-mul-t22 : tie.Need-mul-t22
-mul-t22 c = search needs
-
-element-copy-out-t25 : tie.Need-element-copy-out-t25
-element-copy-out-t25 c = search needs
-
 returns : tie.Need-returns
 returns c = let a = c .before .before .before .before .args in record-at (a .i) (a .words .now) _ _ _ _ refl refl refl refl
 
@@ -57,19 +12,19 @@ pub event-at-spec : {M : Type 1} → statement M
 event-at-spec =
     tie.close
     (tie.spec
-    mul-t3
-    mul-t4
-    element-copy-out-t7
-    mul-t8
-    add-t9
-    mul-t10
-    element-copy-out-t13
-    mul-t14
-    add-t15
-    mul-t16
-    element-copy-out-t19
-    mul-t20
-    add-t21
-    mul-t22
-    element-copy-out-t25
+    (λ c. search needs)  -- mul-t3
+    (λ c. search needs)  -- mul-t4
+    (λ c. search needs)  -- element-copy-out-t7
+    (λ c. search needs)  -- mul-t8
+    (λ c. search needs)  -- add-t9
+    (λ c. search needs)  -- mul-t10
+    (λ c. search needs)  -- element-copy-out-t13
+    (λ c. search needs)  -- mul-t14
+    (λ c. search needs)  -- add-t15
+    (λ c. search needs)  -- mul-t16
+    (λ c. search needs)  -- element-copy-out-t19
+    (λ c. search needs)  -- mul-t20
+    (λ c. search needs)  -- add-t21
+    (λ c. search needs)  -- mul-t22
+    (λ c. search needs)  -- element-copy-out-t25
     returns)

@@ -7,21 +7,6 @@ use lib.ListN.{take}
 use Rattle.records.proofs.lists.used_words.Statement.{statement}
 use Rattle.records.proofs.lists.used_words.Tie as tie
 
-smaller-requires : tie.Need-smaller-requires
-smaller-requires c κs = search needs
-
-mul-used : tie.Need-mul-used
-mul-used c = search needs
-
-sub-result : tie.Need-sub-result
-sub-result c = search needs
-
-part-result-start : tie.Need-part-result-start
-part-result-start c = search needs
-
-part-result-end : tie.Need-part-result-end
-part-result-end c = search needs
-
 returns : tie.Need-returns
 returns c =
     let a = c .before .before .before .args in
@@ -29,4 +14,12 @@ returns c =
     ap (λ (k : ℕ). take k (a .words .now)) n
 
 pub used-words-spec : {M : Type 1} → statement M
-used-words-spec = tie.close (tie.spec smaller-requires mul-used sub-result part-result-start part-result-end returns)
+used-words-spec =
+    tie.close
+    (tie.spec
+    (λ c κs. search needs)  -- smaller-requires
+    (λ c. search needs)  -- mul-used
+    (λ c. search needs)  -- sub-result
+    (λ c. search needs)  -- part-result-start
+    (λ c. search needs)  -- part-result-end
+    returns)

@@ -28,9 +28,6 @@ none c = sym (c .before .handed-number .ensures) ∙ c .if1 .left
 lines-in-requires : tie.Need-lines-in-requires
 lines-in-requires c κs = tt
 
-mul-copy-words : tie.Need-mul-copy-words
-mul-copy-words c = search needs
-
 copy-words-requires : tie.Need-copy-words-requires
 copy-words-requires c κs =
     let a = c .before .before .before .before .before .before .args in
@@ -39,9 +36,6 @@ copy-words-requires c κs =
 
 counts-in-requires : tie.Need-counts-in-requires
 counts-in-requires c κs = tt
-
-same-length : tie.Need-same-length
-same-length c = search needs
 
 returns-2 : tie.Need-returns-2
 returns-2 c =
@@ -60,8 +54,8 @@ hand-over-spec =
     handed-number-requires
     returns
     lines-in-requires
-    mul-copy-words
+    (λ c. search needs)  -- mul-copy-words
     copy-words-requires
     counts-in-requires
-    same-length
+    (λ c. search needs)  -- same-length
     returns-2)

@@ -10,12 +10,6 @@ use Rattle.sheets.proofs.file.capped.Tie as tie
 returns : tie.Need-returns
 returns c = none-capped _ _ (c .if1 .taken)
 
-div-if2 : tie.Need-div-if2
-div-if2 c = search needs
-
-add-result : tie.Need-add-result
-add-result c = search needs
-
 returns-2 : tie.Need-returns-2
 returns-2 c = above-quotient _ _ (c .before .if1 .left) (c .if2 .taken)
 
@@ -27,4 +21,12 @@ returns-3 c =
     let h = below-quotient _ _ (c .before .if1 .left) (c .if2 .left) in sym (min-eq-left (omega arith))
 
 pub capped-spec : {M : Type 1} → statement M
-capped-spec = tie.close (tie.spec returns div-if2 add-result returns-2 mul-result returns-3)
+capped-spec =
+    tie.close
+    (tie.spec
+    returns
+    (λ c. search needs)  -- div-if2
+    (λ c. search needs)  -- add-result
+    returns-2
+    mul-result
+    returns-3)

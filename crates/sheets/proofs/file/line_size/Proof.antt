@@ -6,22 +6,17 @@ use borrow.Author.Needs.{needs}
 use Rattle.sheets.proofs.file.line_size.Statement.{statement}
 use Rattle.sheets.proofs.file.line_size.Tie as tie
 
-add-byte-at : tie.Need-add-byte-at
-add-byte-at c = search needs
-
-byte-at-requires : tie.Need-byte-at-requires
-byte-at-requires c κs = search needs
-
-mul-result : tie.Need-mul-result
-mul-result c = search needs
-
-add-result : tie.Need-add-result
-add-result c = search needs
-
 returns : tie.Need-returns
 returns c =
     let a = c .before .before .args in
     ap (λ (k : ℕ). 13 + 2 * k) (c .byte-at .ensures .0 ∙ sym (getD-drop (a .at) (a .s .now) 12 0))
 
 pub line-size-spec : {M : Type 1} → statement M
-line-size-spec = tie.close (tie.spec add-byte-at byte-at-requires mul-result add-result returns)
+line-size-spec =
+    tie.close
+    (tie.spec
+    (λ c. search needs)  -- add-byte-at
+    (λ c κs. search needs)  -- byte-at-requires
+    (λ c. search needs)  -- mul-result
+    (λ c. search needs)  -- add-result
+    returns)

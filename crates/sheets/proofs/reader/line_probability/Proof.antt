@@ -11,24 +11,6 @@ use Rattle.sheets.proofs.reader.line_probability.Lts as lts
 use Rattle.plan.proofs.number_at.Reads as number-at-reads
 use Rattle.sheets.proofs.file.product.Reads as product-reads
 
-number-at-requires : tie.Need-number-at-requires
-number-at-requires c κs = search needs
-
-add-number-at : tie.Need-add-number-at
-add-number-at c = search needs
-
-number-at-requires-2 : tie.Need-number-at-requires-2
-number-at-requires-2 c κs = search needs
-
-add-number-at-2 : tie.Need-add-number-at-2
-add-number-at-2 c = search needs
-
-number-at-requires-3 : tie.Need-number-at-requires-3
-number-at-requires-3 c κs = search needs
-
-product-requires : tie.Need-product-requires
-product-requires c κs = search needs
-
 returns : tie.Need-returns
 returns c =
     let a = c .before .before .before .before .before .args in
@@ -40,10 +22,10 @@ pub line-probability-spec : {M : Type 1} → statement M
 line-probability-spec =
     tie.close
     (tie.spec
-    number-at-requires
-    add-number-at
-    number-at-requires-2
-    add-number-at-2
-    number-at-requires-3
-    product-requires
+    (λ c κs. search needs)  -- number-at-requires
+    (λ c. search needs)  -- add-number-at
+    (λ c κs. search needs)  -- number-at-requires-2
+    (λ c. search needs)  -- add-number-at-2
+    (λ c κs. search needs)  -- number-at-requires-3
+    (λ c κs. search needs)  -- product-requires
     returns)

@@ -51,9 +51,6 @@ copy-words-requires : tie.Need-copy-words-requires
 copy-words-requires c κs =
     let b = bounds (c .before .before) in (omega (arith, b, words-long (c .before .before .before)), omega (arith, b))
 
-same-length : tie.Need-same-length
-same-length c = search needs
-
 returns : tie.Need-returns
 returns c =
     let h = c .before .before .before .before .before in
@@ -74,5 +71,5 @@ read-spec =
     slice-aggregate-copy-words
     mul-copy-words
     copy-words-requires
-    same-length
+    (λ c. search needs)  -- same-length
     returns)

@@ -11,9 +11,6 @@ use Rattle.text.proofs.calls.listing_text.Statement.{statement}
 use Rattle.text.proofs.calls.listing_text.Tie as tie
 use Rattle.network.specs.Outage.{intact}
 
-slice-aggregate-put-listing : tie.Need-slice-aggregate-put-listing
-slice-aggregate-put-listing c = search needs
-
 put-listing-requires : tie.Need-put-listing-requires
 put-listing-requires c κs = array-room (c .before .before .before .args .plan .now) (λ i. omega (arith, c .before .before .shared-slice-known .given i))
 
@@ -22,17 +19,11 @@ returns c =
     let put = c .before .before .put-listing .ensures in
     short-answer _ _ _ _ (subst (λ (k : ℕ). length (c .before .before .before .before .before .before .args .out .now) < k) (put .1) (c .if1 .taken))
 
-slice-aggregate-copy-bytes : tie.Need-slice-aggregate-copy-bytes
-slice-aggregate-copy-bytes c = search needs
-
 copy-bytes-requires : tie.Need-copy-bytes-requires
 copy-bytes-requires c κs =
     let b = c .before .before .before .before .before .before .before .before .args .plan .now in
     let put = c .before .before .before .before .put-listing .ensures in
     (size-kept (replicate {A = ℕ} 92789 0) _ (listing intact b) _ (put .0) (put .1) (array-room b (λ i. omega (arith, c .before .before .before .before .before .before .before .shared-slice-known .given i))), c .before .before .if1 .left)
-
-same-length : tie.Need-same-length
-same-length c = search needs
 
 returns-2 : tie.Need-returns-2
 returns-2 c =
@@ -44,10 +35,10 @@ pub listing-text-spec : {M : Type 1} → statement M
 listing-text-spec =
     tie.close
     (tie.spec
-    slice-aggregate-put-listing
+    (λ c. search needs)  -- slice-aggregate-put-listing
     put-listing-requires
     returns
-    slice-aggregate-copy-bytes
+    (λ c. search needs)  -- slice-aggregate-copy-bytes
     copy-bytes-requires
-    same-length
+    (λ c. search needs)  -- same-length
     returns-2)

@@ -27,9 +27,6 @@ put-plan-requires c κs =
       fits-as _ _ (a .out .now) (sums-text (a .h) (a .links .now) (a .words .now) _ _ (lists-denote _ _ _ _ _ z) (t .0) (t .1)) (c .before .before .before .before .before .pre .1),
     )
 
-same-length : tie.Need-same-length
-same-length c = search needs
-
 returns : tie.Need-returns
 returns c =
     let z = c .before .before .before .before .before .before .before .before .pre .0 in
@@ -38,4 +35,10 @@ returns c =
     laid-as _ _ _ _ _ (sums-text (a .h) (a .links .now) (a .words .now) _ _ (lists-denote _ _ _ _ _ z) (t .0) (t .1)) (c .before .before .put-plan .ensures)
 
 pub put-accepted-spec : {M : Type 1} → statement M
-put-accepted-spec = tie.close (tie.spec walk-all-requires put-plan-requires same-length returns)
+put-accepted-spec =
+    tie.close
+    (tie.spec
+    walk-all-requires
+    put-plan-requires
+    (λ c. search needs)  -- same-length
+    returns)

@@ -5,17 +5,8 @@ use borrow.Author.Needs.{needs}
 use Rattle.text.proofs.calls.put_listing.Statement.{statement}
 use Rattle.text.proofs.calls.put_listing.Tie as tie
 
-read-input-requires : tie.Need-read-input-requires
-read-input-requires c κs = search needs
-
-enum-known-answer : tie.Need-enum-known-answer
-enum-known-answer c = search needs
-
 put-refused-requires : tie.Need-put-refused-requires
 put-refused-requires c κs = fits-as _ _ (c .before .before .before .before .before .before .before .before .before .args .out .now) (refused-listing (c .before .before .before .before .before .before .before .before .before .args .s .now) _ _ (sym (c .before .before .answer .given .1) ∙ c .before .before .before .before .read-input .ensures .0)) (c .before .before .before .before .before .before .before .before .before .pre)
-
-enum-known-answer-2 : tie.Need-enum-known-answer-2
-enum-known-answer-2 c = search needs
 
 put-accepted-requires : tie.Need-put-accepted-requires
 put-accepted-requires c κs =
@@ -26,14 +17,8 @@ put-accepted-requires c κs =
       fits-as _ _ (c .before .before .before .before .before .before .before .before .before .before .before .args .out .now) (accepted-listing b _ _ _ e (read .ensures .1 .1 .1)) (c .before .before .before .before .before .before .before .before .before .before .before .pre),
     )
 
-same-length : tie.Need-same-length
-same-length c = search needs
-
 returns : tie.Need-returns
 returns c = laid-as _ _ _ _ _ (refused-listing (c .before .before .before .before .before .before .before .before .before .before .before .before .args .s .now) _ _ (sym (c .before .before .before .before .before .answer .given .1) ∙ c .before .before .before .before .before .before .before .read-input .ensures .0)) (c .before .before .put-refused .ensures)
-
-same-length-2 : tie.Need-same-length-2
-same-length-2 c = search needs
 
 returns-2 : tie.Need-returns-2
 returns-2 c =
@@ -44,12 +29,12 @@ pub put-listing-spec : {M : Type 1} → statement M
 put-listing-spec =
     tie.close
     (tie.spec
-    read-input-requires
-    enum-known-answer
+    (λ c κs. search needs)  -- read-input-requires
+    (λ c. search needs)  -- enum-known-answer
     put-refused-requires
-    enum-known-answer-2
+    (λ c. search needs)  -- enum-known-answer-2
     put-accepted-requires
-    same-length
+    (λ c. search needs)  -- same-length
     returns
-    same-length-2
+    (λ c. search needs)  -- same-length-2
     returns-2)

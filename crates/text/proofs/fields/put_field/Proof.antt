@@ -14,12 +14,15 @@ slice-write-out c = omega (arith, c .before .before .put-decimal .kept .0, c .be
 add-result : tie.Need-add-result
 add-result c = omega (arith, c .before .before .put-decimal .kept .0, c .before .before .put-decimal .ensures .1, c .before .before .before .before .before .pre, field-long (c .before .before .before .before .before .args .x) (c .before .before .before .before .before .args .end))
 
-same-length : tie.Need-same-length
-same-length c = search needs
-
 returns : tie.Need-returns
 returns c = field-laid _ _ _ _ _ _ (c .before .before .put-decimal .ensures)
 
 pub put-field-spec : {M : Type 1} → statement M
 put-field-spec =
-    tie.close (tie.spec put-decimal-requires slice-write-out add-result same-length returns)
+    tie.close
+    (tie.spec
+    put-decimal-requires
+    slice-write-out
+    add-result
+    (λ c. search needs)  -- same-length
+    returns)

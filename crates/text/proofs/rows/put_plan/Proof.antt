@@ -8,18 +8,18 @@ use Rattle.text.proofs.rows.put_plan.Tie as tie
 put-head-requires : tie.Need-put-head-requires
 put-head-requires c κs = omega (arith, c .before .before .pre .1, sums-long (c .before .before .args .h) (c .before .before .args .t) (c .before .before .args .sums .now))
 
-sub-put-rows : tie.Need-sub-put-rows
-sub-put-rows c = search needs
-
 put-rows-requires : tie.Need-put-rows-requires
 put-rows-requires c κs = (listable _ _ _ (c .before .before .before .before .before .before .before .before .pre .0), omega (arith, c .before .before .before .before .before .before .before .before .pre .1, sums-long (c .before .before .before .before .before .before .before .before .args .h) (c .before .before .before .before .before .before .before .before .args .t) (c .before .before .before .before .before .before .before .before .args .sums .now), c .before .before .before .before .before .put-head .kept .0, c .before .before .before .before .before .put-head .ensures .1))
-
-same-length : tie.Need-same-length
-same-length c = search needs
 
 returns : tie.Need-returns
 returns c = sums-laid _ _ _ _ _ _ _ _ (c .before .before .before .before .before .before .before .before .put-head .ensures) (c .before .before .put-rows .ensures)
 
 pub put-plan-spec : {M : Type 1} → statement M
 put-plan-spec =
-    tie.close (tie.spec put-head-requires sub-put-rows put-rows-requires same-length returns)
+    tie.close
+    (tie.spec
+    put-head-requires
+    (λ c. search needs)  -- sub-put-rows
+    put-rows-requires
+    (λ c. search needs)  -- same-length
+    returns)

@@ -4,9 +4,6 @@ use Rattle.threshold_sums.proofs.Blocks.{nothing-added, blocks-fit, pat
 use Rattle.threshold_sums.proofs.paths.add_path.Statement.{statement}
 use Rattle.threshold_sums.proofs.paths.add_path.Tie as tie
 
-wanted-blocks-requires : tie.Need-wanted-blocks-requires
-wanted-blocks-requires c κs = search needs
-
 returns : tie.Need-returns
 returns c = nothing-added _ _ _ _ _ _ _ (c .before .wanted-blocks .ensures) _ _ (c .if1 .taken)
 
@@ -18,12 +15,15 @@ examine-requires c κs =
     let order = p .1 .1 .0 in
     (p .0, (p .1 .0, (order .2, blocks-fit (a .h) _ _ _ (a .path) _ _ (set .wanted-blocks .ensures) (order .0 .few) (p .1 .1 .1 .0) (p .1 .1 .1 .1))))
 
-same-length : tie.Need-same-length
-same-length c = search needs
-
 returns-2 : tie.Need-returns-2
 returns-2 c = path-added _ _ _ _ _ _ _ (c .before .before .before .before .before .wanted-blocks .ensures) _ _ _ (c .before .before .examine .ensures)
 
 pub add-path-spec : {M : Type 1} → statement M
 add-path-spec =
-    tie.close (tie.spec wanted-blocks-requires returns examine-requires same-length returns-2)
+    tie.close
+    (tie.spec
+    (λ c κs. search needs)  -- wanted-blocks-requires
+    returns
+    examine-requires
+    (λ c. search needs)  -- same-length
+    returns-2)

@@ -17,49 +17,13 @@ Inv-loop events words list active path rooms₀ counts₀ masses₀ lowest i₀ 
 abbrev μ-loop : tie.MeasureT-loop
 μ-loop events words list active path rooms₀ counts₀ masses₀ lowest i₀ rooms counts masses i = active - i
 
-sub-lowest : tie.Need-sub-lowest Inv-loop μ-loop
-sub-lowest c = search needs
-
-mul-lowest : tie.Need-mul-lowest Inv-loop μ-loop
-mul-lowest c = search needs
-
-element-copy-out-lowest : tie.Need-element-copy-out-lowest Inv-loop μ-loop
-element-copy-out-lowest c = search needs
-
 loop-holds : tie.Need-loop-holds Inv-loop μ-loop
 loop-holds c = (counts-begin _ _ _ _ _ _ _ (c .before .pre .1 .1 .1 .0), omega arith)
-
-mul-ends-of : tie.Need-mul-ends-of Inv-loop μ-loop
-mul-ends-of c = search needs
-
-element-copy-out-ends-of : tie.Need-element-copy-out-ends-of Inv-loop μ-loop
-element-copy-out-ends-of c = search needs
 
 ends-of-requires : tie.Need-ends-of-requires Inv-loop μ-loop
 ends-of-requires c κs =
     let p = c .before .before .before .before .pre in
     (p .0 .0, p .0 .1, lowest-least _ _ (p .1 .0 .0) _ (c .before .loop-test .taken), p .1 .1 .0)
-
-mul-examined-by : tie.Need-mul-examined-by Inv-loop μ-loop
-mul-examined-by c = search needs
-
-element-copy-out-examined-by : tie.Need-element-copy-out-examined-by Inv-loop μ-loop
-element-copy-out-examined-by c = search needs
-
-mul-examined-by-2 : tie.Need-mul-examined-by-2 Inv-loop μ-loop
-mul-examined-by-2 c = search needs
-
-element-copy-out-examined-by-2 : tie.Need-element-copy-out-examined-by-2 Inv-loop μ-loop
-element-copy-out-examined-by-2 c = search needs
-
-examined-by-requires : tie.Need-examined-by-requires Inv-loop μ-loop
-examined-by-requires c κs = search needs
-
-mul-counts : tie.Need-mul-counts Inv-loop μ-loop
-mul-counts c = search needs
-
-element-copy-out-counts : tie.Need-element-copy-out-counts Inv-loop μ-loop
-element-copy-out-counts c = search needs
 
 add-counts : tie.Need-add-counts Inv-loop μ-loop
 add-counts c =
@@ -73,18 +37,6 @@ add-counts c =
             counts-room _ _ _ _ _ _ _ _ _ _ _ _ (in-loop .before .loop .inv .0) (in-loop .loop-test .taken) (p .1 .1 .1 .1) _ (one .examined-by .ensures) .0,
           );
     }
-
-mul-counts-2 : tie.Need-mul-counts-2 Inv-loop μ-loop
-mul-counts-2 c = search needs
-
-element-write-counts : tie.Need-element-write-counts Inv-loop μ-loop
-element-write-counts c = search needs
-
-mul-masses : tie.Need-mul-masses Inv-loop μ-loop
-mul-masses c = search needs
-
-element-copy-out-masses : tie.Need-element-copy-out-masses Inv-loop μ-loop
-element-copy-out-masses c = search needs
 
 mul-masses-2 : tie.Need-mul-masses-2 Inv-loop μ-loop
 mul-masses-2 c =
@@ -112,33 +64,6 @@ add-masses c =
           );
     }
 
-mul-masses-3 : tie.Need-mul-masses-3 Inv-loop μ-loop
-mul-masses-3 c = search needs
-
-element-write-masses : tie.Need-element-write-masses Inv-loop μ-loop
-element-write-masses c = search needs
-
-mul-left-of : tie.Need-mul-left-of Inv-loop μ-loop
-mul-left-of c = search needs
-
-element-copy-out-left-of : tie.Need-element-copy-out-left-of Inv-loop μ-loop
-element-copy-out-left-of c = search needs
-
-left-of-requires : tie.Need-left-of-requires Inv-loop μ-loop
-left-of-requires c κs = search needs
-
-mul-rooms : tie.Need-mul-rooms Inv-loop μ-loop
-mul-rooms c = search needs
-
-element-write-rooms : tie.Need-element-write-rooms Inv-loop μ-loop
-element-write-rooms c = search needs
-
-add-i : tie.Need-add-i Inv-loop μ-loop
-add-i c = search needs
-
-loop-less : tie.Need-loop-less Inv-loop μ-loop
-loop-less c = search needs
-
 loop-again : tie.Need-loop-again Inv-loop μ-loop
 loop-again c =
     let one = c .before .before .before .before .before in
@@ -160,35 +85,35 @@ count-path-spec =
     (tie.spec
     Inv-loop
     μ-loop
-    sub-lowest
-    mul-lowest
-    element-copy-out-lowest
+    (λ c. search needs)  -- sub-lowest
+    (λ c. search needs)  -- mul-lowest
+    (λ c. search needs)  -- element-copy-out-lowest
     loop-holds
-    mul-ends-of
-    element-copy-out-ends-of
+    (λ c. search needs)  -- mul-ends-of
+    (λ c. search needs)  -- element-copy-out-ends-of
     ends-of-requires
-    mul-examined-by
-    element-copy-out-examined-by
-    mul-examined-by-2
-    element-copy-out-examined-by-2
-    examined-by-requires
-    mul-counts
-    element-copy-out-counts
+    (λ c. search needs)  -- mul-examined-by
+    (λ c. search needs)  -- element-copy-out-examined-by
+    (λ c. search needs)  -- mul-examined-by-2
+    (λ c. search needs)  -- element-copy-out-examined-by-2
+    (λ c κs. search needs)  -- examined-by-requires
+    (λ c. search needs)  -- mul-counts
+    (λ c. search needs)  -- element-copy-out-counts
     add-counts
-    mul-counts-2
-    element-write-counts
-    mul-masses
-    element-copy-out-masses
+    (λ c. search needs)  -- mul-counts-2
+    (λ c. search needs)  -- element-write-counts
+    (λ c. search needs)  -- mul-masses
+    (λ c. search needs)  -- element-copy-out-masses
     mul-masses-2
     add-masses
-    mul-masses-3
-    element-write-masses
-    mul-left-of
-    element-copy-out-left-of
-    left-of-requires
-    mul-rooms
-    element-write-rooms
-    add-i
-    loop-less
+    (λ c. search needs)  -- mul-masses-3
+    (λ c. search needs)  -- element-write-masses
+    (λ c. search needs)  -- mul-left-of
+    (λ c. search needs)  -- element-copy-out-left-of
+    (λ c κs. search needs)  -- left-of-requires
+    (λ c. search needs)  -- mul-rooms
+    (λ c. search needs)  -- element-write-rooms
+    (λ c. search needs)  -- add-i
+    (λ c. search needs)  -- loop-less
     loop-again
     returns)

@@ -20,21 +20,6 @@ abbrev μ-loop : tie.MeasureT-loop
 loop-holds : tie.Need-loop-holds Inv-loop μ-loop
 loop-holds c = (wanted-begin _ _ _, omega arith)
 
-mul-examined-by : tie.Need-mul-examined-by Inv-loop μ-loop
-mul-examined-by c = search needs
-
-element-copy-out-examined-by : tie.Need-element-copy-out-examined-by Inv-loop μ-loop
-element-copy-out-examined-by c = search needs
-
-mul-examined-by-2 : tie.Need-mul-examined-by-2 Inv-loop μ-loop
-mul-examined-by-2 c = search needs
-
-element-copy-out-examined-by-2 : tie.Need-element-copy-out-examined-by-2 Inv-loop μ-loop
-element-copy-out-examined-by-2 c = search needs
-
-examined-by-requires : tie.Need-examined-by-requires Inv-loop μ-loop
-examined-by-requires c κs = search needs
-
 only-requires : tie.Need-only-requires Inv-loop μ-loop
 only-requires c κs =
     let in-loop = c .before .before .before in
@@ -43,15 +28,6 @@ only-requires c κs =
       omega (arith, c .examined-by .ensures, once (getD (a .list .now) i 0) (getD (a .rooms .now) i 0) (a .last)),
       omega (arith, in-loop .loop-test .taken, in-loop .before .before .pre),
     )
-
-union-requires : tie.Need-union-requires Inv-loop μ-loop
-union-requires c κs = search needs
-
-add-i : tie.Need-add-i Inv-loop μ-loop
-add-i c = search needs
-
-loop-less : tie.Need-loop-less Inv-loop μ-loop
-loop-less c = search needs
 
 loop-again : tie.Need-loop-again Inv-loop μ-loop
 loop-again c =
@@ -73,14 +49,14 @@ wanted-blocks-spec =
     Inv-loop
     μ-loop
     loop-holds
-    mul-examined-by
-    element-copy-out-examined-by
-    mul-examined-by-2
-    element-copy-out-examined-by-2
-    examined-by-requires
+    (λ c. search needs)  -- mul-examined-by
+    (λ c. search needs)  -- element-copy-out-examined-by
+    (λ c. search needs)  -- mul-examined-by-2
+    (λ c. search needs)  -- element-copy-out-examined-by-2
+    (λ c κs. search needs)  -- examined-by-requires
     only-requires
-    union-requires
-    add-i
-    loop-less
+    (λ c κs. search needs)  -- union-requires
+    (λ c. search needs)  -- add-i
+    (λ c. search needs)  -- loop-less
     loop-again
     returns)

@@ -20,9 +20,6 @@ abbrev μ-loop : tie.MeasureT-loop
 links-at-requires : tie.Need-links-at-requires Inv-loop μ-loop
 links-at-requires c κs = c .before .pre .0 .links-held
 
-begin-requires : tie.Need-begin-requires Inv-loop μ-loop
-begin-requires c κs = search needs
-
 loop-holds : tie.Need-loop-holds Inv-loop μ-loop
 loop-holds c =
     let p = c .before .before .before .before .pre in
@@ -68,4 +65,15 @@ returns c = walk-done _ _ _ _ _ _ _ _ _ _ _ _ _ _ _ _ (omega (arith, c .loop-tes
 pub walk-all-spec : {M : Type 1} → statement M
 walk-all-spec =
     tie.close
-    (tie.spec Inv-loop μ-loop links-at-requires begin-requires loop-holds walk-with-requires sub-active loop-less loop-again same-length returns)
+    (tie.spec
+    Inv-loop
+    μ-loop
+    links-at-requires
+    (λ c κs. search needs)  -- begin-requires
+    loop-holds
+    walk-with-requires
+    sub-active
+    loop-less
+    loop-again
+    same-length
+    returns)

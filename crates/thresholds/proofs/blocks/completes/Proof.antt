@@ -20,24 +20,6 @@ abbrev μ-loop : tie.MeasureT-loop
 loop-holds : tie.Need-loop-holds Inv-loop μ-loop
 loop-holds c = (omega arith, refl, λ j h. absurd (omega arith))
 
-mul-some-left : tie.Need-mul-some-left Inv-loop μ-loop
-mul-some-left c = search needs
-
-array-read-some-left : tie.Need-array-read-some-left Inv-loop μ-loop
-array-read-some-left c = search needs
-
-some-left-requires : tie.Need-some-left-requires Inv-loop μ-loop
-some-left-requires c κs = search needs
-
-mul-flags : tie.Need-mul-flags Inv-loop μ-loop
-mul-flags c = search needs
-
-array-write-flags : tie.Need-array-write-flags Inv-loop μ-loop
-array-write-flags c = search needs
-
-add-i : tie.Need-add-i Inv-loop μ-loop
-add-i c = search needs
-
 loop-less : tie.Need-loop-less Inv-loop μ-loop
 loop-less c = omega arith
 
@@ -64,12 +46,12 @@ completes-spec =
     Inv-loop
     μ-loop
     loop-holds
-    mul-some-left
-    array-read-some-left
-    some-left-requires
-    mul-flags
-    array-write-flags
-    add-i
+    (λ c. search needs)  -- mul-some-left
+    (λ c. search needs)  -- array-read-some-left
+    (λ c κs. search needs)  -- some-left-requires
+    (λ c. search needs)  -- mul-flags
+    (λ c. search needs)  -- array-write-flags
+    (λ c. search needs)  -- add-i
     loop-less
     loop-again
     returns)

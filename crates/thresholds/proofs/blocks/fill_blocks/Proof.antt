@@ -17,9 +17,6 @@ walk-blocks-requires c κs =
     let p = c .before .before .before .before .before .before .before .pre in
     (p .0 .0, (p .1 .0, ((refl, (refl, refl)), p .1 .1 .0)))
 
-start-of-requires : tie.Need-start-of-requires
-start-of-requires c κs = search needs
-
 raise-blocks-requires : tie.Need-raise-blocks-requires
 raise-blocks-requires c κs =
     let n = c .before .before .before in
@@ -33,15 +30,6 @@ raise-blocks-requires c κs =
     (a .upper .now)
     (p .1 .1 .0)
     (p .1 .1 .1))
-
-completes-requires : tie.Need-completes-requires
-completes-requires c κs = search needs
-
-same-length : tie.Need-same-length
-same-length c = search needs
-
-same-length-2 : tie.Need-same-length-2
-same-length-2 c = search needs
 
 returns : tie.Need-returns
 returns c =
@@ -69,9 +57,9 @@ fill-blocks-spec =
     tie.close
     (tie.spec
     walk-blocks-requires
-    start-of-requires
+    (λ c κs. search needs)  -- start-of-requires
     raise-blocks-requires
-    completes-requires
-    same-length
-    same-length-2
+    (λ c κs. search needs)  -- completes-requires
+    (λ c. search needs)  -- same-length
+    (λ c. search needs)  -- same-length-2
     returns)

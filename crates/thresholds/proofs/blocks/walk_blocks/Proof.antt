@@ -25,16 +25,10 @@ room k = k .before .before .before
 abbrev cleared : tie.After-walk-all-arg4 → tie.After-clear
 cleared c = c .before .before .before .before .before .before .before
 
-slice-aggregate-copy-words : tie.Need-slice-aggregate-copy-words
-slice-aggregate-copy-words c = search needs
-
 copy-words-requires : tie.Need-copy-words-requires
 copy-words-requires c κs =
     let s = c .before .before .before in
     (omega arith, omega (arith, test-none (s .args .list .now) (s .pre .1 .0 .1) .1))
-
-add-copy-raised : tie.Need-add-copy-raised
-add-copy-raised c = search needs
 
 copy-raised-requires : tie.Need-copy-raised-requires
 copy-raised-requires c κs =
@@ -44,9 +38,6 @@ copy-raised-requires c κs =
       (omega (arith, few, ap length (z .1 .1)), omega (arith, few, ap length (z .0))),
       λ i l. omega (arith, ap (λ (x : List ℕ). getD x (i + 0) 0) (z .1 .1), zeros-at 16 (i + 0), s .pre .1 .0 .0),
     )
-
-start-of-requires : tie.Need-start-of-requires
-start-of-requires c κs = search needs
 
 mul-clear : tie.Need-mul-clear
 mul-clear c =
@@ -72,9 +63,6 @@ walk-all-requires c κs =
       ),
     )
 
-same-length : tie.Need-same-length
-same-length c = search needs
-
 returns : tie.Need-returns
 returns c =
     let w = c .before .before in
@@ -97,13 +85,13 @@ pub walk-blocks-spec : {M : Type 1} → statement M
 walk-blocks-spec =
     tie.close
     (tie.spec
-    slice-aggregate-copy-words
+    (λ c. search needs)  -- slice-aggregate-copy-words
     copy-words-requires
-    add-copy-raised
+    (λ c. search needs)  -- add-copy-raised
     copy-raised-requires
-    start-of-requires
+    (λ c κs. search needs)  -- start-of-requires
     mul-clear
     clear-requires
     walk-all-requires
-    same-length
+    (λ c. search needs)  -- same-length
     returns)

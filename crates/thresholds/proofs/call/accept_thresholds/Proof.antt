@@ -27,21 +27,12 @@ taken k z =
     subst (λ (x : Header). Taken x (entry k .args .links .now) (entry k .args .events .now) (k .accept .last .1 .1 .1 .0) (k .accept .last .1 .1 .1 .1 .0)) (k .before .before .before .header-at .ensures)
     (k .accept .ensures .1 .0 z)
 
-header-at-requires : tie.Need-header-at-requires
-header-at-requires c κs = search needs
-
-accept-requires : tie.Need-accept-requires
-accept-requires c κs = search needs
-
 returns : tie.Need-returns
 returns c =
     let a = entry (c .before) .args in (
       lists-refuse (a .h) (a .links .now) (a .events .now) (a .list .now) (a .lower-room) (a .upper-room) _ (lists-are (c .before)) (c .if1 .taken),
       λ z. absurd (c .if1 .taken z),
     )
-
-thresholds-test-requires : tie.Need-thresholds-test-requires
-thresholds-test-requires c κs = search needs
 
 returns-2 : tie.Need-returns-2
 returns-2 c =
@@ -66,9 +57,6 @@ mul-bounds-test c =
       arith,
       size-most (a .h .nodes) _ (a .list .now) few (c .start-of .ensures) (sym (t .thresholds-test .ensures) ∙ c .before .if2 .left),
     )
-
-bounds-test-requires : tie.Need-bounds-test-requires
-bounds-test-requires c κs = search needs
 
 returns-3 : tie.Need-returns-3
 returns-3 c =
@@ -95,12 +83,12 @@ pub accept-thresholds-spec : {M : Type 1} → statement M
 accept-thresholds-spec =
     tie.close
     (tie.spec
-    header-at-requires
-    accept-requires
+    (λ c κs. search needs)  -- header-at-requires
+    (λ c κs. search needs)  -- accept-requires
     returns
-    thresholds-test-requires
+    (λ c κs. search needs)  -- thresholds-test-requires
     returns-2
     start-of-requires
     mul-bounds-test
-    bounds-test-requires
+    (λ c κs. search needs)  -- bounds-test-requires
     returns-3)

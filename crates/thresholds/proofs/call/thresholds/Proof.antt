@@ -14,12 +14,6 @@ entry k = k .before .before .before .before .before .before .before .before
 abbrev header : tie.After-fill-blocks-arg2 → tie.After-header-at
 header c = c .before .before .before .before
 
-accept-thresholds-requires : tie.Need-accept-thresholds-requires
-accept-thresholds-requires c κs = search needs
-
-refused-requires : tie.Need-refused-requires
-refused-requires c κs = search needs
-
 returns : tie.Need-returns
 returns c =
     let k = c .before .before in
@@ -29,9 +23,6 @@ returns c =
     (k .accept-thresholds .ensures .0)
     (c .before .if1 .taken)
 
-header-at-requires : tie.Need-header-at-requires
-header-at-requires c κs = search needs
-
 fill-blocks-requires : tie.Need-fill-blocks-requires
 fill-blocks-requires c κs =
     let x = header c in
@@ -39,12 +30,6 @@ fill-blocks-requires c κs =
     let t = e .before .accept-thresholds .ensures .1 (e .if1 .left) in
     rw (x .header-at .ensures)
     ((t .taken .held, arrays-valid _ _ _ _ _ (t .taken)), ((t .taken .limited, t .tested), (t .lower-room, t .upper-room)))
-
-same-length : tie.Need-same-length
-same-length c = search needs
-
-same-length-2 : tie.Need-same-length-2
-same-length-2 c = search needs
 
 returns-2 : tie.Need-returns-2
 returns-2 c =
@@ -65,11 +50,11 @@ pub thresholds-spec : {M : Type 1} → statement M
 thresholds-spec =
     tie.close
     (tie.spec
-    accept-thresholds-requires
-    refused-requires
+    (λ c κs. search needs)  -- accept-thresholds-requires
+    (λ c κs. search needs)  -- refused-requires
     returns
-    header-at-requires
+    (λ c κs. search needs)  -- header-at-requires
     fill-blocks-requires
-    same-length
-    same-length-2
+    (λ c. search needs)  -- same-length
+    (λ c. search needs)  -- same-length-2
     returns-2)

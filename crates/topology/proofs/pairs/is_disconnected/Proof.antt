@@ -5,12 +5,6 @@ use Rattle.topology.proofs.RowLinks.{absent, connected-bit}
 use Rattle.topology.proofs.pairs.is_disconnected.Statement.{statement}
 use Rattle.topology.proofs.pairs.is_disconnected.Tie as tie
 
-reach-from-requires : tie.Need-reach-from-requires
-reach-from-requires c κs = search needs
-
-at-requires : tie.Need-at-requires
-at-requires c κs = search needs
-
 returns : tie.Need-returns
 returns c =
     let a = c .before .before .args in
@@ -21,4 +15,9 @@ returns c =
     (connected-bit net (a .v) (found .result .set) (a .w) (found .ensures .0 (a .w)))
 
 pub is-disconnected-spec : {M : Type 1} → statement M
-is-disconnected-spec = tie.close (tie.spec reach-from-requires at-requires returns)
+is-disconnected-spec =
+    tie.close
+    (tie.spec
+    (λ c κs. search needs)  -- reach-from-requires
+    (λ c κs. search needs)  -- at-requires
+    returns)

@@ -10,12 +10,6 @@ use Rattle.topology.proofs.pairs.reach_from.Tie as tie
 neighbours-requires : tie.Need-neighbours-requires
 neighbours-requires c κs = (c .pre .0, c .pre .1 .0)
 
-working-nodes-requires : tie.Need-working-nodes-requires
-working-nodes-requires c κs = search needs
-
-reach-requires : tie.Need-reach-requires
-reach-requires c κs = search needs
-
 returns : tie.Need-returns
 returns c =
     let a = c .before .before .before .args in
@@ -29,4 +23,9 @@ returns c =
 
 pub reach-from-spec : {M : Type 1} → statement M
 reach-from-spec =
-    tie.close (tie.spec neighbours-requires working-nodes-requires reach-requires returns)
+    tie.close
+    (tie.spec
+    neighbours-requires
+    (λ c κs. search needs)  -- working-nodes-requires
+    (λ c κs. search needs)  -- reach-requires
+    returns)

@@ -17,18 +17,6 @@ Inv-loop nodes v rows seen₀ fresh₀ rounds₀ seen fresh rounds = (k : ℕ) �
 abbrev μ-loop : tie.MeasureT-loop
 μ-loop nodes v rows seen₀ fresh₀ rounds₀ seen fresh rounds = 64 - rounds
 
-only-requires : tie.Need-only-requires Inv-loop μ-loop
-only-requires c κs = search needs
-
-both-requires : tie.Need-both-requires Inv-loop μ-loop
-both-requires c κs = search needs
-
-rows-of-requires : tie.Need-rows-of-requires Inv-loop μ-loop
-rows-of-requires c κs = search needs
-
-less-requires : tie.Need-less-requires Inv-loop μ-loop
-less-requires c κs = search needs
-
 loop-holds : tie.Need-loop-holds Inv-loop μ-loop
 loop-holds c = (
   0,
@@ -41,15 +29,6 @@ loop-holds c = (
       (c .before .rows-of .ensures)
       (c .less .ensures),
 )
-
-union-requires : tie.Need-union-requires Inv-loop μ-loop
-union-requires c κs = search needs
-
-rows-of-requires-2 : tie.Need-rows-of-requires-2 Inv-loop μ-loop
-rows-of-requires-2 c κs = search needs
-
-less-requires-2 : tie.Need-less-requires-2 Inv-loop μ-loop
-less-requires-2 c κs = search needs
 
 -- a round that adds a node is not the 64th
 room : (c : tie.After-less2 Inv-loop μ-loop) → suc (c .before .before .before .before .before .loop .rounds) ≤ 64
@@ -93,14 +72,14 @@ reach-spec =
     (tie.spec
     Inv-loop
     μ-loop
-    only-requires
-    both-requires
-    rows-of-requires
-    less-requires
+    (λ c κs. search needs)  -- only-requires
+    (λ c κs. search needs)  -- both-requires
+    (λ c κs. search needs)  -- rows-of-requires
+    (λ c κs. search needs)  -- less-requires
     loop-holds
-    union-requires
-    rows-of-requires-2
-    less-requires-2
+    (λ c κs. search needs)  -- union-requires
+    (λ c κs. search needs)  -- rows-of-requires-2
+    (λ c κs. search needs)  -- less-requires-2
     add-rounds
     loop-less
     loop-again

@@ -15,21 +15,6 @@ abbrev μ-loop : tie.MeasureT-loop
 loop-holds : tie.Need-loop-holds Inv-loop μ-loop
 loop-holds c = (omega arith, gathered-none _ _)
 
-lowest-requires : tie.Need-lowest-requires Inv-loop μ-loop
-lowest-requires c κs = search needs
-
-mul-union : tie.Need-mul-union Inv-loop μ-loop
-mul-union c = search needs
-
-element-copy-out-union : tie.Need-element-copy-out-union Inv-loop μ-loop
-element-copy-out-union c = search needs
-
-union-requires : tie.Need-union-requires Inv-loop μ-loop
-union-requires c κs = search needs
-
-rest-requires : tie.Need-rest-requires Inv-loop μ-loop
-rest-requires c κs = search needs
-
 loop-less : tie.Need-loop-less Inv-loop μ-loop
 loop-less c = c .rest .ensures .0
 
@@ -58,11 +43,11 @@ rows-of-spec =
     Inv-loop
     μ-loop
     loop-holds
-    lowest-requires
-    mul-union
-    element-copy-out-union
-    union-requires
-    rest-requires
+    (λ c κs. search needs)  -- lowest-requires
+    (λ c. search needs)  -- mul-union
+    (λ c. search needs)  -- element-copy-out-union
+    (λ c κs. search needs)  -- union-requires
+    (λ c κs. search needs)  -- rest-requires
     loop-less
     loop-again
     returns)

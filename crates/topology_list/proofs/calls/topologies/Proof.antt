@@ -24,9 +24,6 @@ words c = c .before .accept .last .1 .1 .1 .1 .0
 taken : (c : tie.Else1) → (let a = entry c .args in Taken (a .h) (a .links .now) (a .events .now) (bytes c) (words c))
 taken c = c .before .accept .ensures .1 .0 (c .if1 .left)
 
-accept-requires : tie.Need-accept-requires
-accept-requires c κs = search needs
-
 returns : tie.Need-returns
 returns c =
     let a = c .before .before .before .before .before .before .before .args in
@@ -34,9 +31,6 @@ returns c =
 
 list-all-requires : tie.Need-list-all-requires
 list-all-requires c κs = taken (c .before .before .before) .held
-
-same-length : tie.Need-same-length
-same-length c = search needs
 
 returns-2 : tie.Need-returns-2
 returns-2 c =
@@ -46,9 +40,6 @@ returns-2 c =
     list-full (a .h) (a .links .now) (a .events .now) (a .list .now) _ (e .before .accept .ensures .0) (e .if1 .left) (bytes e) (words e) (taken e) _ _
     (k .list-all .ensures)
     (c .if2 .taken)
-
-same-length-2 : tie.Need-same-length-2
-same-length-2 c = search needs
 
 returns-3 : tie.Need-returns-3
 returns-3 c =
@@ -63,10 +54,10 @@ pub topologies-spec : {M : Type 1} → statement M
 topologies-spec =
     tie.close
     (tie.spec
-    accept-requires
+    (λ c κs. search needs)  -- accept-requires
     returns
     list-all-requires
-    same-length
+    (λ c. search needs)  -- same-length
     returns-2
-    same-length-2
+    (λ c. search needs)  -- same-length-2
     returns-3)

@@ -9,17 +9,11 @@ use Rattle.topology_list.proofs.ends.list_all.Tie as tie
 links-at-requires : tie.Need-links-at-requires
 links-at-requires c κs = c .before .pre .links-held
 
-begin-requires : tie.Need-begin-requires
-begin-requires c κs = search needs
-
 list-ends-requires : tie.Need-list-ends-requires
 list-ends-requires c κs = (
   c .before .before .before .before .before .links-at .ensures,
   ready-whole _ _ _ _ _ (begun-alone _ _ _ _ _ _ _ refl (c .before .before .before .begin .ensures)) (c .before .before .before .before .before .before .before .pre),
 )
-
-same-length : tie.Need-same-length
-same-length c = search needs
 
 returns : tie.Need-returns
 returns c =
@@ -28,4 +22,11 @@ returns c =
     rw (whole-listing _ _ _ _ _ b _) at e
 
 pub list-all-spec : {M : Type 1} → statement M
-list-all-spec = tie.close (tie.spec links-at-requires begin-requires list-ends-requires same-length returns)
+list-all-spec =
+    tie.close
+    (tie.spec
+    links-at-requires
+    (λ c κs. search needs)  -- begin-requires
+    list-ends-requires
+    (λ c. search needs)  -- same-length
+    returns)

@@ -5,12 +5,6 @@ use Rattle.topology_list.proofs.WorkingSets.{topology-after}
 use Rattle.topology_list.proofs.ends.topology_of.Statement.{statement}
 use Rattle.topology_list.proofs.ends.topology_of.Tie as tie
 
-failed-by-requires : tie.Need-failed-by-requires
-failed-by-requires c κs = search needs
-
-working-nodes-requires : tie.Need-working-nodes-requires
-working-nodes-requires c κs = search needs
-
 working-links-requires : tie.Need-working-links-requires
 working-links-requires c κs = c .before .before .pre .0 .links-held .links-fit
 
@@ -22,4 +16,9 @@ returns c =
 
 pub topology-of-spec : {M : Type 1} → statement M
 topology-of-spec =
-    tie.close (tie.spec failed-by-requires working-nodes-requires working-links-requires returns)
+    tie.close
+    (tie.spec
+    (λ c κs. search needs)  -- failed-by-requires
+    (λ c κs. search needs)  -- working-nodes-requires
+    working-links-requires
+    returns)

@@ -3,31 +3,16 @@ use borrow.Author.Needs.{needs}
 use Rattle.trials_networks.proofs.pairs.pair.Statement.{statement}
 use Rattle.trials_networks.proofs.pairs.pair.Tie as tie
 
-held-requires : tie.Need-held-requires
-held-requires c κs = search needs
-
 tested-requires : tie.Need-tested-requires
 tested-requires c κs = (c .before .held .ensures (c .if1 .taken), search needs)
-
-slice-aggregate-same-part : tie.Need-slice-aggregate-same-part
-slice-aggregate-same-part c = search needs
-
-same-part-requires : tie.Need-same-part-requires
-same-part-requires c κs = search needs
-
-returns : tie.Need-returns
-returns c = search needs
-
-returns-2 : tie.Need-returns-2
-returns-2 c = search needs
 
 pub pair-spec : {M : Type 1} → statement M
 pair-spec =
     tie.close
     (tie.spec
-    held-requires
+    (λ c κs. search needs)  -- held-requires
     tested-requires
-    slice-aggregate-same-part
-    same-part-requires
-    returns
-    returns-2)
+    (λ c. search needs)  -- slice-aggregate-same-part
+    (λ c κs. search needs)  -- same-part-requires
+    (λ c. search needs)  -- returns
+    (λ c. search needs))  -- returns-2

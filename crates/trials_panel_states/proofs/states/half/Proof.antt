@@ -4,15 +4,6 @@ use borrow.Author.Needs.{needs}
 use Rattle.trials_panel_states.proofs.states.half.Statement.{statement}
 use Rattle.trials_panel_states.proofs.states.half.Tie as tie
 
-slice-aggregate-went-on : tie.Need-slice-aggregate-went-on
-slice-aggregate-went-on c = search needs
-
-begun-requires : tie.Need-begun-requires
-begun-requires c κs = search needs
-
-went-on-requires : tie.Need-went-on-requires
-went-on-requires c κs = search needs
-
 returns : tie.Need-returns
 returns c =
     let w = c .before in
@@ -23,4 +14,10 @@ returns c =
     }
 
 pub half-spec : {M : Type 1} → statement M
-half-spec = tie.close (tie.spec slice-aggregate-went-on begun-requires went-on-requires returns)
+half-spec =
+    tie.close
+    (tie.spec
+    (λ c. search needs)  -- slice-aggregate-went-on
+    (λ c κs. search needs)  -- begun-requires
+    (λ c κs. search needs)  -- went-on-requires
+    returns)

@@ -11,36 +11,6 @@ use Rattle.vectors.proofs.DataLaws.{three-laid, first-part, second-part
 use Rattle.vectors.proofs.data.large_file.Statement.{statement}
 use Rattle.vectors.proofs.data.large_file.Tie as tie
 
-many-links-requires : tie.Need-many-links-requires
-many-links-requires c κs = search needs
-
-slice-aggregate-put-bytes : tie.Need-slice-aggregate-put-bytes
-slice-aggregate-put-bytes c = search needs
-
-slice-aggregate-put-bytes-2 : tie.Need-slice-aggregate-put-bytes-2
-slice-aggregate-put-bytes-2 c = search needs
-
-put-bytes-requires : tie.Need-put-bytes-requires
-put-bytes-requires c κs = search needs
-
-slice-aggregate-put-bytes-3 : tie.Need-slice-aggregate-put-bytes-3
-slice-aggregate-put-bytes-3 c = search needs
-
-slice-aggregate-put-bytes-4 : tie.Need-slice-aggregate-put-bytes-4
-slice-aggregate-put-bytes-4 c = search needs
-
-put-bytes-requires-2 : tie.Need-put-bytes-requires-2
-put-bytes-requires-2 c κs = search needs
-
-slice-aggregate-put-bytes-5 : tie.Need-slice-aggregate-put-bytes-5
-slice-aggregate-put-bytes-5 c = search needs
-
-slice-aggregate-put-bytes-6 : tie.Need-slice-aggregate-put-bytes-6
-slice-aggregate-put-bytes-6 c = search needs
-
-put-bytes-requires-3 : tie.Need-put-bytes-requires-3
-put-bytes-requires-3 c κs = search needs
-
 returns : tie.Need-returns
 returns c =
     let third = c .before in
@@ -68,14 +38,14 @@ pub large-file-spec : {M : Type 1} → statement M
 large-file-spec =
     tie.close
     (tie.spec
-    many-links-requires
-    slice-aggregate-put-bytes
-    slice-aggregate-put-bytes-2
-    put-bytes-requires
-    slice-aggregate-put-bytes-3
-    slice-aggregate-put-bytes-4
-    put-bytes-requires-2
-    slice-aggregate-put-bytes-5
-    slice-aggregate-put-bytes-6
-    put-bytes-requires-3
+    (λ c κs. search needs)  -- many-links-requires
+    (λ c. search needs)  -- slice-aggregate-put-bytes
+    (λ c. search needs)  -- slice-aggregate-put-bytes-2
+    (λ c κs. search needs)  -- put-bytes-requires
+    (λ c. search needs)  -- slice-aggregate-put-bytes-3
+    (λ c. search needs)  -- slice-aggregate-put-bytes-4
+    (λ c κs. search needs)  -- put-bytes-requires-2
+    (λ c. search needs)  -- slice-aggregate-put-bytes-5
+    (λ c. search needs)  -- slice-aggregate-put-bytes-6
+    (λ c κs. search needs)  -- put-bytes-requires-3
     returns)

@@ -18,36 +18,6 @@ abbrev μ-loop : tie.MeasureT-loop
 loop-holds : tie.Need-loop-holds Inv-loop μ-loop
 loop-holds c = (omega arith, refl, λ k h. absurd (omega arith))
 
-cast-links : tie.Need-cast-links Inv-loop μ-loop
-cast-links c = search needs
-
-mul-links : tie.Need-mul-links Inv-loop μ-loop
-mul-links c = search needs
-
-array-write-links : tie.Need-array-write-links Inv-loop μ-loop
-array-write-links c = search needs
-
-add-links : tie.Need-add-links Inv-loop μ-loop
-add-links c = search needs
-
-cast-links-2 : tie.Need-cast-links-2 Inv-loop μ-loop
-cast-links-2 c = search needs
-
-mul-links-2 : tie.Need-mul-links-2 Inv-loop μ-loop
-mul-links-2 c = search needs
-
-add-links-2 : tie.Need-add-links-2 Inv-loop μ-loop
-add-links-2 c = search needs
-
-array-write-links-2 : tie.Need-array-write-links-2 Inv-loop μ-loop
-array-write-links-2 c = search needs
-
-add-i : tie.Need-add-i Inv-loop μ-loop
-add-i c = search needs
-
-loop-less : tie.Need-loop-less Inv-loop μ-loop
-loop-less c = search needs
-
 loop-again : tie.Need-loop-again Inv-loop μ-loop
 loop-again c =
     let b = c .before .loop in
@@ -67,15 +37,15 @@ many-links-spec =
     Inv-loop
     μ-loop
     loop-holds
-    cast-links
-    mul-links
-    array-write-links
-    add-links
-    cast-links-2
-    mul-links-2
-    add-links-2
-    array-write-links-2
-    add-i
-    loop-less
+    (λ c. search needs)  -- cast-links
+    (λ c. search needs)  -- mul-links
+    (λ c. search needs)  -- array-write-links
+    (λ c. search needs)  -- add-links
+    (λ c. search needs)  -- cast-links-2
+    (λ c. search needs)  -- mul-links-2
+    (λ c. search needs)  -- add-links-2
+    (λ c. search needs)  -- array-write-links-2
+    (λ c. search needs)  -- add-i
+    (λ c. search needs)  -- loop-less
     loop-again
     returns)

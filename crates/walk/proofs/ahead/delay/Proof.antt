@@ -11,9 +11,6 @@ returns c = delayed-none _ _ _ (c .if1 .taken)
 sub-put : tie.Need-sub-put
 sub-put c = omega (arith, c .before .before .pre .1 (omega arith))
 
-put-requires : tie.Need-put-requires
-put-requires c κs = search needs
-
 sub-result : tie.Need-sub-result
 sub-result c = omega (arith, c .before .before .before .pre .1 (omega arith))
 
@@ -21,4 +18,11 @@ returns-2 : tie.Need-returns-2
 returns-2 c = delayed-some _ _ _ _ (omega arith) (c .before .before .before .pre .1 (omega arith)) (c .put .ensures)
 
 pub delay-spec : {M : Type 1} → statement M
-delay-spec = tie.close (tie.spec returns sub-put put-requires sub-result returns-2)
+delay-spec =
+    tie.close
+    (tie.spec
+    returns
+    sub-put
+    (λ c κs. search needs)  -- put-requires
+    sub-result
+    returns-2)

@@ -25,14 +25,8 @@ abbrev μ-loop : tie.MeasureT-loop
 loop-holds : tie.Need-loop-holds Inv-loop μ-loop
 loop-holds c = record { hand = c .pre .1 .0; held = c .pre .1 .1; ahead = refl; lighter = omega arith }
 
-come-to-requires : tie.Need-come-to-requires Inv-loop μ-loop
-come-to-requires c κs = search needs
-
 returns : tie.Need-returns Inv-loop μ-loop
 returns c = rw (c .come-to .ensures) (come-cut _ _ _ _ _ _ _ _ _ _ _ (c .before .before .loop .inv) (c .before .if1 .taken))
-
-come-to-requires-2 : tie.Need-come-to-requires-2 Inv-loop μ-loop
-come-to-requires-2 c κs = search needs
 
 returns-2 : tie.Need-returns-2 Inv-loop μ-loop
 returns-2 c =
@@ -53,9 +47,6 @@ straight-requires c κs =
 
 sub-come-to : tie.Need-sub-come-to Inv-loop μ-loop
 sub-come-to c = omega (arith, c .before .straight .ensures .steps)
-
-come-to-requires-3 : tie.Need-come-to-requires-3 Inv-loop μ-loop
-come-to-requires-3 c κs = search needs
 
 returns-3 : tie.Need-returns-3 Inv-loop μ-loop
 returns-3 c =
@@ -101,15 +92,15 @@ go-down-spec =
     Inv-loop
     μ-loop
     loop-holds
-    come-to-requires
+    (λ c κs. search needs)  -- come-to-requires
     returns
-    come-to-requires-2
+    (λ c κs. search needs)  -- come-to-requires-2
     returns-2
     split-at-requires
     add-straight
     straight-requires
     sub-come-to
-    come-to-requires-3
+    (λ c κs. search needs)  -- come-to-requires-3
     returns-3
     sub-top
     push-requires

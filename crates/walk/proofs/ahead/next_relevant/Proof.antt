@@ -18,9 +18,6 @@ abbrev μ-loop : tie.MeasureT-loop
 loop-holds : tie.Need-loop-holds Inv-loop μ-loop
 loop-holds c = starts _ _ _ _ _ _ (c .pre .2)
 
-none-at-requires : tie.Need-none-at-requires Inv-loop μ-loop
-none-at-requires c κs = search needs
-
 returns : tie.Need-returns Inv-loop μ-loop
 returns c = rw (c .none-at .ensures) (used-up _ _ _ _ _ _ _ _ _ (c .before .before .before .loop .inv) (c .before .if1 .taken))
 
@@ -42,9 +39,6 @@ returns-2 c =
     let two = c .before .before in
     let one = two .before .before .before in
     hands _ _ _ _ _ _ _ _ _ (one .before .before .loop .inv) (one .if1 .left) _ _ (two .before .descend .ensures) (two .if2 .taken) _ _ (c .delay .ensures)
-
-reachable-requires : tie.Need-reachable-requires Inv-loop μ-loop
-reachable-requires c κs = search needs
 
 sub-delay : tie.Need-sub-delay Inv-loop μ-loop
 sub-delay c = omega (arith, c .before .reachable .ensures, c .before .before .before .before .before .if1 .left)
@@ -78,9 +72,6 @@ loop-again c =
     let inv = one .before .before .loop .inv in
     further _ _ _ (s .args .at) (s .args .stack .now) _ _ _ _ inv (one .if1 .left) _ _ (two .before .descend .ensures) (two .if2 .left) _ (three .reachable .ensures) _ _ (c .delay2 .ensures)
 
-none-at-requires-2 : tie.Need-none-at-requires-2 Inv-loop μ-loop
-none-at-requires-2 c κs = search needs
-
 returns-3 : tie.Need-returns-3 Inv-loop μ-loop
 returns-3 c = rw (c .none-at2 .ensures) (all-reached _ _ _ _ _ _ _ _ _ (c .before .before .loop .inv) (c .before .loop-test .left))
 
@@ -91,18 +82,18 @@ next-relevant-spec =
     Inv-loop
     μ-loop
     loop-holds
-    none-at-requires
+    (λ c κs. search needs)  -- none-at-requires
     returns
     descend-requires
     sub-left
     delay-requires
     returns-2
-    reachable-requires
+    (λ c κs. search needs)  -- reachable-requires
     sub-delay
     sub-delay-2
     delay-requires-2
     sub-left-2
     loop-less
     loop-again
-    none-at-requires-2
+    (λ c κs. search needs)  -- none-at-requires-2
     returns-3)

@@ -15,9 +15,6 @@ Inv-loop count threshold events depth mass d₀ m₀ d m = OnPath count threshol
 abbrev μ-loop : tie.MeasureT-loop
 μ-loop count threshold events depth mass d₀ m₀ d m = count - d
 
-parted-requires : tie.Need-parted-requires Inv-loop μ-loop
-parted-requires c κs = search needs
-
 loop-holds : tie.Need-loop-holds Inv-loop μ-loop
 loop-holds c =
     let p = c .parted .ensures in
@@ -52,7 +49,7 @@ straight-spec =
     (tie.spec
     Inv-loop
     μ-loop
-    parted-requires
+    (λ c κs. search needs)  -- parted-requires
     loop-holds
     returns
     returns-2

@@ -5,18 +5,6 @@ use Rattle.walk.proofs.Parts.{first-fits, second-fits, low-fits, units-
 use Rattle.walk.proofs.ahead.works_on.Statement.{statement}
 use Rattle.walk.proofs.ahead.works_on.Tie as tie
 
-mul-rest : tie.Need-mul-rest
-mul-rest c = search needs
-
-mul-rest-2 : tie.Need-mul-rest-2
-mul-rest-2 c = search needs
-
-element-copy-out-rest : tie.Need-element-copy-out-rest
-element-copy-out-rest c = search needs
-
-sub-rest : tie.Need-sub-rest
-sub-rest c = search needs
-
 mul-first : tie.Need-mul-first
 mul-first c = record { fits = first-fits _ _ (c .before .before .pre .1) (c .before .before .pre .2) }
 
@@ -45,10 +33,10 @@ pub works-on-spec : {M : Type 1} → statement M
 works-on-spec =
     tie.close
     (tie.spec
-    mul-rest
-    mul-rest-2
-    element-copy-out-rest
-    sub-rest
+    (λ c. search needs)  -- mul-rest
+    (λ c. search needs)  -- mul-rest-2
+    (λ c. search needs)  -- element-copy-out-rest
+    (λ c. search needs)  -- sub-rest
     mul-first
     mul-second
     add-low

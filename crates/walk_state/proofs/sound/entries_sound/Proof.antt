@@ -56,9 +56,6 @@ element-copy-out-entry-sound-2 c = omega arith
 sub-entry-sound : tie.Need-sub-entry-sound Inv-loop μ-loop
 sub-entry-sound c = omega arith
 
-entry-sound-requires : tie.Need-entry-sound-requires Inv-loop μ-loop
-entry-sound-requires c κs = search needs
-
 returns : tie.Need-returns Inv-loop μ-loop
 returns c =
     let l = c .before .before .before .before .before .before .before in
@@ -67,9 +64,6 @@ returns c =
     entries-stop (a .count) (l .loop .left) (a .stack .now) (s .pre .0) (l .loop .i) (omega arith)
     (sym (c .before .entry-sound .ensures) ∙ not-true _ (c .if1 .taken))
     ∙ sym (l .loop .inv .3)
-
-entry-mass-requires : tie.Need-entry-mass-requires Inv-loop μ-loop
-entry-mass-requires c κs = search needs
 
 sub-left : tie.Need-sub-left Inv-loop μ-loop
 sub-left c =
@@ -119,9 +113,9 @@ entries-sound-spec =
     mul-entry-sound-2
     element-copy-out-entry-sound-2
     sub-entry-sound
-    entry-sound-requires
+    (λ c κs. search needs)  -- entry-sound-requires
     returns
-    entry-mass-requires
+    (λ c κs. search needs)  -- entry-mass-requires
     sub-left
     add-i
     loop-less

@@ -7,14 +7,8 @@ use Rattle.walk_state.proofs.SoundLaws.{lists-fail, numbers-fail, mass-
 use Rattle.walk_state.proofs.sound.is_sound.Statement.{statement}
 use Rattle.walk_state.proofs.sound.is_sound.Tie as tie
 
-lists-refusal-requires : tie.Need-lists-refusal-requires
-lists-refusal-requires c κs = search needs
-
 returns : tie.Need-returns
 returns c = lists-fail _ (λ z. c .if1 .taken (c .before .lists-refusal .ensures ∙ z))
-
-numbers-sound-requires : tie.Need-numbers-sound-requires
-numbers-sound-requires c κs = search needs
 
 returns-2 : tie.Need-returns-2
 returns-2 c =
@@ -26,9 +20,6 @@ returns-3 c =
     let two = c .before .before in
     let one = two .before .before in
     mass-fails _ (sym (one .before .lists-refusal .ensures) ∙ one .if1 .left) (sym (two .before .numbers-sound .ensures) ∙ not-false _ (two .if2 .left)) (omega arith)
-
-sub-entries-sound : tie.Need-sub-entries-sound
-sub-entries-sound c = search needs
 
 entries-sound-requires : tie.Need-entries-sound-requires
 entries-sound-requires c κs =
@@ -43,9 +34,6 @@ returns-4 c =
     entries-fail _ (sym (one .before .lists-refusal .ensures) ∙ one .if1 .left) (sym (two .before .numbers-sound .ensures) ∙ not-false _ (two .if2 .left)) (omega arith)
     (sym (c .before .entries-sound .ensures) ∙ not-true _ (c .if4 .taken))
 
-none-above-requires : tie.Need-none-above-requires
-none-above-requires c κs = search needs
-
 returns-5 : tie.Need-returns-5
 returns-5 c =
     let four = c .before in
@@ -59,13 +47,13 @@ pub is-sound-spec : {M : Type 1} → statement M
 is-sound-spec =
     tie.close
     (tie.spec
-    lists-refusal-requires
+    (λ c κs. search needs)  -- lists-refusal-requires
     returns
-    numbers-sound-requires
+    (λ c κs. search needs)  -- numbers-sound-requires
     returns-2
     returns-3
-    sub-entries-sound
+    (λ c. search needs)  -- sub-entries-sound
     entries-sound-requires
     returns-4
-    none-above-requires
+    (λ c κs. search needs)  -- none-above-requires
     returns-5)

@@ -9,27 +9,6 @@ use Rattle.walk_words.proofs.PartLaws.{sets-all}
 use Rattle.walk_words.proofs.parts.take_words.Statement.{statement}
 use Rattle.walk_words.proofs.parts.take_words.Tie as tie
 
-add-end : tie.Need-add-end
-add-end c = search needs
-
-mul-copy-words : tie.Need-mul-copy-words
-mul-copy-words c = search needs
-
-sub-copy-words : tie.Need-sub-copy-words
-sub-copy-words c = search needs
-
-part-copy-words-start : tie.Need-part-copy-words-start
-part-copy-words-start c = search needs
-
-part-copy-words-end : tie.Need-part-copy-words-end
-part-copy-words-end c = search needs
-
-copy-words-requires : tie.Need-copy-words-requires
-copy-words-requires c κs = search needs
-
-same-length : tie.Need-same-length
-same-length c = search needs
-
 returns : tie.Need-returns
 returns c =
     let a = c .before .before .before .before .before .before .before .args in
@@ -43,11 +22,11 @@ pub take-words-spec : {M : Type 1} → statement M
 take-words-spec =
     tie.close
     (tie.spec
-    add-end
-    mul-copy-words
-    sub-copy-words
-    part-copy-words-start
-    part-copy-words-end
-    copy-words-requires
-    same-length
+    (λ c. search needs)  -- add-end
+    (λ c. search needs)  -- mul-copy-words
+    (λ c. search needs)  -- sub-copy-words
+    (λ c. search needs)  -- part-copy-words-start
+    (λ c. search needs)  -- part-copy-words-end
+    (λ c κs. search needs)  -- copy-words-requires
+    (λ c. search needs)  -- same-length
     returns)

@@ -12,14 +12,8 @@ use borrow.Author.Needs.{needs}
 use Rattle.wellember.proofs.host.pair_in.Statement.{statement}
 use Rattle.wellember.proofs.host.pair_in.Tie as tie
 
-room-test-requires : tie.Need-room-test-requires
-room-test-requires c κs = search needs
-
 returns : tie.Need-returns
 returns c = pair-refuses _ _ _ (stop _ (c .before .room-test .ensures) (c .if1 .taken)) (c .if1 .taken)
-
-pair-requires : tie.Need-pair-requires
-pair-requires c κs = search needs
 
 returns-2 : tie.Need-returns-2
 returns-2 c =
@@ -31,4 +25,10 @@ returns-2 c =
     ∙ ap (λ (n : ℕ). pairAnswer n (boundsOf intact (planOfLists (a .h) (a .links .now) (a .words .now)) (a .v) (a .w))) (room-passed (a .room) _ z)
 
 pub pair-in-spec : {M : Type 1} → statement M
-pair-in-spec = tie.close (tie.spec room-test-requires returns pair-requires returns-2)
+pair-in-spec =
+    tie.close
+    (tie.spec
+    (λ c κs. search needs)  -- room-test-requires
+    returns
+    (λ c κs. search needs)  -- pair-requires
+    returns-2)

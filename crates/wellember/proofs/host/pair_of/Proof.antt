@@ -5,18 +5,6 @@ use borrow.Author.Needs.{needs}
 use Rattle.wellember.proofs.host.pair_of.Statement.{statement}
 use Rattle.wellember.proofs.host.pair_of.Tie as tie
 
-read-input-requires : tie.Need-read-input-requires
-read-input-requires c κs = search needs
-
-enum-known-answer : tie.Need-enum-known-answer
-enum-known-answer c = search needs
-
-enum-known-answer-2 : tie.Need-enum-known-answer-2
-enum-known-answer-2 c = search needs
-
-pair-in-requires : tie.Need-pair-in-requires
-pair-in-requires c κs = search needs
-
 returns : tie.Need-returns
 returns c =
     let a = c .before .before .before .before .before .before .before .args in
@@ -34,9 +22,9 @@ pub pair-of-spec : {M : Type 1} → statement M
 pair-of-spec =
     tie.close
     (tie.spec
-    read-input-requires
-    enum-known-answer
-    enum-known-answer-2
-    pair-in-requires
+    (λ c κs. search needs)  -- read-input-requires
+    (λ c. search needs)  -- enum-known-answer
+    (λ c. search needs)  -- enum-known-answer-2
+    (λ c κs. search needs)  -- pair-in-requires
     returns
     returns-2)

@@ -4,15 +4,6 @@ use borrow.Author.Needs.{needs}
 use Rattle.wellember.proofs.host.put_bounds.Statement.{statement}
 use Rattle.wellember.proofs.host.put_bounds.Tie as tie
 
-put-number-requires : tie.Need-put-number-requires
-put-number-requires c κs = search needs
-
-put-number-requires-2 : tie.Need-put-number-requires-2
-put-number-requires-2 c κs = search needs
-
-same-length : tie.Need-same-length
-same-length c = search needs
-
 returns : tie.Need-returns
 returns c =
     let two = c .before .before in
@@ -21,4 +12,9 @@ returns c =
 
 pub put-bounds-spec : {M : Type 1} → statement M
 put-bounds-spec =
-    tie.close (tie.spec put-number-requires put-number-requires-2 same-length returns)
+    tie.close
+    (tie.spec
+    (λ c κs. search needs)  -- put-number-requires
+    (λ c κs. search needs)  -- put-number-requires-2
+    (λ c. search needs)  -- same-length
+    returns)

@@ -7,15 +7,6 @@ use borrow.Author.Needs.{needs}
 use Rattle.wellember.proofs.host.wellember_pair.Statement.{statement}
 use Rattle.wellember.proofs.host.wellember_pair.Tie as tie
 
-pair-of-requires : tie.Need-pair-of-requires
-pair-of-requires c κs = search needs
-
-enum-known-number : tie.Need-enum-known-number
-enum-known-number c = search needs
-
-enum-known-found : tie.Need-enum-known-found
-enum-known-found c = search needs
-
 put-bounds-requires : tie.Need-put-bounds-requires
 put-bounds-requires c κs =
     let a = c .before .before .before .before .before .before .before .args in
@@ -28,9 +19,6 @@ returns c =
     let p = c .before .before .before .pair-of in
     host-refused (a .plan .now) _ (a .v) (a .w) (a .out .now) _ _ _ (c .before .number .given .1) (p .ensures)
 
-same-length : tie.Need-same-length
-same-length c = search needs
-
 returns-2 : tie.Need-returns-2
 returns-2 c =
     let a = c .before .before .before .before .before .before .before .before .before .before .args in
@@ -42,10 +30,10 @@ pub wellember-pair-spec : {M : Type 1} → statement M
 wellember-pair-spec =
     tie.close
     (tie.spec
-    pair-of-requires
-    enum-known-number
-    enum-known-found
+    (λ c κs. search needs)  -- pair-of-requires
+    (λ c. search needs)  -- enum-known-number
+    (λ c. search needs)  -- enum-known-found
     put-bounds-requires
     returns
-    same-length
+    (λ c. search needs)  -- same-length
     returns-2)
