@@ -10,7 +10,8 @@ ghost use Rattle.plan.specs.File.{membersRefusal};
 ghost use Rattle.reader.specs.Steps.{ranksGiven};
 
 // Reads `count` members by steps of the reader from a position on: each, 1 then 10. The ranks of those that are given, up to the first that
-// is refused, are laid down from the start. Ranks rise and are below 512, so there is room for all.
+// is refused, are laid down from the start, and a refusal leaves them and the position after them. Ranks rise and are below 512, so there is
+// room for all. For the test program: no call of the instrument uses it.
 pub fn read_members(
     s: &[u8],
     start: usize,
