@@ -21,23 +21,14 @@ pub fn header_refusal(s: &[u8]) -> u32
     if short != 0 {
         return short;
     }
-    let mark = refusals::mark_test(82, 83, 71, byte_at(s, 0), byte_at(s, 1), byte_at(s, 2));
-    if mark != 0 {
-        return mark;
-    }
-    let version = refusals::version_test(number_at(s, 3, 2));
-    if version != 0 {
-        return version;
-    }
-    let counts = refusals::counts_test(byte_at(s, 5), byte_at(s, 6), byte_at(s, 7));
-    if counts != 0 {
-        return counts;
-    }
-    let threshold = refusals::threshold_test(number_at(s, 8, 8));
-    if threshold != 0 {
-        return threshold;
-    }
-    refusals::limit_test(number_at(s, 16, 4))
+    let tests = [
+        refusals::mark_test(82, 83, 71, byte_at(s, 0), byte_at(s, 1), byte_at(s, 2)),
+        refusals::version_test(number_at(s, 3, 2)),
+        refusals::counts_test(byte_at(s, 5), byte_at(s, 6), byte_at(s, 7)),
+        refusals::threshold_test(number_at(s, 8, 8)),
+        refusals::limit_test(number_at(s, 16, 4)),
+    ];
+    refusals::first_of(&tests)
 }
 
 // The numbers of the header.

@@ -38,6 +38,10 @@ first-run [] rest = refl
 first-run (zero ∷ run) rest = first-run run rest
 first-run (suc n ∷ run) rest = refl
 
+-- two lists of tests are equal where their tests are, one by one
+pub also : {a b : ℕ} {l m : List ℕ} → a ≡ b → l ≡ m → a ∷ l ≡ b ∷ m
+also p q i = p i ∷ q i
+
 -- test i refuses, and decides among the tests from i on
 pub stop-at : (tests : List ℕ) (i : ℕ) → i < length tests → (getD tests i 0 ≡ 0 → ⊥) → first (drop i tests) ≡ getD tests i 0
 stop-at tests i h n = ap first (drop-cons tests i 0 h) ∙ first-stop _ _ n
