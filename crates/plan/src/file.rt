@@ -142,15 +142,12 @@ pub fn event_refusal(s: &[u8], at: usize, nodes: u64, links: u64, before: u64) -
         return short;
     }
     let q = number_at(s, at, 4);
-    let above = mass::probability_test(q);
-    if above != 0 {
-        return above;
-    }
-    let order = refusals::order_test(before, q);
-    if order != 0 {
-        return order;
-    }
-    members_refusal(s, at + 5, byte_at(s, at + 4), nodes, links)
+    let tests = [
+        mass::probability_test(q),
+        refusals::order_test(before, q),
+        members_refusal(s, at + 5, byte_at(s, at + 4), nodes, links),
+    ];
+    refusals::first_of(&tests)
 }
 
 // How many bytes an event takes.
