@@ -99,17 +99,14 @@ fn event_list_refusal(words: &[u64], count: u64, nodes: u64, links: u64) -> u32
     // Each turn takes one of the `left` events.
     while 0 < left {
         let q = words[at];
-        let above = mass::probability_test(q);
-        if above != 0 {
-            return above;
-        }
-        let order = refusals::order_test(before, q);
-        if order != 0 {
-            return order;
-        }
-        let sets = refusals::sets_test(nodes, links, words[at + 1], words[at + 2], words[at + 3]);
-        if sets != 0 {
-            return sets;
+        let tests = [
+            mass::probability_test(q),
+            refusals::order_test(before, q),
+            refusals::sets_test(nodes, links, words[at + 1], words[at + 2], words[at + 3]),
+        ];
+        let number = refusals::first_of(&tests);
+        if number != 0 {
+            return number;
         }
         before = q;
         at += 4;
