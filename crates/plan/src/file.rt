@@ -189,9 +189,9 @@ pub fn check(s: &[u8]) -> u32
     }
     let nodes = byte_at(s, 5);
     let count = byte_at(s, 6);
-    let links = links_refusal(s, 20, count, nodes);
-    if links != 0 {
-        return links;
-    }
-    events_refusal(s, 20 + 2 * (count as usize), byte_at(s, 7), nodes, count)
+    let tests = [
+        links_refusal(s, 20, count, nodes),
+        events_refusal(s, 20 + 2 * (count as usize), byte_at(s, 7), nodes, count),
+    ];
+    refusals::first_of(&tests)
 }
