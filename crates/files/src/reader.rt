@@ -145,11 +145,11 @@ fn read_test(s: &[u8], link_room: usize, event_room: usize) -> u32
     if number != 0 {
         return number;
     }
-    let link_list = refusals::room_test(link_room, 2 * (byte_at(s, 6) as usize));
-    if link_list != 0 {
-        return link_list;
-    }
-    refusals::room_test(event_room, byte_at(s, 7) as usize)
+    let tests = [
+        refusals::room_test(link_room, 2 * (byte_at(s, 6) as usize)),
+        refusals::room_test(event_room, byte_at(s, 7) as usize),
+    ];
+    refusals::first_of(&tests)
 }
 
 // Reads a plan into the arrays, where the lent lists have room for `link_room` bytes and `event_room` whole events.

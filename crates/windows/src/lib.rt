@@ -74,15 +74,12 @@ pub fn work_refusal(nodes: u64, links: u64, words: &[u64], minute: u64) -> u32
     ensures { λ r. ⌜ r ≡ workRefusal nodes links (now (words .entry)) minute ⌝ }
 {
     let count = words.len() / 5;
-    let tail = refusals::room_test(5 * count, words.len());
-    if tail != 0 {
-        return tail;
-    }
-    let wrong = window_list_refusal(words, count, nodes, links);
-    if wrong != 0 {
-        return wrong;
-    }
-    minute_test(minute)
+    let tests = [
+        refusals::room_test(5 * count, words.len()),
+        window_list_refusal(words, count, nodes, links),
+        minute_test(minute),
+    ];
+    refusals::first_of(&tests)
 }
 
 // Whether the minutes from `start` up to `end` hold a minute.
