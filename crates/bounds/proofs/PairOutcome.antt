@@ -1,13 +1,12 @@
 -- The answer of one pair on lent lists, from what the walk of the arrays gave.
 -- Assumes nothing.
-use mathlib.Core.Path.{_≡_, refl, sym, ap, subst, _∙_}
+use mathlib.Core.Path.{_≡_, sym, ap, subst, _∙_}
 use mathlib.Core.List.{List}
 use Prim.Native.Nat.{ℕ, _+_, _-_, _≤_}
 use lib.ListN.{length, getD}
 use Rattle.mass.specs.Split.{whole}
-use Rattle.refusals.proofs.OrderLaws.{stop, skip, last}
 use Rattle.plan.specs.Plan.{Plan}
-use Rattle.plan.specs.LentLists.{planOfLists, listsNumber}
+use Rattle.plan.specs.LentLists.{planOfLists}
 use Rattle.plan.specs.declared.Header.{Header}
 use Rattle.lent.specs.Taken.{Taken}
 use Rattle.network.specs.Outage.{intact}
@@ -16,7 +15,7 @@ use Rattle.pairs.specs.BoundsFit.{BoundsFit}
 use Rattle.pairs.specs.Pairs.{pairCount, pairTest, place}
 use Rattle.pairs.proofs.PairLaws.{pairs-most}
 use Rattle.bounds.specs.Bounds.{Encloses}
-use Rattle.bounds.specs.Calls.{totalsOf, pairRefusal, pairNumber, pairAnswer, boundsOf, boundsIn}
+use Rattle.bounds.specs.Calls.{totalsOf, pairNumber, pairAnswer, boundsOf, boundsIn}
 use Rattle.bounds.specs.Summed.{Summed}
 use Rattle.bounds.specs.declared.Totals.{Totals}
 use Rattle.bounds.specs.declared.PairBounds.{PairBounds}
@@ -59,31 +58,18 @@ module _ (h : Header) (links events : List ℕ) (v w : ℕ) where
       (r ≡ pairAnswer pairRefused (boundsOf intact plan v w))
       × (pairRefused ≡ 0 → Encloses intact plan v w (boundsIn r .lower) (boundsIn r .upper) (count plan))
 
-  not-paired : (n : ℕ) → n ≡ pairRefused → (n ≡ 0 → ⊥) → PairPromised (paired.Refused n)
+  pub not-paired : (n : ℕ) → n ≡ pairRefused → (n ≡ 0 → ⊥) → PairPromised (paired.Refused n)
   not-paired n e some = (pair-refuses n pairRefused (boundsOf intact plan v w) e some, λ z. absurd (some (e ∙ z)))
-
-  pub lists-refuse-pair : (n : ℕ) → n ≡ listsNumber h links events → (n ≡ 0 → ⊥) → PairPromised (paired.Refused n)
-  unfolding pairRefusal
-  lists-refuse-pair n e some = not-paired n (stop _ e some) some
-
-  pub pair-wrong : (lists n : ℕ) → lists ≡ listsNumber h links events → lists ≡ 0 → n ≡ pairTest (h .nodes) v w → (n ≡ 0 → ⊥)
-      → PairPromised (paired.Refused n)
-  unfolding pairRefusal
-  pair-wrong lists n e z f some = not-paired n (skip _ e z (stop _ f some)) some
 
   module _ (bytes words : List ℕ) (t : Taken h links events bytes words) (totals : Totals) (sums : List ℕ)
       (is : totals ≡ totalsOf (planOfLists h bytes words)) (s : Summed intact (planOfLists h bytes words) (h .nodes) sums)
-      (accepted : listsNumber h links events ≡ 0) (right : pairTest (h .nodes) v w ≡ 0) (r : PairBounds)
+      (accepted : pairRefused ≡ 0) (right : pairTest (h .nodes) v w ≡ 0) (r : PairBounds)
       (at : (r .lower ≡ getD sums (place (h .nodes) v w) 0) × (r .upper ≡ (whole - totals .mass) + getD sums (place (h .nodes) v w) 0)) where
-    pair-zero : pairRefused ≡ 0
-    unfolding pairRefusal
-    pair-zero = sym (skip _ refl accepted (last (sym right)))
-
     bounds-are : r ≡ boundsOf intact plan v w
     bounds-are = own-bounds h links events bytes words t totals sums is s v w r right at
 
     pub pair-done : PairPromised (paired.Done r)
     pair-done = (
-      rw pair-zero (ap paired.Done bounds-are),
+      rw accepted (ap paired.Done bounds-are),
       λ z. subst (λ (b : PairBounds). Encloses intact plan v w (b .lower) (b .upper) (count plan)) (sym bounds-are) (enclosed intact plan (t .valid) v w),
     )

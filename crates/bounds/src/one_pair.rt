@@ -43,13 +43,13 @@ pub fn pair(h: Header, links: &[u8], events: &[u64], v: u64, w: u64) -> Paired
 {
     let mut bytes = [0u8; 256];
     let mut words = [0u64; 512];
-    let lists = lent::accept(h, links, events, &mut bytes, &mut words);
-    if lists != 0 {
-        return Paired::Refused(lists);
-    }
-    let wrong = pair_test(h.nodes, v, w);
-    if wrong != 0 {
-        return Paired::Refused(wrong);
+    let tests = [
+        lent::accept(h, links, events, &mut bytes, &mut words),
+        pair_test(h.nodes, v, w),
+    ];
+    let number = refusals::first_of(&tests);
+    if number != 0 {
+        return Paired::Refused(number);
     }
     let mut sums = [0u64; 2016];
     let totals = walk_all(h, &bytes, &words, Failed::NONE, &mut sums);
