@@ -1,6 +1,6 @@
 -- `plan::file::header_refusal` meets its contract: the header's bytes are there, and then its tests are the list that `first_of` is given.
 -- Assumes nothing.
-use mathlib.Core.Path.{_≡_, refl, _∙_, ap}
+use mathlib.Core.Path.{refl, _∙_, ap}
 use Prim.Native.Nat.{_≤_}
 use native.Mathlib.Omega.{arith}
 use lib.ListN.{length}
