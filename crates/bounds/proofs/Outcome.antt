@@ -6,7 +6,7 @@ use Prim.Native.Nat.{ℕ, _+_, _-_, _/_, _≤_}
 use lib.ListN.{length, take}
 use lib.Seq.{sets}
 use Rattle.mass.specs.Refusal.{first}
-use Rattle.mass.proofs.RefusalLaws.{first-none}
+use Rattle.mass.proofs.RefusalLaws.{first-none, refuses}
 use Rattle.mass.specs.Split.{whole}
 use Rattle.refusals.specs.Tests.{roomTest}
 use Rattle.refusals.proofs.OrderLaws.{stop, skip, last}
@@ -28,7 +28,7 @@ use Rattle.bounds.specs.Summed.{Summed}
 use Rattle.bounds.specs.declared.Totals.{Totals}
 use Rattle.bounds.specs.declared.Ran.{Ran}
 use Rattle.bounds.specs.declared.Ran.the-variants as ran
-use Rattle.bounds.proofs.Answers.{ran-refuses, giving, lower-laid, upper-laid, all-enclosed}
+use Rattle.bounds.proofs.Answers.{giving, lower-laid, upper-laid, all-enclosed}
 
 -- ---- the numbers
 
@@ -79,7 +79,7 @@ module _ (out : Outage) (number : ℕ) (h : Header) (links events lower upper : 
   pub run-refused : (n : ℕ) → n ≡ number → (n ≡ 0 → ⊥) → RunPromised (ran.Refused n) lower upper
   run-refused n e some =
       let no-zero : number ≡ 0 → ⊥ = λ z. some (e ∙ z) in (
-        ran-refuses n number (totalsOf p) e some,
+        refuses ran.Refused _ e some,
         (filled-none number (lowerList out p) lower no-zero, (filled-none number (upperList out p) upper no-zero, λ z. absurd (no-zero z))),
       )
 

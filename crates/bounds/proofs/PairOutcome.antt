@@ -5,6 +5,7 @@ use mathlib.Core.List.{List}
 use Prim.Native.Nat.{ℕ, _+_, _-_, _≤_}
 use lib.ListN.{length, getD}
 use Rattle.mass.specs.Split.{whole}
+use Rattle.mass.proofs.RefusalLaws.{refuses}
 use Rattle.refusals.proofs.OrderLaws.{stop, skip, last}
 use Rattle.plan.specs.Plan.{Plan}
 use Rattle.plan.specs.LentLists.{planOfLists, listsNumber}
@@ -22,7 +23,7 @@ use Rattle.bounds.specs.declared.Totals.{Totals}
 use Rattle.bounds.specs.declared.PairBounds.{PairBounds}
 use Rattle.bounds.specs.declared.Paired.{Paired}
 use Rattle.bounds.specs.declared.Paired.the-variants as paired
-use Rattle.bounds.proofs.Answers.{pair-refuses, pair-inside, pair-bounds, enclosed}
+use Rattle.bounds.proofs.Answers.{pair-inside, pair-bounds, enclosed}
 use Rattle.bounds.proofs.Outcome.{may-give, mass-of, arrays-valid}
 
 -- the walk of the arrays that accepted lists were taken into gave the totals and the sums
@@ -60,7 +61,7 @@ module _ (h : Header) (links events : List ℕ) (v w : ℕ) where
       × (pairRefused ≡ 0 → Encloses intact plan v w (boundsIn r .lower) (boundsIn r .upper) (count plan))
 
   not-paired : (n : ℕ) → n ≡ pairRefused → (n ≡ 0 → ⊥) → PairPromised (paired.Refused n)
-  not-paired n e some = (pair-refuses n pairRefused (boundsOf intact plan v w) e some, λ z. absurd (some (e ∙ z)))
+  not-paired n e some = (refuses paired.Refused _ e some, λ z. absurd (some (e ∙ z)))
 
   pub lists-refuse-pair : (n : ℕ) → n ≡ listsNumber h links events → (n ≡ 0 → ⊥) → PairPromised (paired.Refused n)
   unfolding pairRefusal

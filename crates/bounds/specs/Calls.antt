@@ -2,9 +2,9 @@
 -- For each case of an answer, `ranAnswer` and `pairAnswer` say which number and values it stands for.
 -- Assumes nothing.
 use mathlib.Core.List.{List, [], _∷_}
-use Prim.Native.Nat.{ℕ, zero, suc, _/_}
+use Prim.Native.Nat.{ℕ, _/_}
 use lib.ListN.{length}
-use Rattle.mass.specs.Refusal.{first}
+use Rattle.mass.specs.Refusal.{first, answered}
 use Rattle.plan.specs.Plan.{Plan}
 use Rattle.refusals.specs.Tests.{roomTest}
 use Rattle.plan.specs.LentLists.{listsRefusal}
@@ -44,9 +44,14 @@ runAtNumber h links events windows minute lower upper =
 abbrev pub totalsOf : Plan → Totals
 totalsOf p = record { count = count p; complete = complete p; mass = massExamined p }
 
+-- the answer of a run
 abbrev pub ranAnswer : ℕ → Totals → Ran
-ranAnswer zero totals = ran.Done totals
-ranAnswer (suc number) totals = ran.Refused (suc number)
+ranAnswer number totals = answered ran.Refused (ran.Done totals) number
+
+-- the number of a run's answer
+abbrev pub ranNumber : Ran → ℕ
+ranNumber (ran.Refused number) = number
+ranNumber (ran.Done totals) = 0
 
 -- the totals of an answer: all numbers are 0 where it refuses
 abbrev pub totalsIn : Ran → Totals
@@ -66,9 +71,14 @@ pairNumber h links events v w = pairRefusal h (length links) (length events / 4)
 abbrev pub boundsOf : Outage → Plan → ℕ → ℕ → PairBounds
 boundsOf out p v w = record { lower = lowerOf out p v w; upper = upperOf out p v w }
 
+-- the answer of one pair
 abbrev pub pairAnswer : ℕ → PairBounds → Paired
-pairAnswer zero bounds = paired.Done bounds
-pairAnswer (suc number) bounds = paired.Refused (suc number)
+pairAnswer number bounds = answered paired.Refused (paired.Done bounds) number
+
+-- the number of one pair's answer
+abbrev pub pairedNumber : Paired → ℕ
+pairedNumber (paired.Refused number) = number
+pairedNumber (paired.Done bounds) = 0
 
 -- the bounds in an answer: both are 0 where it refuses
 abbrev pub boundsIn : Paired → PairBounds

@@ -14,7 +14,6 @@ use Rattle.plan.specs.File.{eventSize, refusal, eventsAt, linksIn, eventsIn, pl
 use Rattle.plan.specs.Calls.{filled, headerOf, readRefusal, readAnswer, headerIn}
 use Rattle.plan.specs.Lists.{linksOf, linkBytes, eventWords}
 use Rattle.plan.specs.declared.Header.{Header}
-use Rattle.plan.specs.declared.Reading.the-variants as reading
 use Rattle.plan.proofs.FileLawsAccepted.{accepted-counts}
 
 -- ---- a reading from a position on: past the end there is nothing
@@ -40,18 +39,6 @@ module _ (linkRoom eventRoom : ℕ) (b : List ℕ) (e : readRefusal linkRoom eve
   read-room =
       let f = first-none _ _ (first-none _ _ e .1) in
       (ltb-false _ _ (refuse-none _ 11 (f .0)), ltb-false _ _ (refuse-none _ 11 (first-none _ _ (f .1) .0)))
-
--- ---- the answer and the lists, by the number
-
-pub reading-stop : {r number : ℕ} (h : Header) → r ≡ number → (r ≡ 0 → ⊥) → reading.Refused r ≡ readAnswer number h
-reading-stop {r} {number} h e n = go number e
-  where
-    go : (k : ℕ) → r ≡ k → reading.Refused r ≡ readAnswer k h
-    go zero z = absurd (n z)
-    go (suc k) z = ap reading.Refused z
-
-pub reading-go : (number : ℕ) {x h : Header} → number ≡ 0 → x ≡ h → reading.Accepted x ≡ readAnswer number h
-reading-go number e p = rw e (ap reading.Accepted p)
 
 -- ---- the lists have as many elements as the counts say
 

@@ -1,9 +1,7 @@
 -- Units and the splitting of mass: document 01, section "Units and the splitting of mass".
 -- Assumes nothing.
-use mathlib.Core.Path.{_≡_, refl}
 use mathlib.Core.List.{[], _∷_}
-use Prim.Native.Nat.{ℕ, _+_, _-_, _*_, _/_, _≤_}
-use native.Mathlib.Omega.{arith}
+use Prim.Native.Nat.{ℕ, _-_, _*_, _/_}
 use lib.Dec.{ltb}
 use Rattle.mass.specs.Refusal.{refuse, first, answered}
 use Rattle.mass.specs.declared.Mass.{Mass}

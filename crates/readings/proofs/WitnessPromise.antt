@@ -5,14 +5,13 @@ use mathlib.Core.List.{List}
 use Prim.Native.Nat.{ℕ, _<_}
 use native.Mathlib.Omega.{arith}
 use lib.ListN.{take}
-use Rattle.mass.proofs.RefusalLaws.{first-skip}
+use Rattle.mass.proofs.RefusalLaws.{refuses}
 use Rattle.mass.specs.Split.{whole}
 use Rattle.plan.specs.Plan.{Plan}
 use Rattle.plan.specs.LentLists.{planOfLists, listsNumber}
 use Rattle.plan.specs.declared.Header.{Header}
 use Rattle.lent.specs.Taken.{Taken}
-use Rattle.lent.proofs.ListLaws.{first-last}
-use Rattle.refusals.proofs.OrderLaws.{stop, skip}
+use Rattle.refusals.proofs.OrderLaws.{stop, skip, last}
 use Rattle.walk.specs.Ends.{End, scenarios}
 use Rattle.walk.specs.Walk.{examined}
 use Rattle.walk.proofs.Resume.{Alone, begun-stack, begun-whole, root-entry}
@@ -23,7 +22,6 @@ use Rattle.readings.specs.Witness.{noneTest, witnessRefusal, witnessNumb
 use Rattle.readings.specs.Search.{reached, searched, Seeking}
 use Rattle.readings.specs.declared.Witnessed.{Witnessed}
 use Rattle.readings.specs.declared.Witnessed.the-variants as witnessed
-use Rattle.readings.proofs.Refusing.{refuses}
 
 -- ---- from the root of the walk
 
@@ -50,7 +48,7 @@ module _ (h : Header) (links events : List ℕ) (v w : ℕ) where
   number = witnessNumber intact h links events v w
 
   refused : (n : ℕ) → n ≡ number → (n ≡ 0 → ⊥) → witnessed.Refused n ≡ witnessOf intact h links events v w
-  refused n e some = refuses witnessAnswer witnessed.Refused (λ k x. refl) n number _ e some
+  refused n e some = refuses witnessed.Refused _ e some
 
   pub lists-refused : (n : ℕ) → n ≡ listsNumber h links events → (n ≡ 0 → ⊥) → witnessed.Refused n ≡ witnessOf intact h links events v w
   unfolding witnessRefusal
@@ -67,7 +65,7 @@ module _ (h : Header) (links events : List ℕ) (v w : ℕ) where
       → r ≡ witnessOf intact h links events v w
   unfolding witnessRefusal
   searched-all bytes words t e f r a =
-      let is : number ≡ noneTest intact p v w (examined p) = first-skip _ _ e ∙ first-skip _ _ f ∙ first-last _ in
+      let is : number ≡ noneTest intact p v w (examined p) = sym (skip _ refl e (skip _ refl f (last refl))) in
       a
       ∙ ap (λ (q : Plan). searched intact q v w (examined q)) (t .denoted)
       ∙ ap (λ (n : ℕ). witnessAnswer n (failingOf (firstCut intact p v w))) (sym is)

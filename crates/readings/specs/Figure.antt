@@ -40,6 +40,12 @@ figureAnswer (suc number) examined shares = figured.Refused (suc number)
 figureAnswer zero zero shares = figured.NoFigure
 figureAnswer zero (suc examined) shares = figured.Given shares
 
+-- the number of a figure's answer
+abbrev pub figuredNumber : Figured → ℕ
+figuredNumber (figured.Refused number) = number
+figuredNumber figured.NoFigure = 0
+figuredNumber (figured.Given shares) = 0
+
 -- the floats in an answer: both are 0 where it refuses, and there are none where there is no figure
 abbrev pub floatsIn : Figured → List Float
 floatsIn (figured.Refused number) = float 0 ∷ float 0 ∷ []

@@ -3,9 +3,9 @@
 -- Assumes nothing.
 use mathlib.Core.Bool.{Bool, true, false, not, _||_}
 use mathlib.Core.List.{List, [], _∷_}
-use Prim.Native.Nat.{ℕ, zero, suc, _/_, _%_, _^_}
+use Prim.Native.Nat.{ℕ, _/_, _%_, _^_}
 use lib.ListN.{length}
-use Rattle.mass.specs.Refusal.{refuse, first}
+use Rattle.mass.specs.Refusal.{refuse, first, answered}
 use Rattle.plan.specs.Plan.{Plan}
 use Rattle.plan.specs.LentLists.{listsRefusal, planOfLists}
 use Rattle.plan.specs.declared.Header.{Header}
@@ -53,10 +53,14 @@ firstCut out p v w = firstWhere (cuts out p v w) (examined p)
 abbrev pub failingOf : Scenario → Failing
 failingOf s = record { low = number s % 2 ^ 64; high = number s / 2 ^ 64 }
 
--- the case of the answer that a number and a set of failing events stand for: `Refused` with a number that is not 0, else the set
+-- the answer of a witness
 abbrev pub witnessAnswer : ℕ → Failing → Witnessed
-witnessAnswer zero set = witnessed.Found set
-witnessAnswer (suc number) set = witnessed.Refused (suc number)
+witnessAnswer number set = answered witnessed.Refused (witnessed.Found set) number
+
+-- the number of a witness's answer
+abbrev pub witnessedNumber : Witnessed → ℕ
+witnessedNumber (witnessed.Refused number) = number
+witnessedNumber (witnessed.Found set) = 0
 
 -- the set of failing events in an answer: both words are 0 where it refuses
 abbrev pub failingIn : Witnessed → Failing

@@ -2,11 +2,12 @@
 -- Assumes nothing.
 use mathlib.Core.Path.{_≡_, refl, sym, ap, subst, _∙_}
 use mathlib.Core.List.{List, _++_}
-use Prim.Native.Nat.{ℕ, zero, suc, _+_, _*_, _/_}
+use Prim.Native.Nat.{ℕ, _+_, _*_, _/_}
 use native.Mathlib.Omega.{arith}
 use lib.ListN.{length, take, drop, take-append-drop}
 use lib.Seq.{sets, sets-eq, length-take-le}
 use Rattle.mass.specs.Refusal.{first}
+use Rattle.mass.proofs.RefusalLaws.{refuses, answered-number}
 use Rattle.plan.specs.Plan.{Plan}
 use Rattle.plan.specs.LentLists.{planOfLists, listsNumber}
 use Rattle.plan.specs.declared.Header.{Header}
@@ -17,7 +18,7 @@ use Rattle.network.specs.Outage.{intact}
 use Rattle.entries.specs.Entries.{TopologyList, entryWords}
 use Rattle.topology_list.specs.TopologyList.{topologyListOf}
 use Rattle.entries.specs.Words.{HoldsList}
-use Rattle.topology_list.specs.Calls.{topologyListIn, topologiesRefusal, topologiesNumber, listedAnswer, listAfter}
+use Rattle.topology_list.specs.Calls.{topologyListIn, topologiesRefusal, topologiesNumber, listedAnswer, listedNumber, listAfter}
 use Rattle.entries.specs.declared.Placed.{Placed}
 use Rattle.topology_list.specs.declared.Listed.{Listed}
 use Rattle.topology_list.specs.declared.Listed.the-variants as listed
@@ -39,9 +40,9 @@ laid-down out words words′ q g =
     zero-less : (k : ℕ) → 0 + k ≡ k
     zero-less k = omega arith
 
-refused-is : (number count : ℕ) → (number ≡ 0 → ⊥) → listed.Refused number ≡ listedAnswer number count
-refused-is zero count n = absurd (n refl)
-refused-is (suc number) count n = refl
+-- an answer has the number that it follows from
+pub listed-number : (number count : ℕ) → listedNumber (listedAnswer number count) ≡ number
+listed-number number count = answered-number listed.Refused (listed.Entries count) listedNumber refl (λ n. refl) number
 
 module _ (h : Header) (links events list : List ℕ) where
   -- an answer, with what it leaves in the lent list
@@ -52,8 +53,7 @@ module _ (h : Header) (links events list : List ℕ) where
 
   refused : (number : ℕ) (list′ : List ℕ) → number ≡ topologiesNumber intact h links events list → (number ≡ 0 → ⊥)
       → list′ ≡ listAfter intact h (length links) (length events / 4) links events list → ListPromised (listed.Refused number) list′
-  refused number list′ is n e =
-      (refused-is number _ n ∙ ap (λ (x : ℕ). listedAnswer x (length (topologyListIn intact h links events list .entries))) is, e)
+  refused number list′ is n e = (refuses listed.Refused _ is n, e)
 
   -- the lists are refused: nothing changes
   pub lists-refused : (number : ℕ) → number ≡ listsNumber h links events → (number ≡ 0 → ⊥) → ListPromised (listed.Refused number) list

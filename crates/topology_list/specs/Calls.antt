@@ -3,9 +3,9 @@
 -- `out` is what is out before the first event (document 02, request U7).
 -- Assumes nothing.
 use mathlib.Core.List.{List, [], _∷_}
-use Prim.Native.Nat.{ℕ, zero, suc, _/_}
+use Prim.Native.Nat.{ℕ, _/_}
 use lib.ListN.{length}
-use Rattle.mass.specs.Refusal.{first}
+use Rattle.mass.specs.Refusal.{first, answered}
 use Rattle.plan.specs.LentLists.{listsRefusal, planOfLists}
 use Rattle.plan.specs.Calls.{filled}
 use Rattle.plan.specs.declared.Header.{Header}
@@ -28,9 +28,14 @@ topologiesRefusal out h linkRoom eventRoom links words list =
 abbrev pub topologiesNumber : Outage → Header → List ℕ → List ℕ → List ℕ → ℕ
 topologiesNumber out h links events list = topologiesRefusal out h (length links) (length events / 4) links events list
 
+-- the answer of a topology list
 abbrev pub listedAnswer : ℕ → ℕ → Listed
-listedAnswer zero count = listed.Entries count
-listedAnswer (suc number) count = listed.Refused (suc number)
+listedAnswer number count = answered listed.Refused (listed.Entries count) number
+
+-- the number of a topology list's answer
+abbrev pub listedNumber : Listed → ℕ
+listedNumber (listed.Refused number) = number
+listedNumber (listed.Entries count) = 0
 
 -- the number of entries in an answer: 0 where it refuses
 abbrev pub countIn : Listed → ℕ

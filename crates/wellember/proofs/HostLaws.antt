@@ -7,7 +7,7 @@ use native.Mathlib.Omega.{arith}
 use lib.ListN.{length, drop, length-append}
 use lib.Seq.{sets, sets-eq, take-at, drop-at}
 use Rattle.mass.specs.Refusal.{first}
-use Rattle.mass.proofs.RefusalLaws.{first-none, first-skip}
+use Rattle.mass.proofs.RefusalLaws.{first-none, first-skip, refuses}
 use Rattle.plan.specs.Plan.{Plan}
 use Rattle.plan.specs.Layout.{little}
 use Rattle.refusals.specs.Tests.{roomTest}
@@ -16,9 +16,9 @@ use Rattle.plan.specs.LentLists.{planRefusal, planOfLists}
 use Rattle.plan.specs.Calls.{filled, headerOf, readAnswer}
 use Rattle.plan.specs.declared.Header.{Header}
 use Rattle.plan.specs.declared.Reading.the-variants as reading
-use Rattle.refusals.proofs.OrderLaws.{stop}
+use Rattle.refusals.proofs.OrderLaws.{stop, skip, last}
 use Rattle.refusals.proofs.TestLaws.{room-none}
-use Rattle.lent.proofs.ListLaws.{first-last, sets-then}
+use Rattle.lent.proofs.ListLaws.{sets-then}
 use Rattle.layout.proofs.LayoutNumbers.{length-little, value-little}
 use Rattle.layout.proofs.Theorems.{lists-denote}
 use Rattle.walk.specs.Walk.{count}
@@ -29,7 +29,7 @@ use Rattle.bounds.specs.declared.Paired.{Paired}
 use Rattle.bounds.specs.declared.Paired.the-variants as paired
 use Rattle.plan.proofs.FilledLaws.{filled-none, filled-all}
 use Rattle.network.specs.Outage.{intact}
-use Rattle.bounds.proofs.Answers.{pair-refuses, pair-refused-is, pair-done-is, enclosed}
+use Rattle.bounds.proofs.Answers.{pair-refused-is, pair-done-is, enclosed}
 use Rattle.input.specs.Loaded.{Loaded}
 use Rattle.wellember.specs.Host.{hostRefusal, sixteen, lowerIn, upperIn}
 
@@ -45,7 +45,7 @@ reading-accepted (suc number) x h e = absurd (let never : _≡_ {A = ℕ} 0 1 = 
 
 -- 12 is not given, and 13 decides
 pub room-passed : (room number : ℕ) → roomTest room 16 ≡ 0 → number ≡ first (roomTest room 16 ∷ number ∷ [])
-room-passed room number e = sym (first-skip _ _ e ∙ first-last number)
+room-passed room number e = skip _ refl e (last refl)
 
 -- ---- from a file to its plan
 
@@ -62,13 +62,13 @@ module _ (b : List ℕ) (room v w : ℕ) where
   file-refused n h e =
       let r = reading-refused (refusal b) n h e in
       let is : n ≡ hostRefusal b room v w = stop _ (r .0) (r .1) in
-      (pair-refuses n (hostRefusal b room v w) (boundsOf intact (planOf b) v w) is (r .1), λ z. absurd (r .1 (is ∙ z)))
+      (refuses paired.Refused _ is (r .1), λ z. absurd (r .1 (is ∙ z)))
 
   module _ (links words : List ℕ) (z : refusal b ≡ 0) (l : Loaded b links words) where
     same-number : first (roomTest room 16 ∷ pairRefusal (headerOf b) 256 128 links words v w ∷ []) ≡ hostRefusal b room v w
     unfolding hostRefusal pairRefusal headerOf
     same-number =
-        ap (λ (n : ℕ). first (roomTest room 16 ∷ n ∷ [])) (first-skip _ _ (l .accepted) ∙ first-last _)
+        ap (λ (n : ℕ). first (roomTest room 16 ∷ n ∷ [])) (sym (skip _ refl (l .accepted) (last refl)))
         ∙ sym (first-skip _ _ z)
 
     valid : planRefusal (planOf b) ≡ 0

@@ -2,31 +2,32 @@
 -- Assumes nothing.
 use mathlib.Core.Path.{_≡_, refl, sym, ap, _∙_}
 use mathlib.Core.List.{List}
-use Prim.Native.Nat.{ℕ, zero, suc}
+use Prim.Native.Nat.{ℕ}
 use lib.ListN.{length}
 use lib.Seq.{sets}
-use Rattle.mass.proofs.RefusalLaws.{first-skip}
+use Rattle.mass.proofs.RefusalLaws.{refuses}
 use Rattle.refusals.specs.Tests.{roomTest}
+use Rattle.refusals.proofs.OrderLaws.{stop, skip, last}
 use Rattle.plan.specs.Layout.{layout}
 use Rattle.plan.specs.LentLists.{planOfLists, listsRefusal}
 use Rattle.plan.specs.Calls.{filled, writeRefusal, writeAnswer}
 use Rattle.plan.specs.declared.Header.{Header}
 use Rattle.plan.specs.declared.Writing.{Writing}
 use Rattle.plan.specs.declared.Writing.the-variants.{Refused, Written}
-use Rattle.lent.proofs.ListLaws.{decides, first-last}
+use Rattle.plan.proofs.FilledLaws.{filled-none}
 
 module _ (h : Header) (linkRoom eventRoom : ℕ) (links words : List ℕ) where
   -- the lists refuse, or the output's room
   lists-first : (room number : ℕ) → number ≡ listsRefusal h linkRoom eventRoom links words → (number ≡ 0 → ⊥)
       → number ≡ writeRefusal h linkRoom eventRoom links words room
   unfolding writeRefusal
-  lists-first room number e n = decides number _ _ e n
+  lists-first room number e n = stop _ e n
 
   then-room : (room number : ℕ) → listsRefusal h linkRoom eventRoom links words ≡ 0
       → number ≡ roomTest room (length (layout (planOfLists h links words)))
       → number ≡ writeRefusal h linkRoom eventRoom links words room
   unfolding writeRefusal
-  then-room room number z e = e ∙ sym (first-skip _ _ z ∙ first-last _)
+  then-room room number z e = skip _ refl z (last e)
 
   -- an answer of `write`, with what it leaves in the output
   abbrev pub Outcome : List ℕ → List ℕ → Writing → Type 0
@@ -36,8 +37,7 @@ module _ (h : Header) (linkRoom eventRoom : ℕ) (links words : List ℕ) where
 
   refused : (out : List ℕ) (number : ℕ) → number ≡ writeRefusal h linkRoom eventRoom links words (length out) → (number ≡ 0 → ⊥)
       → Outcome out out (Refused number)
-  refused out zero e n = absurd (n refl)
-  refused out (suc number) e n = rw (← e) (refl, refl)
+  refused out number e n = (refuses Refused _ e n, filled-none _ _ out (λ z. n (e ∙ z)))
 
   pub lists-refuse : (out : List ℕ) (number : ℕ) → number ≡ listsRefusal h linkRoom eventRoom links words → (number ≡ 0 → ⊥)
       → Outcome out out (Refused number)

@@ -2,11 +2,12 @@
 -- exact downtime lies between its seconds follows from that.
 -- Assumes nothing.
 use borrow.Author.Needs.{needs}
-use mathlib.Core.Path.{_≡_, refl, sym, ap, ap₂, subst, _∙_}
+use mathlib.Core.Path.{_≡_, sym, ap, ap₂, subst, _∙_}
 use Prim.Native.Nat.{ℕ}
 use lib.ListN.{length}
 use Rattle.mass.specs.Split.{massTest}
 use Rattle.mass.proofs.Answer.{mass-fits}
+use Rattle.mass.proofs.RefusalLaws.{refuses}
 use Rattle.refusals.proofs.OrderLaws.{stop, skip}
 use Rattle.sums.specs.Exact.{exactCut}
 use Rattle.bounds.specs.Bounds.{cuts}
@@ -15,7 +16,6 @@ use Rattle.readings.specs.Downtime.{DowntimeWithin, EnclosesDowntime}
 use Rattle.readings.specs.declared.Seconds.{Seconds}
 use Rattle.readings.specs.declared.Timed.{Timed}
 use Rattle.readings.specs.declared.Timed.the-variants as timed
-use Rattle.readings.proofs.Refusing.{refuses}
 use Rattle.readings.proofs.DowntimeLaws.{none-refused, bounds-fit}
 use Rattle.readings.proofs.Theorems.{bounds-enclose}
 use Rattle.readings.proofs.yearly.downtime.Statement.{statement}
@@ -47,12 +47,12 @@ module _ (lower upper : ℕ) where
 returns : tie.Need-returns
 returns c =
     concluded _ _ _
-    (refuses downtimeAnswer timed.Refused (λ n x. refl) _ _ _ (stop _ (c .before .mass-test .ensures) (c .if1 .taken)) (c .if1 .taken))
+    (refuses timed.Refused _ (stop _ (c .before .mass-test .ensures) (c .if1 .taken)) (c .if1 .taken))
 
 returns-2 : tie.Need-returns-2
 returns-2 c =
     concluded _ _ _
-    (refuses downtimeAnswer timed.Refused (λ n x. refl) _ _ _
+    (refuses timed.Refused _
     (skip _ (c .before .before .before .mass-test .ensures) (c .before .before .if1 .left) (stop _ (c .before .mass-test2 .ensures) (c .if2 .taken)))
     (c .if2 .taken))
 

@@ -2,18 +2,19 @@
 use mathlib.Core.Path.{_≡_, sym, ap, ap₂, _∙_}
 use Prim.Native.Nat.{ℕ, _/_}
 use lib.ListN.{length}
+use Rattle.mass.proofs.RefusalLaws.{refuses}
 use Rattle.plan.specs.LentLists.{planOfLists}
 use Rattle.refusals.proofs.OrderLaws.{stop}
 use Rattle.network.specs.Outage.{intact}
 use Rattle.bounds.specs.Calls.{pairRefusal, pairAnswer, boundsOf}
-use Rattle.bounds.proofs.Answers.{pair-refuses}
+use Rattle.bounds.specs.declared.Paired.the-variants as paired
 use Rattle.wellember.proofs.HostLaws.{room-passed}
 use borrow.Author.Needs.{needs}
 use Rattle.wellember.proofs.host.pair_in.Statement.{statement}
 use Rattle.wellember.proofs.host.pair_in.Tie as tie
 
 returns : tie.Need-returns
-returns c = pair-refuses _ _ _ (stop _ (c .before .room-test .ensures) (c .if1 .taken)) (c .if1 .taken)
+returns c = refuses paired.Refused _ (stop _ (c .before .room-test .ensures) (c .if1 .taken)) (c .if1 .taken)
 
 returns-2 : tie.Need-returns-2
 returns-2 c =
