@@ -6,9 +6,9 @@ use credits::Credited;
 use plan::Header;
 ghost use mathlib.Core.Path.{_≡_};
 ghost use Rattle.network.specs.Outage.{intact};
-ghost use Rattle.credits.specs.Credit.{creditNumber, creditOf};
+ghost use Rattle.credits.specs.Credit.{creditedNumber, creditNumber, creditOf};
 ghost use Rattle.answers.specs.Laid.{laid};
-ghost use Rattle.credit_answers.specs.CreditAnswers.{wordOf, creditedNumber, creditsValues};
+ghost use Rattle.credit_answers.specs.CreditAnswers.{wordOf, creditsValues};
 
 // A signed number as an unsigned one: 2^64 is added where it is negative, so that −(k + 1) is k less than 2^64 − 1.
 fn word_of(n: i64) -> u64

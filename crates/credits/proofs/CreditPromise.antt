@@ -8,7 +8,7 @@ use native.Mathlib.Omega.{arith}
 use borrow.Author.Tests.{ltb-false}
 use lib.Dec.{ltb}
 use lib.IntN.{ℤ}
-use Rattle.mass.proofs.RefusalLaws.{refuse-none}
+use Rattle.mass.proofs.RefusalLaws.{refuse-none, refuses, answered-number}
 use Rattle.refusals.proofs.OrderLaws.{stop, skip, last}
 use Rattle.refusals.proofs.TestLaws.{or-none}
 use Rattle.plan.specs.Plan.{Plan}
@@ -24,8 +24,7 @@ use Rattle.network.specs.Outage.{intact}
 use Rattle.readings.specs.Downtime.{year, lowerSeconds, upperSeconds, secondsOf}
 use Rattle.readings.specs.declared.Seconds.{Seconds}
 use Rattle.readings.proofs.PairTold.{Accepted, refused-told, done-told}
-use Rattle.readings.proofs.Refusing.{refuses}
-use Rattle.credits.specs.Credit.{mostCents, termsTest, creditFor, headroomOf, creditsOf, creditAnswer, creditNumber, creditOf}
+use Rattle.credits.specs.Credit.{mostCents, termsTest, creditFor, headroomOf, creditsOf, creditAnswer, creditedNumber, creditNumber, creditOf}
 use Rattle.credits.specs.Credit.{creditsIn, exactCredit, CreditWithin}
 use Rattle.credits.specs.declared.Credits.{Credits}
 use Rattle.credits.specs.declared.Credited.{Credited}
@@ -40,9 +39,9 @@ terms-none fee limit rate e =
     (refuse-none (ltb mostCents fee || ltb mostCents rate || ltb year limit) 19 e) in
     (ltb-false year limit (t .1), ltb-false mostCents rate (or-none (ltb mostCents fee) (ltb mostCents rate) (t .0) .1))
 
--- a number that is not 0 refuses
-pub refused-is : (number refusal : ℕ) (credits : Credits) → number ≡ refusal → (number ≡ 0 → ⊥) → credited.Refused number ≡ creditAnswer refusal credits
-refused-is = refuses creditAnswer credited.Refused (λ n x. refl)
+-- an answer has the number that it follows from
+pub credited-number : (number : ℕ) (credits : Credits) → creditedNumber (creditAnswer number credits) ≡ number
+credited-number number credits = answered-number credited.Refused (credited.Given credits) creditedNumber refl (λ n. refl) number
 
 -- the seconds of masses of at most one whole are at most those of a year
 pub seconds-fit : (lower upper : ℕ) (s : Seconds) → s ≡ secondsOf lower upper → lower ≤ whole → upper ≤ whole → (s .lower ≤ year) × (s .upper ≤ year)
@@ -84,7 +83,7 @@ module _ (h : Header) (links events : List ℕ) (v w fee limit rate : ℕ) where
     pair-refused n e =
         let k = refused-told h links events v w r told n e in
         let is : n ≡ number = stop _ (k .0) (k .1) in
-        (refused-is n number credits is (k .1), (omega arith, λ z. absurd (k .1 (is ∙ z))))
+        (refuses credited.Refused _ is (k .1), (omega arith, λ z. absurd (k .1 (is ∙ z))))
 
     module _ (b : PairBounds) (e : r ≡ paired.Done b) where
       known : Accepted h links events v w b

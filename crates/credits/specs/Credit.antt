@@ -3,11 +3,11 @@
 -- Assumes nothing.
 use mathlib.Core.Bool.{_||_}
 use mathlib.Core.List.{List, [], _∷_}
-use Prim.Native.Nat.{ℕ, zero, suc, _+_, _-_, _*_, _/_, _≤_, min}
+use Prim.Native.Nat.{ℕ, _+_, _-_, _*_, _/_, _≤_, min}
 use lib.Dec.{ltb}
 use lib.IntN.{ℤ, pos, _-ℤ_}
 use lib.ListN.{length}
-use Rattle.mass.specs.Refusal.{refuse, first}
+use Rattle.mass.specs.Refusal.{refuse, first, answered}
 use Rattle.plan.specs.Plan.{Plan}
 use Rattle.plan.specs.LentLists.{planOfLists}
 use Rattle.plan.specs.declared.Header.{Header}
@@ -50,10 +50,14 @@ creditsOf fee limit rate seconds = record {
   headroom = headroomOf limit (seconds .upper);
 }
 
--- the case of the answer that a number and the credits stand for: `Refused` with a number that is not 0, else the credits
+-- the answer of a credit
 abbrev pub creditAnswer : ℕ → Credits → Credited
-creditAnswer zero credits = credited.Given credits
-creditAnswer (suc number) credits = credited.Refused (suc number)
+creditAnswer number credits = answered credited.Refused (credited.Given credits) number
+
+-- the number of a credit's answer
+abbrev pub creditedNumber : Credited → ℕ
+creditedNumber (credited.Refused number) = number
+creditedNumber (credited.Given credits) = 0
 
 -- the credits in an answer: all numbers are 0 where it refuses
 abbrev pub creditsIn : Credited → Credits

@@ -1,12 +1,12 @@
 -- The answers of the call for several thresholds, and what it leaves in the lists of bounds.
 -- Assumes nothing.
-use mathlib.Core.Path.{_≡_, refl, ap, subst, fun-ext, _∙_}
+use mathlib.Core.Path.{_≡_, refl, subst, fun-ext, _∙_}
 use mathlib.Core.List.{List, [], _∷_}
-use Prim.Native.Nat.{ℕ, zero, suc, _*_, _≤_}
+use Prim.Native.Nat.{ℕ, _*_, _≤_}
 use lib.ListN.{length}
 use lib.Seq.{sets}
 use Rattle.mass.specs.Refusal.{first}
-use Rattle.mass.proofs.RefusalLaws.{first-none}
+use Rattle.mass.proofs.RefusalLaws.{first-none, refuses, answered-number}
 use Rattle.refusals.specs.Tests.{roomTest}
 use Rattle.refusals.proofs.OrderLaws.{stop, skip}
 use Rattle.refusals.proofs.TestLaws.{room-none}
@@ -64,6 +64,10 @@ same-plans h links events bytes words e =
 
 -- ---- the call, refused with a number, 0 if it is not
 
+-- an answer has the number that it follows from
+pub answered-with : (number : ℕ) (plan : ℕ → Plan) (list : List ℕ) → thresholdsAnswer number plan list .number ≡ number
+answered-with number plan list = answered-number refusedWith (answerOf plan list) (λ a. a .number) refl (λ n. refl) number
+
 module _ (number : ℕ) (h : CommonHeader) (links events list lower upper : List ℕ) where
   -- an answer, with what it leaves in the lists of bounds, for the plans of the thresholds
   abbrev pub Promised : (ℕ → Plan) → Answered → List ℕ → List ℕ → Type 0
@@ -76,13 +80,9 @@ module _ (number : ℕ) (h : CommonHeader) (links events list lower upper : List
   pub call-refused : (n : ℕ) (r : Answered) → r ≡ refusedWith n → n ≡ number → (n ≡ 0 → ⊥) → Promised (planAt h links events) r lower upper
   call-refused n r is e some =
       let no-zero : number ≡ 0 → ⊥ = λ z. some (e ∙ z) in (
-        is ∙ ap refusedWith e ∙ refuses number no-zero,
+        is ∙ refuses refusedWith _ e some,
         (filled-none number _ lower no-zero, (filled-none number _ upper no-zero, λ z. absurd (no-zero z))),
       )
-    where
-      refuses : (n : ℕ) → (n ≡ 0 → ⊥) → refusedWith n ≡ thresholdsAnswer n (planAt h links events) list
-      refuses zero n = absurd (n refl)
-      refuses (suc k) n = refl
 
   -- the walk of the arrays that accepted lists were taken into filled the two lists
   module _ (x : Header) (bytes words : List ℕ) (r : Answered) (lower′ upper′ : List ℕ) where

@@ -2,10 +2,10 @@
 -- Assumes nothing.
 use mathlib.Core.Bool.{Bool, true, not, _&&_, _||_}
 use mathlib.Core.List.{List, [], _∷_, _++_, map}
-use Prim.Native.Nat.{ℕ, zero, suc, _+_, _-_, _*_, _<_}
+use Prim.Native.Nat.{ℕ, suc, _+_, _-_, _*_, _<_}
 use lib.Dec.{leb, ltb}
 use lib.ListN.{length, getD, drop, replicate}
-use Rattle.mass.specs.Refusal.{refuse, first}
+use Rattle.mass.specs.Refusal.{refuse, first, answered}
 use Rattle.mass.specs.Split.{whole}
 use Rattle.refusals.specs.Tests.{roomTest}
 use Rattle.plan.specs.Plan.{Plan}
@@ -73,9 +73,9 @@ answerOf plan list =
 abbrev pub refusedWith : ℕ → Answered
 refusedWith number = record { number = number; count = replicate 16 0; complete = replicate 16 0; mass = replicate 16 0 }
 
+-- the whole answer
 abbrev pub thresholdsAnswer : ℕ → (ℕ → Plan) → List ℕ → Answered
-thresholdsAnswer zero plan list = answerOf plan list
-thresholdsAnswer (suc number) plan list = refusedWith (suc number)
+thresholdsAnswer number plan list = answered refusedWith (answerOf plan list) number
 
 -- demand 3 for every pair of every block: that of place i begins at i times the number of pairs
 abbrev pub EnclosesBlocks : (ℕ → Plan) → ℕ → List ℕ → List ℕ → List ℕ → List ℕ → Type 0

@@ -5,8 +5,9 @@ use native.Mathlib.Omega.{arith}
 use borrow.Author.Needs.{needs}
 use lib.ListN.{length, take}
 use lib.Seq.{sets}
+use Rattle.mass.proofs.RefusalLaws.{refuses, gives}
 use Rattle.plan.proofs.FilledLaws.{filled-none, filled-all}
-use Rattle.sheets.proofs.ReadLaws.{reading-stop, reading-go}
+use Rattle.sheets.specs.declared.SheetReading.the-variants as reading
 use Rattle.sheet_records.specs.SheetRecords.{handedNumber}
 use Rattle.sheet_records.proofs.SheetRecordsLaws.{handed-room}
 use Rattle.sheet_records.proofs.words.hand_over.Statement.{statement}
@@ -18,7 +19,7 @@ handed-number-requires c κs = tt
 returns : tie.Need-returns
 returns c =
     let e = c .before .handed-number .ensures in
-    (reading-stop _ e (c .if1 .taken), filled-none _ _ _ (λ z. c .if1 .taken (e ∙ z)))
+    (refuses reading.Refused _ e (c .if1 .taken), filled-none _ _ _ (λ z. c .if1 .taken (e ∙ z)))
 
 -- the number is 0, so there is room
 none : (c : tie.Else1)
@@ -41,7 +42,7 @@ returns-2 : tie.Need-returns-2
 returns-2 c =
     let n = none (c .before .before .before .before .before .before .before) in
     let a = c .before .before .before .before .before .before .before .before .before .before .args in (
-      reading-go _ n (c .counts-in .ensures),
+      ap reading.Accepted (c .counts-in .ensures) ∙ gives reading.Refused _ n,
       c .before .before .before .copy-words .ensures
           ∙ ap (λ (k : ℕ). sets (a .events .now) 0 (take (4 * k) (a .words .now))) (c .before .before .before .before .lines-in .ensures)
           ∙ filled-all _ _ (a .events .now) n,
