@@ -13,7 +13,9 @@ use Rattle.plan.specs.Lists.{linkBytes, eventWords}
 use Rattle.refusals.specs.Tests.{roomTest}
 use Rattle.plan.specs.File.{refusal, planOf, linksIn, eventsIn}
 use Rattle.plan.specs.LentLists.{planOfLists}
-use Rattle.plan.specs.Calls.{filled, headerOf, readRefusal}
+use Rattle.plan.specs.Calls.{filled, headerOf, readRefusal, readAnswer}
+use Rattle.plan.specs.declared.Header.{Header}
+use Rattle.plan.specs.declared.Reading.the-variants as reading
 use Rattle.plan.proofs.FileLawsAccepted.{accepted-counts}
 use Rattle.layout.proofs.LayoutFile.{ValidPlan, file-none, read-valid, valid-pass}
 use Rattle.layout.proofs.Theorems.{read-denotes, lists-accepted}
@@ -24,6 +26,15 @@ use Rattle.input.specs.Loaded.{Loaded}
 pub bytes-each : (b : List ℕ) → ((i : ℕ) → getD b i 0 < 256) → Bytes b
 bytes-each [] h = tt
 bytes-each (x ∷ b) h = (h 0, bytes-each b (λ i. h (suc i)))
+
+-- what the answer to a reading says of its number
+pub reading-refused : (number n : ℕ) (h : Header) → reading.Refused n ≡ readAnswer number h → (n ≡ number) × (n ≡ 0 → ⊥)
+reading-refused zero n h e = absurd (let never : _≡_ {A = ℕ} 0 1 = cc in omega arith)
+reading-refused (suc number) n h e = let is : n ≡ suc number = cc in (is, λ z. omega arith)
+
+pub reading-accepted : (number : ℕ) (x h : Header) → reading.Accepted x ≡ readAnswer number h → (number ≡ 0) × (x ≡ h)
+reading-accepted zero x h e = (refl, cc)
+reading-accepted (suc number) x h e = absurd (let never : _≡_ {A = ℕ} 0 1 = cc in omega arith)
 
 -- there is room
 roomed : (room need : ℕ) → need ≤ room → roomTest room need ≡ 0

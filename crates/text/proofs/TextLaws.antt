@@ -8,6 +8,7 @@ use borrow.Author.Tests.{lt-ltb, le-ltb}
 use lib.ListN.{length, getD, take, length-append}
 use lib.Seq.{sets, length-sets}
 use Rattle.mass.specs.Split.{whole}
+use Rattle.mass.proofs.RefusalLaws.{refuses}
 use Rattle.plan.specs.Plan.{Plan}
 use Rattle.refusals.specs.Tests.{roomTest}
 use Rattle.plan.specs.File.{refusal, planOf}
@@ -27,6 +28,7 @@ use Rattle.bounds.specs.Summed.{Summed}
 use Rattle.bounds.specs.declared.Totals.{Totals}
 use Rattle.bounds.proofs.Answers.{raised}
 use Rattle.input.specs.Loaded.{Loaded}
+use Rattle.input.proofs.LoadedLaws.{reading-refused, reading-accepted}
 use Rattle.text.specs.Listing.{line, rowText, rowsText, pairsText, pairLine, planText, refusedText, answerText, listing}
 use Rattle.text.specs.Sums.{Listable, sumLine, headLine, sumsText}
 use Rattle.text.specs.Calls.{formattedAnswer}
@@ -105,23 +107,15 @@ sums-text h links words sums t valid e s =
 
 pub refused-listing : (b : List ℕ) (n : ℕ) (h : Header) → reading.Refused n ≡ readAnswer (refusal b) h → refusedText n ≡ listing intact b
 unfolding listing answerText
-refused-listing b n h e = go (refusal b) e
-  where
-    go : (k : ℕ) → reading.Refused n ≡ readAnswer k h → refusedText n ≡ answerText intact k (planOf b)
-    go zero z = absurd (let never : _≡_ {A = ℕ} 0 1 = cc in omega arith)
-    go (suc k) z = let is : n ≡ suc k = cc in ap refusedText is
-
-accepted-is : (number : ℕ) (x h : Header) → reading.Accepted x ≡ readAnswer number h → (number ≡ 0) × (x ≡ h)
-accepted-is zero x h e = (refl, cc)
-accepted-is (suc number) x h e = absurd (let never : _≡_ {A = ℕ} 0 1 = cc in omega arith)
+refused-listing b n h e = let r = reading-refused (refusal b) n h e in refuses refusedText _ (r .0) (r .1)
 
 module _ (b links words : List ℕ) (h : Header) (e : reading.Accepted h ≡ readAnswer (refusal b) (headerOf b))
     (l : refusal b ≡ 0 → Loaded b links words) where
   pub loaded-header : h ≡ headerOf b
-  loaded-header = accepted-is (refusal b) h (headerOf b) e .1
+  loaded-header = reading-accepted (refusal b) h (headerOf b) e .1
 
   pub loaded-lists : Loaded b links words
-  loaded-lists = l (accepted-is (refusal b) h (headerOf b) e .0)
+  loaded-lists = l (reading-accepted (refusal b) h (headerOf b) e .0)
 
   pub loaded-accepted : listsRefusal h 256 128 links words ≡ 0
   loaded-accepted = subst (λ (x : Header). listsRefusal x 256 128 links words ≡ 0) (sym loaded-header) (loaded-lists .accepted)
@@ -131,7 +125,7 @@ module _ (b links words : List ℕ) (h : Header) (e : reading.Accepted h ≡ rea
   accepted-listing =
       ap (λ (x : Header). planText intact (planOfLists x links words)) loaded-header
       ∙ ap (planText intact) (loaded-lists .denoted)
-      ∙ ap (λ (k : ℕ). answerText intact k (planOf b)) (sym (accepted-is (refusal b) h (headerOf b) e .0))
+      ∙ ap (λ (k : ℕ). answerText intact k (planOf b)) (sym (reading-accepted (refusal b) h (headerOf b) e .0))
 
 -- ---- the answer
 

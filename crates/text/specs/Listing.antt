@@ -4,6 +4,7 @@
 use mathlib.Core.List.{List, [], _∷_, _++_}
 use Prim.Native.Nat.{ℕ, zero, suc, _-_}
 use lib.ListN.{length}
+use Rattle.mass.specs.Refusal.{answered}
 use Rattle.plan.specs.Plan.{Plan}
 use Rattle.plan.specs.File.{refusal, planOf}
 use Rattle.network.specs.Outage.{Outage}
@@ -49,9 +50,9 @@ planText out p =
 unfoldable pub refusedText : ℕ → List ℕ
 refusedText number = 114 ∷ 101 ∷ 102 ∷ 117 ∷ 115 ∷ 101 ∷ 100 ∷ 32 ∷ line (number ∷ [])
 
+-- the text of the answer to a call that is refused with a number, 0 if it is not
 unfoldable pub answerText : Outage → ℕ → Plan → List ℕ
-answerText out zero p = planText out p
-answerText out (suc number) p = refusedText (suc number)
+answerText out number p = answered refusedText (planText out p) number
 
 -- the listing of a list of bytes
 unfoldable pub listing : Outage → List ℕ → List ℕ

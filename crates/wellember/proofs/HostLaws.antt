@@ -2,7 +2,7 @@
 -- Assumes nothing.
 use mathlib.Core.Path.{_≡_, refl, sym, ap, ap₂, subst, subst₂, _∙_}
 use mathlib.Core.List.{List, [], _∷_, _++_, append-assoc}
-use Prim.Native.Nat.{ℕ, zero, suc, _+_, _^_, _<_, _≤_}
+use Prim.Native.Nat.{ℕ, _+_, _^_, _<_, _≤_}
 use native.Mathlib.Omega.{arith}
 use lib.ListN.{length, drop, length-append}
 use lib.Seq.{sets, sets-eq, take-at, drop-at}
@@ -31,17 +31,8 @@ use Rattle.plan.proofs.FilledLaws.{filled-none, filled-all}
 use Rattle.network.specs.Outage.{intact}
 use Rattle.bounds.proofs.Answers.{pair-refused-is, pair-done-is, enclosed}
 use Rattle.input.specs.Loaded.{Loaded}
+use Rattle.input.proofs.LoadedLaws.{reading-refused}
 use Rattle.wellember.specs.Host.{hostRefusal, sixteen, lowerIn, upperIn}
-
--- ---- what an answer says of its number
-
-reading-refused : (number n : ℕ) (h : Header) → reading.Refused n ≡ readAnswer number h → (n ≡ number) × (n ≡ 0 → ⊥)
-reading-refused zero n h e = absurd (let never : _≡_ {A = ℕ} 0 1 = cc in omega arith)
-reading-refused (suc number) n h e = let is : n ≡ suc number = cc in (is, λ z. omega arith)
-
-pub reading-accepted : (number : ℕ) (x h : Header) → reading.Accepted x ≡ readAnswer number h → (number ≡ 0) × (x ≡ h)
-reading-accepted zero x h e = (refl, cc)
-reading-accepted (suc number) x h e = absurd (let never : _≡_ {A = ℕ} 0 1 = cc in omega arith)
 
 -- 12 is not given, and 13 decides
 pub room-passed : (room number : ℕ) → roomTest room 16 ≡ 0 → number ≡ first (roomTest room 16 ∷ number ∷ [])
