@@ -8,7 +8,6 @@ use lib.Dec.{T, le→leb}
 use lib.IntN.{pos}
 use lib.Ieee.{Float, binary64, add, mul, div, ofInt, ofBits, inFloat}
 use Rattle.mass.specs.Split.{certain, whole}
-use Rattle.mass.proofs.RefusalLaws.{refuses}
 use Rattle.plan.specs.Plan.{Plan}
 use Rattle.plan.specs.LentLists.{planOfLists}
 use Rattle.plan.specs.declared.Header.{Header}
@@ -70,6 +69,10 @@ numbers zero lower (suc examined) l e = let n = shares-numbers lower (suc examin
 
 -- ---- from the bounds of the pair
 
+figure-refuses : (number n examined : ℕ) (s : Shares) → n ≡ number → (n ≡ 0 → ⊥) → figured.Refused n ≡ figureAnswer number examined s
+figure-refuses number zero examined s e k = absurd (k refl)
+figure-refuses number (suc n) examined s e k = ap (λ (x : ℕ). figureAnswer x examined s) e
+
 module _ (h : Header) (links events : List ℕ) (v w : ℕ) (r : Paired)
     (told : r ≡ pairAnswer (pairNumber h links events v w) (boundsOf intact (planOfLists h links events) v w)) where
   abbrev p : Plan
@@ -81,7 +84,7 @@ module _ (h : Header) (links events : List ℕ) (v w : ℕ) (r : Paired)
   pub refused-told : (n : ℕ) → r ≡ paired.Refused n → (figured.Refused n ≡ figureOf intact number p v w) × Numbers (floatsIn (figured.Refused n))
   refused-told n e =
       let k = pair-told.refused-told h links events v w r told n e in
-      (refuses figured.Refused _ (k .0) (k .1), (float-number 0, (float-number 0, tt)))
+      (figure-refuses number n (massExamined p) _ (k .0) (k .1), (float-number 0, (float-number 0, tt)))
 
   module _ (b : PairBounds) (e : r ≡ paired.Done b) where
     known : Accepted h links events v w b

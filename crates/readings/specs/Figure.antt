@@ -9,7 +9,6 @@ use Prim.Native.Nat.{ℕ, zero, suc, _/_, _%_}
 use lib.Dec.{T}
 use lib.IntN.{pos}
 use lib.Ieee.{Float, binary64, add, mul, div, ofInt, isNan}
-use Rattle.mass.specs.Refusal.{answered}
 use Rattle.mass.specs.Split.{certain, whole}
 use Rattle.plan.specs.Plan.{Plan}
 use Rattle.network.specs.Outage.{Outage}
@@ -34,10 +33,12 @@ sharesOf lower examined = record {
   examined = div binary64 (floatOf examined) (float whole);
 }
 
--- the answer of a figure: no figure if E = 0, else the pair of floats
+-- the case of the answer that a number, E and the pair of floats stand for: `Refused` with a number that is not 0; no figure if E = 0; else
+-- the pair
 abbrev pub figureAnswer : ℕ → ℕ → Shares → Figured
-figureAnswer number examined shares =
-    answered figured.Refused (elim examined [ zero ↦ figured.NoFigure | suc more ↦ figured.Given shares ]) number
+figureAnswer (suc number) examined shares = figured.Refused (suc number)
+figureAnswer zero zero shares = figured.NoFigure
+figureAnswer zero (suc examined) shares = figured.Given shares
 
 -- the number of a figure's answer
 abbrev pub figuredNumber : Figured → ℕ
