@@ -71,7 +71,7 @@ module _ (number : ℕ) (h : CommonHeader) (links events list lower upper : List
       (r ≡ thresholdsAnswer number plans list)
       × ((lower′ ≡ filled number (blocks (λ t. lowerList intact (plans t)) list) lower)
       × ((upper′ ≡ filled number (blocks (λ t. upperList intact (plans t)) list) upper)
-      × (number ≡ 0 → EnclosesBlocks plans (h .nodes) list lower′ upper′ (r .count))))
+      × (number ≡ 0 → EnclosesBlocks plans list lower′ upper′ (r .count))))
 
   pub call-refused : (n : ℕ) (r : Answered) → r ≡ refusedWith n → n ≡ number → (n ≡ 0 → ⊥) → Promised (planAt h links events) r lower upper
   call-refused n r is e some =
@@ -91,7 +91,7 @@ module _ (number : ℕ) (h : CommonHeader) (links events list lower upper : List
         (r ≡ answerOf (planWith y bytes words) list)
         × ((lower′ ≡ sets lower 0 (blocks (λ t. lowerList intact (planWith y bytes words t)) list))
         × ((upper′ ≡ sets upper 0 (blocks (λ t. upperList intact (planWith y bytes words t)) list))
-        × EnclosesBlocks (planWith y bytes words) (y .nodes) list lower′ upper′ (r .count)))
+        × EnclosesBlocks (planWith y bytes words) list lower′ upper′ (r .count)))
 
     pub call-done : number ≡ 0 → x ≡ headerAt h 1 → planOfLists (headerAt h 1) bytes words ≡ planOfLists (headerAt h 1) links events → Done x
         → Promised (planAt h links events) r lower′ upper′

@@ -78,7 +78,9 @@ thresholdsAnswer zero plan list = answerOf plan list
 thresholdsAnswer (suc number) plan list = refusedWith (suc number)
 
 -- demand 3 for every pair of every block: that of place i begins at i times the number of pairs
-abbrev pub EnclosesBlocks : (ℕ → Plan) → ℕ → List ℕ → List ℕ → List ℕ → List ℕ → Type 0
-EnclosesBlocks plan nodes list lowers uppers counts =
+abbrev pub EnclosesBlocks : (ℕ → Plan) → List ℕ → List ℕ → List ℕ → List ℕ → Type 0
+EnclosesBlocks plan list lowers uppers counts =
     (i : ℕ) → i < length list
-    → EnclosesAll intact (plan (getD list i 0)) (drop (pairCount nodes * i) lowers) (drop (pairCount nodes * i) uppers) (getD counts i 0)
+    → EnclosesAll intact (plan (getD list i 0)) (drop (pairCount (plan (getD list i 0) .nodes) * i) lowers)
+    (drop (pairCount (plan (getD list i 0) .nodes) * i) uppers)
+    (getD counts i 0)

@@ -1,6 +1,6 @@
 -- `threshold_walk::next_path` meets its contract: the branch taken off the stack is gone down from. Assumes nothing.
 use native.Mathlib.Omega.{arith}
-use Rattle.threshold_walk.proofs.Descents.{under, taken-whole, path-taken}
+use Rattle.threshold_walk.proofs.Descents.{under, taken, path-taken}
 use Rattle.threshold_walk.proofs.next_path.Statement.{statement}
 use Rattle.threshold_walk.proofs.next_path.Tie as tie
 
@@ -53,14 +53,15 @@ go-down-requires : tie.Need-go-down-requires
 go-down-requires c κs =
     let s = c .before .before .before .before .before .before in (
       (s .pre .0, s .pre .1),
-      (taken-whole _ (s .args .events .now) _ _ (s .pre .3) (s .pre .2), under _ (s .args .events .now) _ _ (s .pre .3) (s .pre .2)),
+      (taken _ (s .args .events .now) _ _ (s .pre .3) (s .pre .2), under _ (s .args .events .now) _ _ (s .pre .3) (s .pre .2)),
     )
 
 straight-requires : tie.Need-straight-requires
 straight-requires c κs =
     let s = c .before .before .before .before .before .before .before in
     let d = c .go-down .ensures in
-    (s .pre .0, d .deep, omega (arith, d .lighter, taken-whole _ (s .args .events .now) _ _ (s .pre .3) (s .pre .2) .lighter), s .pre .1)
+    let b = taken _ (s .args .events .now) _ _ (s .pre .3) (s .pre .2) in
+    (s .pre .0, d .deep, omega (arith, d .lighter, b .lighter, b .light), s .pre .1)
 
 returns : tie.Need-returns
 returns c =

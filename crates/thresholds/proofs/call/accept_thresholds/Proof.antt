@@ -70,13 +70,10 @@ returns-3 c =
           (f .if2 .left)
           short,
       λ z.
-          let fit = rooms-fit (a .h) (a .links .now) (a .events .now) (a .list .now) (a .lower-room) (a .upper-room) (sym short ∙ z) in
-          record {
-            taken = taken (e .before) (e .if1 .left);
-            tested = sym (t .thresholds-test .ensures) ∙ f .if2 .left;
-            lower-room = fit .0;
-            upper-room = fit .1;
-          },
+          let fit = rooms-fit (a .h) (a .links .now) (a .events .now) (a .list .now) (a .lower-room) (a .upper-room) (sym short ∙ z) in (
+            taken (e .before) (e .if1 .left),
+            record { tested = sym (t .thresholds-test .ensures) ∙ f .if2 .left; lower-room = fit .0; upper-room = fit .1 },
+          ),
     )
 
 pub accept-thresholds-spec : {M : Type 1} → statement M

@@ -29,7 +29,7 @@ fill-blocks-requires c κs =
     let e = x .before in
     let t = e .before .accept-thresholds .ensures .1 (e .if1 .left) in
     rw (x .header-at .ensures)
-    ((t .taken .held, arrays-valid _ _ _ _ _ (t .taken)), ((t .taken .limited, t .tested), (t .lower-room, t .upper-room)))
+    ((t .0 .held, arrays-valid _ _ _ _ _ (t .0)), ((t .0 .limited, t .1 .tested), (t .1 .lower-room, t .1 .upper-room)))
 
 returns-2 : tie.Need-returns-2
 returns-2 c =
@@ -43,7 +43,7 @@ returns-2 c =
     let number = thresholdsNumber (a .h) (a .links .now) (a .events .now) (a .list .now) (a .lower .now) (a .upper .now) in
     call-done number (a .h) (a .links .now) (a .events .now) (a .list .now) (a .lower .now) (a .upper .now) _ _ _ _ _ _ (sym (tests .0) ∙ e .if1 .left)
     (x .header-at .ensures)
-    (t .taken .denoted)
+    (t .0 .denoted)
     (fill .fill-blocks .ensures)
 
 pub thresholds-spec : {M : Type 1} → statement M
