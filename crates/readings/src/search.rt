@@ -22,17 +22,23 @@ fn cut_by(
     links: &[u8; 256],
     words: &[u64; 512],
     table: &[u64; 128],
-    low: u64,
-    high: u64,
+    failing: Failing,
     v: usize,
     w: usize,
 ) -> bool
     requires { ⌜ Held h (now links) (now words) ⌝ }
     requires { ⌜ LinksAt (now links) (h .links) (now table) ⌝ }
-    requires { ⌜ (joined low high < 2 ^ (h .events)) × (v < 64) × (w < 64) ⌝ }
-    ensures { λ r. ⌜ r ≡ cuts intact (planOfLists h (now (links .entry)) (now (words .entry))) v w (scenarioOf (h .events) (joined low high)) ⌝ }
+    requires { ⌜ (joined (failing .low) (failing .high) < 2 ^ (h .events)) × (v < 64) × (w < 64) ⌝ }
+    ensures { λ r. ⌜ r ≡ cuts intact (planOfLists h (now (links .entry)) (now (words .entry))) v w
+        (scenarioOf (h .events) (joined (failing .low) (failing .high))) ⌝ }
 {
-    let failed = network::failed_by(words, h.events as usize, low, high, Failed::NONE);
+    let failed = network::failed_by(
+        words,
+        h.events as usize,
+        failing.low,
+        failing.high,
+        Failed::NONE,
+    );
     topology::is_disconnected(
         h.nodes as usize,
         failed,
@@ -70,11 +76,12 @@ fn search_on(
         if !r.found {
             return Witnessed::Refused(14);
         }
-        if cut_by(h, links, words, table, r.low, r.high, v, w) {
-            return Witnessed::Found(Failing {
-                low: r.low,
-                high: r.high,
-            });
+        let failing = Failing {
+            low: r.low,
+            high: r.high,
+        };
+        if cut_by(h, links, words, table, failing, v, w) {
+            return Witnessed::Found(failing);
         }
         at = r.at;
         left = r.left;

@@ -11,12 +11,15 @@ use native.Mathlib.Omega.{arith}
 use borrow.Author.Tests.{eqb-true, eq-eqb, ne-eqb}
 use lib.Dec.{eqb, leb}
 use lib.ListN.{length, getD}
-use Rattle.sets.specs.Sets.{bit, digit}
+use Rattle.sets.specs.Sets.{bit, joined, digit}
 use Rattle.sets.proofs.Laws.{bit-none}
 use Rattle.sets.proofs.Bools.{and-right, or-either, not-so}
+use Rattle.plan.specs.LentLists.{planOfLists}
 use Rattle.plan.specs.declared.Header.{Header}
 use Rattle.network.specs.Outage.{intact}
+use Rattle.walk.specs.Scenario.{scenarioOf}
 use Rattle.pairs.specs.Pairs.{pairCount}
+use Rattle.bounds.specs.Bounds.{cuts}
 use Rattle.bounds.specs.Blocks.{BlocksFit, BlocksAdded}
 use Rattle.threshold_walk.specs.declared.WorksPath.{WorksPath}
 use Rattle.threshold_sums.specs.Walked.{plansOf, FallingFirst, PathFits, WantedBlocks, PathAdded, examinedBy}
@@ -100,7 +103,8 @@ module _ (h : Header) (list rooms : List ℕ) (active : ℕ) (path : WorksPath) 
         }
 
     -- what is added to the blocks of the set is what the path adds
-    pub path-added : (lower′ : List ℕ) → BlocksAdded intact h links words blocks (path .low) (path .high) (path .last) lower lower′
+    pub path-added : (lower′ : List ℕ) → BlocksAdded (h .nodes)
+        (λ v w. cuts intact (planOfLists h links words) v w (scenarioOf (h .events) (joined (path .low) (path .high)))) blocks (path .last) lower lower′
         → PathAdded (plansOf h links words list) active path rooms lower lower′
     path-added lower′ added =
         record {

@@ -3,6 +3,7 @@ use network::Failed;
 use plan::Header;
 use threshold_walk::WorksPath;
 use threshold_walk::ends_of;
+use walk::Failing;
 ghost use mathlib.Core.Path.{_≡_};
 ghost use Prim.Native.Nat.{_-_, _*_, _^_, _≤_, _<_};
 ghost use lib.ListN.{length, getD};
@@ -119,8 +120,10 @@ pub fn add_path(
         words,
         table,
         Failed::NONE,
-        path.low,
-        path.high,
+        Failing {
+            low: path.low,
+            high: path.high,
+        },
         lower,
         blocks,
         path.last,

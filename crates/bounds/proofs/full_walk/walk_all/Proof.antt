@@ -19,8 +19,8 @@ returns c =
     let e = c .before .before .before .before .before .before .before .before in
     let begun = begun-alone _ _ _ _ _ _ _ refl (c .before .before .before .before .before .begin .ensures) in
     let tallied = c .before .go-on .ensures in (
-      whole-totals _ _ _ _ _ _ begun (e .pre .1 .1) _ _ _ _ tallied _ (c .none-left .ensures),
-      whole-sums _ _ _ _ _ _ begun (e .pre .1 .1) _ _ _ _ tallied,
+      whole-totals _ _ _ _ _ _ begun (e .pre .1 .1) _ _ tallied _ (c .none-left .ensures),
+      whole-sums _ _ _ _ _ _ begun (e .pre .1 .1) _ _ tallied,
     )
 
 pub walk-all-spec : {M : Type 1} → statement M
