@@ -41,7 +41,7 @@ pub fn walk_all(
 {
     let table = network::links_at(h.nodes as usize, links, h.links as usize);
     let mut stack = [0u64; 512];
-    let at = walk::begin(&mut stack, 0, mass::Mass::WHOLE.units, 0, 0);
+    let at = walk::begin(&mut stack);
     let so_far = Tally {
         at,
         left: h.limit,

@@ -35,7 +35,7 @@ pub fn begin(h: Header, links: &[u8], events: &[u64]) -> WalkAnswer
         };
     }
     let mut stack = [0u64; 512];
-    let at = walk::begin(&mut stack, 0, mass::Mass::WHOLE.units, 0, 0);
+    let at = walk::begin(&mut stack);
     let walk = Walk {
         header: h,
         links: bytes,

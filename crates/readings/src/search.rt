@@ -97,7 +97,7 @@ fn search_all(h: Header, links: &[u8; 256], words: &[u64; 512], v: usize, w: usi
 {
     let table = network::links_at(h.nodes as usize, links, h.links as usize);
     let mut stack = [0u64; 512];
-    let at = walk::begin(&mut stack, 0, mass::Mass::WHOLE.units, 0, 0);
+    let at = walk::begin(&mut stack);
     search_on(h, links, words, &table, &mut stack, at, v, w, h.limit)
 }
 

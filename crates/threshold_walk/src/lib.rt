@@ -1,6 +1,7 @@
 // The walk for several thresholds at once: document 02, request U8. A branch is pending as long as the lowest threshold that is under way
 // meets it; the mass before its last event tells which thresholds come to it.
 // Assumes nothing.
+use walk::Failing;
 ghost use mathlib.Core.Path.{_≡_};
 ghost use mathlib.Core.List.{[], _∷_};
 ghost use Prim.Native.Nat.{_+_, _^_, _≤_, _<_};
@@ -78,7 +79,11 @@ fn push(stack: &mut [u64; 640], at: usize, branch: Entry)
     requires { ⌜ (branch .depth < 128) × (branch .low < 2 ^ 64) × (joined (branch .low) (branch .high) < 2 ^ (branch .depth)) × (at + 5 ≤ 640) ⌝ }
     ensures { λ r. ⌜ Pushed branch at (now (stack .entry)) (now (stack .exit)) ⌝ }
 {
-    let failing = walk::with_event(branch.low, branch.high, branch.depth);
+    let before = Failing {
+        low: branch.low,
+        high: branch.high,
+    };
+    let failing = walk::with_event(before, branch.depth);
     put(
         stack,
         at,

@@ -12,12 +12,12 @@ links-at-requires c κs = c .pre .0 .links-held
 go-on-requires : tie.Need-go-on-requires
 go-on-requires c κs =
     let pre = c .before .before .before .before .before .before .pre in
-    (c .before .before .before .before .before .links-at .ensures, ready-whole _ _ _ _ _ _ (begun-alone _ _ _ _ _ _ _ refl (c .before .before .before .begin .ensures)) (pre .1 .1) (pre .0) (pre .1 .0))
+    (c .before .before .before .before .before .links-at .ensures, ready-whole _ _ _ _ _ _ (begun-alone _ _ _ refl (c .before .before .before .begin .ensures)) (pre .1 .1) (pre .0) (pre .1 .0))
 
 returns : tie.Need-returns
 returns c =
     let e = c .before .before .before .before .before .before .before .before in
-    let begun = begun-alone _ _ _ _ _ _ _ refl (c .before .before .before .before .before .begin .ensures) in
+    let begun = begun-alone _ _ _ refl (c .before .before .before .before .before .begin .ensures) in
     let tallied = c .before .go-on .ensures in (
       whole-totals _ _ _ _ _ _ begun (e .pre .1 .1) _ _ tallied _ (c .none-left .ensures),
       whole-sums _ _ _ _ _ _ begun (e .pre .1 .1) _ _ tallied,

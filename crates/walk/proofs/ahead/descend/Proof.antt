@@ -20,11 +20,11 @@ mul-mass c = omega arith
 element-copy-out-mass : tie.Need-element-copy-out-mass
 element-copy-out-mass c = omega arith
 
-add-t18 : tie.Need-add-t18
-add-t18 c = omega arith
+add-t19 : tie.Need-add-t19
+add-t19 c = omega arith
 
-sub-t19 : tie.Need-sub-t19
-sub-t19 c =
+sub-t20 : tie.Need-sub-t20
+sub-t20 c =
     let s = c .before .before .before in
     omega (arith, run-some (s .args .count) (s .args .threshold) (s .args .events .now) (s .args .at) (s .args .stack .now) (s .pre .3) (s .pre .2) (c .if1 .taken))
 
@@ -83,8 +83,8 @@ descend-spec =
     add-mass
     mul-mass
     element-copy-out-mass
-    add-t18
-    sub-t19
+    add-t19
+    sub-t20
     returns
     add-low
     mul-low
