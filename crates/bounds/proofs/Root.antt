@@ -22,14 +22,14 @@ use Rattle.walk.proofs.Valid.{held-probable}
 use Rattle.walk.proofs.Resume.{Alone, begun-stack, begun-whole, root-entry, complete-at}
 use Rattle.pairs.specs.Pairs.{place}
 use Rattle.bounds.specs.Bounds.{cuts}
-use Rattle.bounds.specs.Tallied.{walkedOf, State, stateOf, coming, reached, Ready, Tallied}
+use Rattle.bounds.specs.Tallied.{walkedPlan, RunState, runState, coming, reached, Ready, Tallied}
 use Rattle.bounds.specs.Summed.{Summed, Cleared}
 use Rattle.bounds.specs.Calls.{totalsOf}
 
 module _ (h : Header) (links words : List ℕ) (at : ℕ) (stack lower : List ℕ) (b : Alone 0 whole 0 0 at stack) (clear : Cleared lower) where
   -- nothing is examined at the root
-  abbrev start : State
-  start = stateOf stack lower (record { at = at; left = h .limit; number = 0; mass = 0 })
+  abbrev start : RunState
+  start = runState stack lower (record { at = at; left = h .limit; number = 0; mass = 0 })
 
   pub ready-whole : Held h links words → h .limit < 4294967296 → Ready h links words start
   ready-whole held few =
@@ -44,7 +44,7 @@ module _ (h : Header) (links words : List ℕ) (at : ℕ) (stack lower : List �
         counted = omega arith;
       }
 
-  module _ (out : Outage) (r : State) (t : Tallied (walkedOf out h links words) start r) where
+  module _ (out : Outage) (r : RunState) (t : Tallied (walkedPlan out h links words) start r) where
     abbrev p : Plan
     p = planOfLists h links words
 

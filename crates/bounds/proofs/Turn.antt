@@ -14,15 +14,15 @@ use Rattle.walk.specs.Steps.{Handed}
 use Rattle.walk.specs.declared.Step.{Step}
 use Rattle.walk.proofs.Resume.{left-less, left-found, left-none, drop-found, drop-none, sum-found, sum-none}
 use Rattle.bounds.specs.Bounds.{cuts}
-use Rattle.bounds.specs.Tallied.{Room, MassAdded, Walked, State, stateOf, reached, Ready, Tallied}
+use Rattle.bounds.specs.Tallied.{Room, MassAdded, WalkedPlan, RunState, runState, reached, Ready, Tallied}
 
 -- in the loop: what it promises from here on gives what it promises from the start
-pub record Turn (p : Walked) (start here : State) : Type 0 where
+pub record Turn (p : WalkedPlan) (start here : RunState) : Type 0 where
   pub ready : Ready (p .header) (p .links) (p .words) here
-  pub goes : (r : State) → Tallied p here r → Tallied p start r
+  pub goes : (r : RunState) → Tallied p here r → Tallied p start r
 
 -- a step of the walk
-module _ (p : Walked) (start here : State) (g : Turn p start here) (stack′ : List ℕ) (step : Step)
+module _ (p : WalkedPlan) (start here : RunState) (g : Turn p start here) (stack′ : List ℕ) (step : Step)
     (s : Handed (p .header .events) (p .header .threshold) (p .words) (here .sums .at) (here .stack) (here .sums .left) stack′ step) where
   ready : Ready (p .header) (p .links) (p .words) here
   ready = g .ready
@@ -33,7 +33,7 @@ module _ (p : Walked) (start here : State) (g : Turn p start here) (stack′ : L
 
   pub stopped : step .found ≡ false
       → Tallied p start
-      (stateOf stack′ (here .lower) (record { at = step .at; left = step .left; number = here .sums .number; mass = here .sums .mass }))
+      (runState stack′ (here .lower) (record { at = step .at; left = step .left; number = here .sums .number; mass = here .sums .mass }))
   stopped e =
       g .goes _
       (record {
@@ -54,8 +54,8 @@ module _ (p : Walked) (start here : State) (g : Turn p start here) (stack′ : L
     scenario = scenarioOf (p .header .events) (joined (step .low) (step .high))
 
     -- then the loop is in this state, with the entries that it leaves
-    abbrev next : List ℕ → State
-    next lower = stateOf stack′ lower (record { at = step .at; left = step .left; number = here .sums .number + 1; mass = here .sums .mass + step .mass })
+    abbrev next : List ℕ → RunState
+    next lower = runState stack′ lower (record { at = step .at; left = step .left; number = here .sums .number + 1; mass = here .sums .mass + step .mass })
 
     one : (lower : List ℕ) (f : Scenario → ℕ → ℕ) → sumEnds f (reached (p .header) (p .words) here)
         ≡ f scenario (step .mass) + sumEnds f (reached (p .header) (p .words) (next lower))
@@ -88,7 +88,7 @@ module _ (p : Walked) (start here : State) (g : Turn p start here) (stack′ : L
             counted = omega (arith, ready .counted, less);
           }
 
-      from-next : (r : State) → Tallied p (next lower′) r → Tallied p here r
+      from-next : (r : RunState) → Tallied p (next lower′) r → Tallied p here r
       from-next r t =
           record {
             numbers = omega (arith, t .numbers, one lower′ (λ s m. 1));

@@ -30,34 +30,34 @@ pub record MassAdded (n : ℕ) (cut : ℕ → ℕ → Bool) (mass : ℕ) (lower 
   pub each : (v w : ℕ) → v < w → w < n → getD lower′ (place n v w) 0 ≡ getD lower (place n v w) 0 + mass * digit (cut v w)
 
 -- what is walked: what is out before the first event, a header, and the arrays of links and events
-pub record Walked : Type 0 where
+pub record WalkedPlan : Type 0 where
   pub out : Outage
   pub header : Header
   pub links : List ℕ
   pub words : List ℕ
 
-abbrev pub walkedOf : Outage → Header → List ℕ → List ℕ → Walked
-walkedOf out h links words = record { out = out; header = h; links = links; words = words }
+abbrev pub walkedPlan : Outage → Header → List ℕ → List ℕ → WalkedPlan
+walkedPlan out h links words = record { out = out; header = h; links = links; words = words }
 
 -- a state of the loop: the stack, the entries of the pairs, and the sums so far
-pub record State : Type 0 where
+pub record RunState : Type 0 where
   pub stack : List ℕ
   pub lower : List ℕ
   pub sums : Tally
 
-abbrev pub stateOf : List ℕ → List ℕ → Tally → State
-stateOf stack lower sums = record { stack = stack; lower = lower; sums = sums }
+abbrev pub runState : List ℕ → List ℕ → Tally → RunState
+runState stack lower sums = record { stack = stack; lower = lower; sums = sums }
 
 -- the ends still to come of a walk over lent lists, in a state
-abbrev pub coming : Header → List ℕ → State → List End
+abbrev pub coming : Header → List ℕ → RunState → List End
 coming h words s = toCome (h .events) (h .threshold) words (s .sums .at) (s .stack)
 
 -- those that are reached: so many as may still be
-abbrev pub reached : Header → List ℕ → State → List End
+abbrev pub reached : Header → List ℕ → RunState → List End
 reached h words s = take (s .sums .left) (coming h words s)
 
 -- what the loop asks: a stack that denotes the ends to come, no entry above the mass so far, and room for the ends that are reached
-pub record Ready (h : Header) (links words : List ℕ) (s : State) : Type 0 where
+pub record Ready (h : Header) (links words : List ℕ) (s : RunState) : Type 0 where
   pub held : Held h links words
   pub stacked : Stack (h .events) (s .sums .at) (s .stack)
   pub sized : length (s .lower) ≡ 2016
@@ -67,7 +67,7 @@ pub record Ready (h : Header) (links words : List ℕ) (s : State) : Type 0 wher
 
 -- what it promises: the sums so far plus those over the ends that are reached, the others still to come, and how many of the allowed ends
 -- were not used; the mass added comes off that of the pending branches
-pub record Tallied (p : Walked) (s s′ : State) : Type 0 where
+pub record Tallied (p : WalkedPlan) (s s′ : RunState) : Type 0 where
   pub numbers : s′ .sums .number ≡ s .sums .number + sumEnds (λ e m. 1) (reached (p .header) (p .words) s)
   pub masses : s′ .sums .mass ≡ s .sums .mass + sumEnds (λ e m. m) (reached (p .header) (p .words) s)
   pub entries : (v w : ℕ) → v < w → w < p .header .nodes

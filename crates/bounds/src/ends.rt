@@ -14,7 +14,7 @@ ghost use Rattle.network.specs.Table.{LinksAt};
 ghost use Rattle.walk.specs.Scenario.{scenarioOf};
 ghost use Rattle.bounds.specs.Bounds.{cuts};
 ghost use Rattle.bounds.specs.Blocks.{BlocksFit, BlocksAdded};
-ghost use Rattle.bounds.specs.Tallied.{walkedOf, stateOf, Ready, Tallied};
+ghost use Rattle.bounds.specs.Tallied.{walkedPlan, runState, Ready, Tallied};
 
 // Adds the mass of a scenario to the entries of the pairs that its topology, with what is out before the first event, disconnects, in each
 // block of a set. The topology is worked out once.
@@ -69,9 +69,9 @@ pub fn go_on(
     so_far: Tally,
 ) -> Tally
     requires { ⌜ LinksAt (now links) (h .links) (now table) ⌝ }
-    requires { ⌜ Ready h (now links) (now words) (stateOf (now stack) (now lower) «so_far») ⌝ }
-    ensures { λ r. ⌜ Tallied (walkedOf (outage out) h (now (links .entry)) (now (words .entry)))
-        (stateOf (now (stack .entry)) (now (lower .entry)) «so_far») (stateOf (now (stack .exit)) (now (lower .exit)) r) ⌝ }
+    requires { ⌜ Ready h (now links) (now words) (runState (now stack) (now lower) «so_far») ⌝ }
+    ensures { λ r. ⌜ Tallied (walkedPlan (outage out) h (now (links .entry)) (now (words .entry)))
+        (runState (now (stack .entry)) (now (lower .entry)) «so_far») (runState (now (stack .exit)) (now (lower .exit)) r) ⌝ }
 {
     let mut at = so_far.at;
     let mut left = so_far.left;

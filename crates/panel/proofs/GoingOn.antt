@@ -21,7 +21,7 @@ use Rattle.walk.proofs.EndsLaws.{sumEnds-append, count-sum}
 use Rattle.walk.proofs.PendingMass.{pending-covers}
 use Rattle.walk.proofs.Valid.{held-probable}
 use Rattle.bounds.specs.Bounds.{cuts}
-use Rattle.bounds.specs.Tallied.{walkedOf, stateOf, Ready, Tallied}
+use Rattle.bounds.specs.Tallied.{walkedPlan, runState, Ready, Tallied}
 use Rattle.bounds.specs.Summed.{Summed}
 use Rattle.bounds.specs.declared.Tally.{Tally}
 use Rattle.panel.specs.Walks.{capped, walkPlan, endsToCome, WalkAt}
@@ -54,7 +54,7 @@ module _ (w : Walk) (s : SoundWalk w) where
         }
 
     pub ready : (allowed : ℕ) → allowed + w .reached ≤ w .header .limit → length (w .sums) ≡ 2016
-        → Ready (w .header) (w .links) (w .events) (stateOf (w .stack) (w .sums) (tallyOf w allowed))
+        → Ready (w .header) (w .links) (w .events) (runState (w .stack) (w .sums) (tallyOf w allowed))
     ready allowed fits size =
         record {
           held = held;
@@ -105,7 +105,7 @@ module _ (n k : ℕ) (list : List End) where
 
 module _ (w : Walk) (allowed : ℕ) (stack′ sums′ : List ℕ) (r : Tally)
     (t :
-    Tallied (walkedOf intact (w .header) (w .links) (w .events)) (stateOf (w .stack) (w .sums) (tallyOf w allowed)) (stateOf stack′ sums′ r)) where
+    Tallied (walkedPlan intact (w .header) (w .links) (w .events)) (runState (w .stack) (w .sums) (tallyOf w allowed)) (runState stack′ sums′ r)) where
   -- the walk after so many ends more
   abbrev walkOn : ℕ → Walk
   walkOn got =

@@ -10,15 +10,15 @@ use lib.Seq.{getD-set-same, getD-set-other}
 use Rattle.mass.specs.Split.{whole}
 use Rattle.threshold_walk.specs.Paths.{SharedWalk, pathEnds, handed}
 use Rattle.threshold_walk.specs.declared.WorksPath.{WorksPath}
-use Rattle.threshold_sums.specs.Walked.{Numbers, numbersOf, ownAt, Places, CountsFit, SamePlace, Counted, PathCounted, examinedBy}
+use Rattle.threshold_sums.specs.Walked.{PlaceNumbers, placeNumbers, numbersAt, Places, CountsFit, SamePlace, Counted, PathCounted, examinedBy}
 use Rattle.threshold_sums.proofs.Examined.{once}
 
 -- nothing is counted yet
-pub counts-begin : (k : SharedWalk) (list : List ℕ) (path : WorksPath) (n : Numbers) → Places n → PathCounted k list 0 path n n
+pub counts-begin : (k : SharedWalk) (list : List ℕ) (path : WorksPath) (n : PlaceNumbers) → Places n → PathCounted k list 0 path n n
 counts-begin k list path n sized = record { sized = sized; each = λ i l. absurd (omega arith); past = λ i l. (refl, refl, refl) }
 
 -- the sums of the next threshold have room for the path
-pub counts-room : (k : SharedWalk) (list : List ℕ) (path : WorksPath) (n₀ n : Numbers) (i active : ℕ)
+pub counts-room : (k : SharedWalk) (list : List ℕ) (path : WorksPath) (n₀ n : PlaceNumbers) (i active : ℕ)
     → PathCounted k list i path n₀ n → i < active → CountsFit active path list n₀
     → (one : ℕ) → one ≡ examinedBy (getD list i 0) (getD (n .rooms) i 0) (path .last)
     → (getD (n .counts) i 0 + one < 4294967298) × (getD (n .masses) i 0 + path .last * one ≤ whole)
@@ -30,19 +30,19 @@ counts-room k list path n₀ n i active g l fits one is =
       omega (arith, fits i l .1, old .2, ap (λ (x : ℕ). path .last * x) same),
     )
 
-module _ (k : SharedWalk) (list : List ℕ) (path : WorksPath) (n₀ n : Numbers) (i : ℕ) (g : PathCounted k list i path n₀ n) (few : i < 16)
+module _ (k : SharedWalk) (list : List ℕ) (path : WorksPath) (n₀ n : PlaceNumbers) (i : ℕ) (g : PathCounted k list i path n₀ n) (few : i < 16)
     (ends : ℕ) (are : pathEnds (k .count) (getD list i 0) (k .words) path ≡ handed (k .count) (getD list i 0) path ends)
     (none : ends ≡ 0 → path .last < getD list i 0)
     (one : ℕ) (is : one ≡ examinedBy (getD list i 0) (getD (n .rooms) i 0) (path .last)) (left : ℕ) (rest : left ≡ getD (n .rooms) i 0 - ends) where
-  abbrev n′ : Numbers
+  abbrev n′ : PlaceNumbers
   n′ =
-      numbersOf (set (n .rooms) i left) (set (n .counts) i (getD (n .counts) i 0 + one))
+      placeNumbers (set (n .rooms) i left) (set (n .counts) i (getD (n .counts) i 0 + one))
       (set (n .masses) i (getD (n .masses) i 0 + path .last * one))
 
   same-one : one ≡ examinedBy (getD list i 0) (getD (n₀ .rooms) i 0) (path .last)
   same-one = is ∙ ap (λ (x : ℕ). examinedBy (getD list i 0) x (path .last)) (g .past i (omega arith) .0)
 
-  own : Counted k (getD list i 0) path (ownAt n₀ i) (ownAt n′ i)
+  own : Counted k (getD list i 0) path (numbersAt n₀ i) (numbersAt n′ i)
   own =
       record {
         ends = ends;
@@ -64,8 +64,8 @@ module _ (k : SharedWalk) (list : List ℕ) (path : WorksPath) (n₀ n : Numbers
     getD-set-other (n .masses) i b (getD (n .masses) i 0 + path .last * one) 0 apart,
   )
 
-  each-turn : (b : ℕ) → b < i + 1 → Dec (b ≡ i) → Counted k (getD list b 0) path (ownAt n₀ b) (ownAt n′ b)
-  each-turn b l (yes e) = subst (λ (x : ℕ). Counted k (getD list x 0) path (ownAt n₀ x) (ownAt n′ x)) (sym e) own
+  each-turn : (b : ℕ) → b < i + 1 → Dec (b ≡ i) → Counted k (getD list b 0) path (numbersAt n₀ b) (numbersAt n′ b)
+  each-turn b l (yes e) = subst (λ (x : ℕ). Counted k (getD list x 0) path (numbersAt n₀ x) (numbersAt n′ x)) (sym e) own
   each-turn b l (no apart) =
       let old = g .each b (omega arith) in
       let o = other b apart in

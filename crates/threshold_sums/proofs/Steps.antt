@@ -22,7 +22,7 @@ use Rattle.pairs.proofs.Row.{at-most}
 use Rattle.bounds.specs.Bounds.{cuts}
 use Rattle.threshold_walk.specs.Paths.{handed}
 use Rattle.threshold_walk.specs.declared.WorksPath.{WorksPath}
-use Rattle.threshold_sums.specs.Walked.{Own, CountedSoFar, HoldsAnswers, examinedBy}
+use Rattle.threshold_sums.specs.Walked.{OwnNumbers, CountedSoFar, HoldsAnswers, examinedBy}
 use Rattle.threshold_sums.proofs.Examined.{not-met, no-room, with-room}
 
 -- ---- sums over the ends of a path
@@ -91,7 +91,7 @@ module _ (events t : ℕ) (path : WorksPath) where
 
 -- ---- what was counted so far for one threshold
 
-module _ (p : Plan) (events t : ℕ) (path : WorksPath) (coming coming′ : List End) (o : Own) (block : ℕ) (lower : List ℕ)
+module _ (p : Plan) (events t : ℕ) (path : WorksPath) (coming coming′ : List End) (o : OwnNumbers) (block : ℕ) (lower : List ℕ)
     (g : CountedSoFar p coming o block lower) (k : ℕ) (none : k ≡ 0 → path .last < t) (split : coming ≡ handed events t path k ++ coming′) where
   abbrev one : ℕ
   one = examinedBy t (o .room) (path .last)
@@ -107,7 +107,7 @@ module _ (p : Plan) (events t : ℕ) (path : WorksPath) (coming coming′ : List
   pub mass-fits : o .mass + path .last * one ≤ massExamined p
   mass-fits = omega (arith, g .masses, taken (λ s m. m))
 
-  pub counted-on : (lower′ : List ℕ) (o′ : Own) → o′ .room ≡ o .room - k → o′ .number ≡ o .number + one → o′ .mass ≡ o .mass + path .last * one
+  pub counted-on : (lower′ : List ℕ) (o′ : OwnNumbers) → o′ .room ≡ o .room - k → o′ .number ≡ o .number + one → o′ .mass ≡ o .mass + path .last * one
       → ((v w : ℕ) → v < w → w < p .nodes
       → getD lower′ (place (p .nodes) v w + block) 0
       ≡ getD lower (place (p .nodes) v w + block) 0
@@ -135,7 +135,7 @@ module _ (p : Plan) (events t : ℕ) (path : WorksPath) (coming coming′ : List
       }
 
 -- the walk of a threshold has ended: no end may be reached any more, or none is to come
-module _ (p : Plan) (coming : List End) (o : Own) (block : ℕ) (lower : List ℕ) (g : CountedSoFar p coming o block lower) where
+module _ (p : Plan) (coming : List End) (o : OwnNumbers) (block : ℕ) (lower : List ℕ) (g : CountedSoFar p coming o block lower) where
   holds-answers : take (o .room - 1) coming ≡ [] → ltb (length coming) (o .room) ≡ ltb 0 (o .room) → HoldsAnswers p o block lower
   holds-answers none same =
       record {

@@ -32,7 +32,7 @@ use Rattle.threshold_walk.specs.Paths.{sharedWalk, pathEnds, handed, PathTaken}
 use Rattle.threshold_walk.specs.declared.WorksPath.{WorksPath}
 use Rattle.threshold_walk.proofs.Counting.{all-of}
 use Rattle.threshold_walk.proofs.Resume.{begun-stack, begun-ends, none-to-come}
-use Rattle.threshold_sums.specs.Walked.{Plans, planOf, FallingFirst, Numbers, ownAt, CountedSoFar, HoldsAnswers, examinedBy}
+use Rattle.threshold_sums.specs.Walked.{Plans, planFor, FallingFirst, PlaceNumbers, numbersAt, CountedSoFar, HoldsAnswers, examinedBy}
 use Rattle.threshold_sums.specs.Walked.{PathFits, CountsFit, PathAdded, Places, PathCounted, AllCountedSoFar, Kept, Fresh, AllHoldAnswers}
 use Rattle.threshold_sums.proofs.Examined.{not-met}
 use Rattle.threshold_sums.proofs.Steps.{mass-fits, counted-on, used-up, all-reached}
@@ -60,7 +60,7 @@ abbrev coming : Plans → ℕ → ℕ → List ℕ → List End
 coming ps i at stack = toCome (ps .header .events) (getD (ps .list) i 0) (ps .words) at stack
 
 module _ (ps : Plans) (active : ℕ) (f : FallingFirst active (ps .list)) (held : Held (ps .header) (ps .links) (ps .words))
-    (limited : ps .header .limit < 4294967296) (at : ℕ) (stack : List ℕ) (n : Numbers) (lower : List ℕ)
+    (limited : ps .header .limit < 4294967296) (at : ℕ) (stack : List ℕ) (n : PlaceNumbers) (lower : List ℕ)
     (sofar : AllCountedSoFar ps active at stack n lower) (stack′ : List ℕ) (path : WorksPath)
     (t : PathTaken (sharedWalk (ps .header .events) (getD (ps .list) (active - 1) 0) (ps .words)) at stack stack′ path) where
   -- the ends to come of a threshold are those of the path, and those then to come
@@ -70,9 +70,9 @@ module _ (ps : Plans) (active : ℕ) (f : FallingFirst active (ps .list)) (held 
   split i l k are =
       t .ends (getD (ps .list) i 0) (lowest-least active (ps .list) f i l) ∙ ap (λ (x : List End). x ++ coming ps i (path .at) stack′) are
 
-  most : (i : ℕ) → massExamined (planOf ps i) ≤ whole
+  most : (i : ℕ) → massExamined (planFor ps i) ≤ whole
   unfolding planOfLists
-  most i = massExamined-le (planOf ps i) (held-probable (ps .header) (ps .links) (ps .words) held)
+  most i = massExamined-le (planFor ps i) (held-probable (ps .header) (ps .links) (ps .words) held)
 
   -- the sums have room for what the path adds
   mass-room : (i : ℕ) → i < active → Dec (path .last < getD (ps .list) i 0)
@@ -85,7 +85,7 @@ module _ (ps : Plans) (active : ℕ) (f : FallingFirst active (ps .list)) (held 
       omega (
         arith,
         most i,
-        mass-fits (planOf ps i) (ps .header .events) (getD (ps .list) i 0) path _ _ _ _ lower (sofar .each i l) k (λ z. absurd (omega arith))
+        mass-fits (planFor ps i) (ps .header .events) (getD (ps .list) i 0) path _ _ _ _ lower (sofar .each i l) k (λ z. absurd (omega arith))
             (split i l k
             (all-of (ps .header .events) (getD (ps .list) (active - 1) 0) (getD (ps .list) i 0) (ps .words) (held .falling)
             (lowest-least active (ps .list) f i l)
@@ -101,7 +101,7 @@ module _ (ps : Plans) (active : ℕ) (f : FallingFirst active (ps .list)) (held 
 
   counted-fits : (i : ℕ) → i < active → getD (n .counts) i 0 < 4294967296
   unfolding planOfLists
-  counted-fits i l = omega (arith, sofar .each i l .numbers, count-le (planOf ps i))
+  counted-fits i l = omega (arith, sofar .each i l .numbers, count-le (planFor ps i))
 
   pub counts-fit : CountsFit active path (ps .list) n
   counts-fit i l = (counted-fits i l, mass-room i l (decLt (path .last) (getD (ps .list) i 0)))
@@ -109,7 +109,7 @@ module _ (ps : Plans) (active : ℕ) (f : FallingFirst active (ps .list)) (held 
   pub decided : joined (path .low) (path .high) < 2 ^ ps .header .events
   decided = omega (arith, t .sound .decided, pow-mono {i = path .depth} {j = ps .header .events} (t .sound .deep))
 
-  module _ (lower′ : List ℕ) (added : PathAdded ps active path (n .rooms) lower lower′) (n′ : Numbers)
+  module _ (lower′ : List ℕ) (added : PathAdded ps active path (n .rooms) lower lower′) (n′ : PlaceNumbers)
       (counted : PathCounted (sharedWalk (ps .header .events) (getD (ps .list) (active - 1) 0) (ps .words)) (ps .list) active path n n′) where
     pub all-counted-on : AllCountedSoFar ps active (path .at) stack′ n′ lower′
     unfolding planOfLists
@@ -118,7 +118,7 @@ module _ (ps : Plans) (active : ℕ) (f : FallingFirst active (ps .list)) (held 
           each =
               λ i l.
               let c = counted .each i l in
-              counted-on (planOf ps i) (ps .header .events) (getD (ps .list) i 0) path _ _ _ _ lower (sofar .each i l) (c .ends) (c .none)
+              counted-on (planFor ps i) (ps .header .events) (getD (ps .list) i 0) path _ _ _ _ lower (sofar .each i l) (c .ends) (c .none)
               (split i l (c .ends) (c .are))
               lower′
               _
@@ -128,7 +128,7 @@ module _ (ps : Plans) (active : ℕ) (f : FallingFirst active (ps .list)) (held 
               (added .each i l);
         }
 
-    pub kept-on : (n₀ : Numbers) (lower₀ : List ℕ) → Kept (ps .header) active n₀ lower₀ n lower → Kept (ps .header) active n₀ lower₀ n′ lower′
+    pub kept-on : (n₀ : PlaceNumbers) (lower₀ : List ℕ) → Kept (ps .header) active n₀ lower₀ n lower → Kept (ps .header) active n₀ lower₀ n′ lower′
     kept-on n₀ lower₀ kept =
         record {
           places =
@@ -142,17 +142,17 @@ module _ (ps : Plans) (active : ℕ) (f : FallingFirst active (ps .list)) (held 
         }
 
 -- nothing is done yet
-pub kept-begin : (h : Header) (active : ℕ) (n : Numbers) (lower : List ℕ) → Places n → Kept h active n lower n lower
+pub kept-begin : (h : Header) (active : ℕ) (n : PlaceNumbers) (lower : List ℕ) → Places n → Kept h active n lower n lower
 kept-begin h active n lower sized = record { places = λ i l. (refl, refl, refl); entries = λ j l. refl; sized = refl; arrays = sized }
 
 -- ---- one threshold after another
 
 -- the first `active` thresholds are under way, the others of the first `number` have ended, and all else is untouched
-pub record Walking (ps : Plans) (number : ℕ) (n₀ : Numbers) (lower₀ : List ℕ) (active at : ℕ) (stack : List ℕ) (n : Numbers) (lower : List ℕ) : Type 0 where
+pub record Walking (ps : Plans) (number : ℕ) (n₀ : PlaceNumbers) (lower₀ : List ℕ) (active at : ℕ) (stack : List ℕ) (n : PlaceNumbers) (lower : List ℕ) : Type 0 where
   pub within : active ≤ number
   pub stacked : Stack (ps .header .events) at stack
   pub sofar : AllCountedSoFar ps active at stack n lower
-  pub ended : (i : ℕ) → active ≤ i → i < number → HoldsAnswers (planOf ps i) (ownAt n i) (pairCount (ps .header .nodes) * i) lower
+  pub ended : (i : ℕ) → active ≤ i → i < number → HoldsAnswers (planFor ps i) (numbersAt n i) (pairCount (ps .header .nodes) * i) lower
   pub kept : Kept (ps .header) number n₀ lower₀ n lower
 
 -- fewer of falling thresholds fall
@@ -165,15 +165,15 @@ fewer-fall number active list f l =
       falling = λ i j k m. f .falling i j k (omega arith);
     }
 
-module _ (ps : Plans) (number : ℕ) (n₀ : Numbers) (lower₀ : List ℕ) where
+module _ (ps : Plans) (number : ℕ) (n₀ : PlaceNumbers) (lower₀ : List ℕ) where
   -- at the root
   module _ (fresh : Fresh (ps .header) number n₀ lower₀) (f : FallingFirst number (ps .list)) (few : ps .header .nodes ≤ 64) (at : ℕ)
       (zeros stack : List ℕ) (place-is : at ≡ 635) (laid : stack ≡ sets zeros 635 (0 ∷ whole ∷ 0 ∷ 0 ∷ whole ∷ [])) (size : length zeros ≡ 640) where
-    ends-are : (i : ℕ) → i < number → coming ps i at stack ≡ planEnds (planOf ps i)
+    ends-are : (i : ℕ) → i < number → coming ps i at stack ≡ planEnds (planFor ps i)
     unfolding planOfLists
     ends-are i l = begun-ends at zeros stack place-is laid size (ps .header .events) (getD (ps .list) i 0) (ps .words) (f .most i l)
 
-    firsts : (i : ℕ) → i < number → take (getD (n₀ .rooms) i 0 - 1) (coming ps i at stack) ≡ firstEnds (planOf ps i)
+    firsts : (i : ℕ) → i < number → take (getD (n₀ .rooms) i 0 - 1) (coming ps i at stack) ≡ firstEnds (planFor ps i)
     unfolding planOfLists
     firsts i l =
         let cap-ends : getD (n₀ .rooms) i 0 - 1 ≡ ps .header .limit = omega (arith, fresh .full i l) in
@@ -190,19 +190,19 @@ module _ (ps : Plans) (number : ℕ) (n₀ : Numbers) (lower₀ : List ℕ) wher
         ))
 
     fresh-counted : (i : ℕ) → i < number
-        → CountedSoFar (planOf ps i) (coming ps i at stack) (ownAt n₀ i) (pairCount (ps .header .nodes) * i) lower₀
+        → CountedSoFar (planFor ps i) (coming ps i at stack) (numbersAt n₀ i) (pairCount (ps .header .nodes) * i) lower₀
     unfolding planOfLists
     fresh-counted i l =
         record {
-          numbers = omega (arith, fresh .none i, ap (sumEnds (λ s m. 1)) (firsts i l), count-sum (planOf ps i));
+          numbers = omega (arith, fresh .none i, ap (sumEnds (λ s m. 1)) (firsts i l), count-sum (planFor ps i));
           masses = omega (arith, fresh .empty i, ap (sumEnds (λ s m. m)) (firsts i l));
           entries =
               λ v w k m.
-              omega (arith, zero-at i l v w k m, ap (sumEnds (λ s x. x * digit (cuts intact (planOf ps i) v w s))) (firsts i l));
+              omega (arith, zero-at i l v w k m, ap (sumEnds (λ s x. x * digit (cuts intact (planFor ps i) v w s))) (firsts i l));
           below = λ v w k m. omega (arith, zero-at i l v w k m);
           ends =
               ap (λ (x : List End). digit (ltb (length x) (getD (n₀ .rooms) i 0))) (ends-are i l)
-              ∙ ap digit (one-more (length (planEnds (planOf ps i))) (ps .header .limit) (getD (n₀ .rooms) i 0) (fresh .full i l));
+              ∙ ap digit (one-more (length (planEnds (planFor ps i))) (ps .header .limit) (getD (n₀ .rooms) i 0) (fresh .full i l));
         }
 
     pub walk-begins : Walking ps number n₀ lower₀ number at stack n₀ lower₀
@@ -216,16 +216,16 @@ module _ (ps : Plans) (number : ℕ) (n₀ : Numbers) (lower₀ : List ℕ) wher
         }
 
   -- the lowest that is under way ends
-  module _ (few : ps .header .nodes ≤ 64) (active at : ℕ) (stack : List ℕ) (n : Numbers) (lower : List ℕ) (some : 1 ≤ active)
+  module _ (few : ps .header .nodes ≤ 64) (active at : ℕ) (stack : List ℕ) (n : PlaceNumbers) (lower : List ℕ) (some : 1 ≤ active)
       (g : Walking ps number n₀ lower₀ active at stack n lower)
-      (at′ : ℕ) (stack′ : List ℕ) (n′ : Numbers) (lower′ : List ℕ) (stacked : Stack (ps .header .events) at′ stack′)
+      (at′ : ℕ) (stack′ : List ℕ) (n′ : PlaceNumbers) (lower′ : List ℕ) (stacked : Stack (ps .header .events) at′ stack′)
       (sofar : AllCountedSoFar ps active at′ stack′ n′ lower′) (kept : Kept (ps .header) active n lower n′ lower′)
       (over : (getD (n′ .rooms) (active - 1) 0 ≡ 0) ⊎ (at′ ≡ 640)) where
     abbrev last : ℕ
     last = active - 1
 
     abbrev Ended : ℕ → Type 0
-    Ended i = HoldsAnswers (planOf ps i) (ownAt n′ i) (pairCount (ps .header .nodes) * i) lower′
+    Ended i = HoldsAnswers (planFor ps i) (numbersAt n′ i) (pairCount (ps .header .nodes) * i) lower′
 
     last-ends : (getD (n′ .rooms) last 0 ≡ 0) ⊎ (at′ ≡ 640) → Ended last
     last-ends (inl e) = used-up _ _ _ _ lower′ (sofar .each last (omega arith)) e
@@ -278,6 +278,6 @@ module _ (ps : Plans) (number : ℕ) (n₀ : Numbers) (lower₀ : List ℕ) wher
         }
 
   -- none is under way
-  pub walk-done : (at : ℕ) (stack : List ℕ) (n : Numbers) (lower : List ℕ) (active : ℕ) → active ≡ 0
+  pub walk-done : (at : ℕ) (stack : List ℕ) (n : PlaceNumbers) (lower : List ℕ) (active : ℕ) → active ≡ 0
       → Walking ps number n₀ lower₀ active at stack n lower → AllHoldAnswers ps number n₀ lower₀ n lower
   walk-done at stack n lower active e g = record { each = λ i l. g .ended i (omega arith) l; kept = g .kept }

@@ -40,8 +40,8 @@ abbrev pub plansOf : Header → List ℕ → List ℕ → List ℕ → Plans
 plansOf h links words list = record { header = h; links = links; words = words; list = list }
 
 -- that of threshold i
-abbrev pub planOf : Plans → ℕ → Plan
-planOf ps i = planWith (ps .header) (ps .links) (ps .words) (getD (ps .list) i 0)
+abbrev pub planFor : Plans → ℕ → Plan
+planFor ps i = planWith (ps .header) (ps .links) (ps .words) (getD (ps .list) i 0)
 
 -- the first `number` of a list of thresholds are 1 to 10^18 and fall strictly
 pub record FallingFirst (number : ℕ) (list : List ℕ) : Type 0 where
@@ -51,26 +51,26 @@ pub record FallingFirst (number : ℕ) (list : List ℕ) : Type 0 where
   pub falling : (i j : ℕ) → i < j → j < number → getD list j 0 < getD list i 0
 
 -- the numbers of 16 thresholds: for each what is left of its room, how many scenarios it examined, and their mass
-pub record Numbers : Type 0 where
+pub record PlaceNumbers : Type 0 where
   pub rooms : List ℕ
   pub counts : List ℕ
   pub masses : List ℕ
 
-abbrev pub numbersOf : List ℕ → List ℕ → List ℕ → Numbers
-numbersOf rooms counts masses = record { rooms = rooms; counts = counts; masses = masses }
+abbrev pub placeNumbers : List ℕ → List ℕ → List ℕ → PlaceNumbers
+placeNumbers rooms counts masses = record { rooms = rooms; counts = counts; masses = masses }
 
 -- those of one threshold. `room` is one more than the ends that may still be reached, 0 where more were: so the walk is complete where fewer
 -- ends are to come than it says
-pub record Own : Type 0 where
+pub record OwnNumbers : Type 0 where
   pub room : ℕ
   pub number : ℕ
   pub mass : ℕ
 
-abbrev pub ownAt : Numbers → ℕ → Own
-ownAt n i = record { room = getD (n .rooms) i 0; number = getD (n .counts) i 0; mass = getD (n .masses) i 0 }
+abbrev pub numbersAt : PlaceNumbers → ℕ → OwnNumbers
+numbersAt n i = record { room = getD (n .rooms) i 0; number = getD (n .counts) i 0; mass = getD (n .masses) i 0 }
 
 -- what was counted so far for one threshold, and what is to come, give its plan's answers. `block` is where its block begins
-pub record CountedSoFar (p : Plan) (coming : List End) (o : Own) (block : ℕ) (lower : List ℕ) : Type 0 where
+pub record CountedSoFar (p : Plan) (coming : List End) (o : OwnNumbers) (block : ℕ) (lower : List ℕ) : Type 0 where
   pub numbers : o .number + sumEnds (λ s m. 1) (take (o .room - 1) coming) ≡ count p
   pub masses : o .mass + sumEnds (λ s m. m) (take (o .room - 1) coming) ≡ massExamined p
   pub entries : (v w : ℕ) → v < w → w < p .nodes
@@ -79,7 +79,7 @@ pub record CountedSoFar (p : Plan) (coming : List End) (o : Own) (block : ℕ) (
   pub ends : digit (ltb (length coming) (o .room)) ≡ complete p
 
 -- the walk of one threshold has ended: its numbers and its block hold its plan's answers
-pub record HoldsAnswers (p : Plan) (o : Own) (block : ℕ) (lower : List ℕ) : Type 0 where
+pub record HoldsAnswers (p : Plan) (o : OwnNumbers) (block : ℕ) (lower : List ℕ) : Type 0 where
   pub numbers : o .number ≡ count p
   pub masses : o .mass ≡ massExamined p
   pub entries : (v w : ℕ) → v < w → w < p .nodes → getD lower (place (p .nodes) v w + block) 0 ≡ lowerOf intact p v w
@@ -99,7 +99,7 @@ PathFits h active path list rooms lower =
     (i : ℕ) → i < active → (v w : ℕ) → v < w → w < h .nodes
     → getD lower (place (h .nodes) v w + pairCount (h .nodes) * i) 0 + path .last * examinedBy (getD list i 0) (getD rooms i 0) (path .last) ≤ whole
 
-abbrev pub CountsFit : ℕ → WorksPath → List ℕ → Numbers → Type 0
+abbrev pub CountsFit : ℕ → WorksPath → List ℕ → PlaceNumbers → Type 0
 CountsFit active path list n =
     (i : ℕ) → i < active
     → (getD (n .counts) i 0 < 4294967296)
@@ -122,18 +122,18 @@ pub record PathAdded (ps : Plans) (active : ℕ) (path : WorksPath) (rooms lower
   pub past : (j : ℕ) → pairCount (ps .header .nodes) * active ≤ j → getD lower′ j 0 ≡ getD lower j 0
 
 -- a place for each of 16 thresholds
-pub record Places (n : Numbers) : Type 0 where
+pub record Places (n : PlaceNumbers) : Type 0 where
   pub rooms-size : length (n .rooms) ≡ 16
   pub counts-size : length (n .counts) ≡ 16
   pub masses-size : length (n .masses) ≡ 16
 
 -- place i is the same in both
-abbrev pub SamePlace : Numbers → Numbers → ℕ → Type 0
+abbrev pub SamePlace : PlaceNumbers → PlaceNumbers → ℕ → Type 0
 SamePlace n n′ i =
     (getD (n′ .rooms) i 0 ≡ getD (n .rooms) i 0) × (getD (n′ .counts) i 0 ≡ getD (n .counts) i 0) × (getD (n′ .masses) i 0 ≡ getD (n .masses) i 0)
 
 -- what one path counts for one threshold: its ends come off the room, and its scenario is counted where it is examined
-pub record Counted (k : SharedWalk) (t : ℕ) (path : WorksPath) (o o′ : Own) : Type 0 where
+pub record Counted (k : SharedWalk) (t : ℕ) (path : WorksPath) (o o′ : OwnNumbers) : Type 0 where
   pub ends : ℕ
   pub are : pathEnds (k .count) t (k .words) path ≡ handed (k .count) t path ends
   pub none : ends ≡ 0 → path .last < t
@@ -142,26 +142,26 @@ pub record Counted (k : SharedWalk) (t : ℕ) (path : WorksPath) (o o′ : Own) 
   pub added : o′ .mass ≡ o .mass + path .last * examinedBy t (o .room) (path .last)
 
 -- and for each of the first `active` thresholds; the other places are untouched
-pub record PathCounted (k : SharedWalk) (list : List ℕ) (active : ℕ) (path : WorksPath) (n n′ : Numbers) : Type 0 where
+pub record PathCounted (k : SharedWalk) (list : List ℕ) (active : ℕ) (path : WorksPath) (n n′ : PlaceNumbers) : Type 0 where
   pub sized : Places n′
-  pub each : (i : ℕ) → i < active → Counted k (getD list i 0) path (ownAt n i) (ownAt n′ i)
+  pub each : (i : ℕ) → i < active → Counted k (getD list i 0) path (numbersAt n i) (numbersAt n′ i)
   pub past : (i : ℕ) → active ≤ i → SamePlace n n′ i
 
 -- the first `active` thresholds are under way: for each, what was counted so far and what is to come give its plan's answers
-pub record AllCountedSoFar (ps : Plans) (active at : ℕ) (stack : List ℕ) (n : Numbers) (lower : List ℕ) : Type 0 where
+pub record AllCountedSoFar (ps : Plans) (active at : ℕ) (stack : List ℕ) (n : PlaceNumbers) (lower : List ℕ) : Type 0 where
   pub each : (i : ℕ) → i < active
-      → CountedSoFar (planOf ps i) (toCome (ps .header .events) (getD (ps .list) i 0) (ps .words) at stack)
-      (ownAt n i) (pairCount (ps .header .nodes) * i) lower
+      → CountedSoFar (planFor ps i) (toCome (ps .header .events) (getD (ps .list) i 0) (ps .words) at stack)
+      (numbersAt n i) (pairCount (ps .header .nodes) * i) lower
 
 -- what is not of the first `active` thresholds is untouched
-pub record Kept (h : Header) (active : ℕ) (n : Numbers) (lower : List ℕ) (n′ : Numbers) (lower′ : List ℕ) : Type 0 where
+pub record Kept (h : Header) (active : ℕ) (n : PlaceNumbers) (lower : List ℕ) (n′ : PlaceNumbers) (lower′ : List ℕ) : Type 0 where
   pub places : (i : ℕ) → active ≤ i → SamePlace n n′ i
   pub entries : (j : ℕ) → pairCount (h .nodes) * active ≤ j → getD lower′ j 0 ≡ getD lower j 0
   pub sized : length lower′ ≡ length lower
   pub arrays : Places n′
 
 -- before the walk: nothing is reached, one more than the cap may be, and the blocks are of zeros
-pub record Fresh (h : Header) (number : ℕ) (n : Numbers) (lower : List ℕ) : Type 0 where
+pub record Fresh (h : Header) (number : ℕ) (n : PlaceNumbers) (lower : List ℕ) : Type 0 where
   pub arrays : Places n
   pub fits : pairCount (h .nodes) * number ≤ length lower
   pub full : (i : ℕ) → i < number → getD (n .rooms) i 0 ≡ h .limit + 1
@@ -170,6 +170,6 @@ pub record Fresh (h : Header) (number : ℕ) (n : Numbers) (lower : List ℕ) : 
   pub zeros : (j : ℕ) → j < pairCount (h .nodes) * number → getD lower j 0 ≡ 0
 
 -- after it: each of the first `number` thresholds has its plan's answers, and all else is untouched
-pub record AllHoldAnswers (ps : Plans) (number : ℕ) (n : Numbers) (lower : List ℕ) (n′ : Numbers) (lower′ : List ℕ) : Type 0 where
-  pub each : (i : ℕ) → i < number → HoldsAnswers (planOf ps i) (ownAt n′ i) (pairCount (ps .header .nodes) * i) lower′
+pub record AllHoldAnswers (ps : Plans) (number : ℕ) (n : PlaceNumbers) (lower : List ℕ) (n′ : PlaceNumbers) (lower′ : List ℕ) : Type 0 where
+  pub each : (i : ℕ) → i < number → HoldsAnswers (planFor ps i) (numbersAt n′ i) (pairCount (ps .header .nodes) * i) lower′
   pub kept : Kept (ps .header) number n lower n′ lower′

@@ -14,7 +14,7 @@ ghost use Rattle.plan.specs.Held.{Held, Falling};
 ghost use Rattle.network.specs.Table.{LinksAt};
 ghost use Rattle.pairs.specs.Pairs.{pairCount};
 ghost use Rattle.threshold_walk.specs.Paths.{sharedWalk, SoundPath};
-ghost use Rattle.threshold_sums.specs.Walked.{plansOf, numbersOf, examinedBy, FallingFirst, PathFits, WantedBlocks, Places, CountsFit};
+ghost use Rattle.threshold_sums.specs.Walked.{plansOf, placeNumbers, examinedBy, FallingFirst, PathFits, WantedBlocks, Places, CountsFit};
 ghost use Rattle.threshold_sums.specs.Walked.{PathAdded, PathCounted};
 
 // 1 where a path's scenario, with its mass, is examined by the walk with a threshold of which so much room is left, else 0.
@@ -54,11 +54,11 @@ pub fn count_path(
     requires { ⌜ (events ≤ 128) × Falling certain (eventsOf events (now words)) ⌝ }
     requires { ⌜ FallingFirst active (now list) × (1 ≤ active) ⌝ }
     requires { ⌜ SoundPath (sharedWalk events (getD (now list) (active - 1) 0) (now words)) path ⌝ }
-    requires { ⌜ Places (numbersOf (now rooms) (now counts) (now masses))
-        × CountsFit active path (now list) (numbersOf (now rooms) (now counts) (now masses)) ⌝ }
+    requires { ⌜ Places (placeNumbers (now rooms) (now counts) (now masses))
+        × CountsFit active path (now list) (placeNumbers (now rooms) (now counts) (now masses)) ⌝ }
     ensures { λ r. ⌜ PathCounted (sharedWalk events (getD (now (list .entry)) (active - 1) 0) (now (words .entry))) (now (list .entry)) active path
-        (numbersOf (now (rooms .entry)) (now (counts .entry)) (now (masses .entry)))
-        (numbersOf (now (rooms .exit)) (now (counts .exit)) (now (masses .exit))) ⌝ }
+        (placeNumbers (now (rooms .entry)) (now (counts .entry)) (now (masses .entry)))
+        (placeNumbers (now (rooms .exit)) (now (counts .exit)) (now (masses .exit))) ⌝ }
 {
     let lowest = list[active - 1];
     let mut i = 0;

@@ -24,18 +24,18 @@ use Rattle.walk.proofs.Descents.{probable, branch-parts}
 use Rattle.walk.proofs.Resume.{ends-some}
 use Rattle.threshold_walk.specs.Stack.{entryEnds, toCome, SoundEntry, SoundEntries, Stack}
 use Rattle.threshold_walk.specs.Paths.{SharedWalk, sharedWalk, Pushed, Faint, Halted, pathEnds, leftToTake, PathTaken}
-use Rattle.threshold_walk.specs.declared.Entry.{Entry}
 use Rattle.threshold_walk.specs.declared.Halt.{Halt}
+use Rattle.threshold_walk.specs.declared.SharedEntry.{SharedEntry}
 use Rattle.threshold_walk.specs.declared.WorksPath.{WorksPath}
 use Rattle.threshold_walk.proofs.Words.{words-at, laid-size, laid-words}
 use Rattle.threshold_walk.proofs.Stops.{entry-none, entry-some, branch-cut}
 
 -- the branch in hand on the way down from an entry, where the way has come to
-abbrev inHand : Entry → Halt → Entry
+abbrev inHand : SharedEntry → Halt → SharedEntry
 inHand e r = record { depth = r .depth; mass = r .mass; low = e .low; high = e .high; parent = e .parent }
 
 -- on the way down: a branch in hand, the pending entries on the stack, and for every threshold the same ends to come as at the start
-pub record Going (k : SharedWalk) (at : ℕ) (e : Entry) (stack₀ stack : List ℕ) (r : Halt) : Type 0 where
+pub record Going (k : SharedWalk) (at : ℕ) (e : SharedEntry) (stack₀ stack : List ℕ) (r : Halt) : Type 0 where
   pub hand : SoundEntry (k .count) (inHand e r) (length (drop (r .at) stack))
   pub held : Stack (k .count) (r .at) stack
   pub ahead : (t : ℕ)
@@ -44,7 +44,7 @@ pub record Going (k : SharedWalk) (at : ℕ) (e : Entry) (stack₀ stack : List 
   pub lighter : r .mass ≤ e .mass
   pub still : e .mass < k .lowest → r .at ≡ at
 
-module _ (k : SharedWalk) (at : ℕ) (e : Entry) (stack₀ stack : List ℕ) (r : Halt) (g : Going k at e stack₀ stack r) where
+module _ (k : SharedWalk) (at : ℕ) (e : SharedEntry) (stack₀ stack : List ℕ) (r : Halt) (g : Going k at e stack₀ stack r) where
   abbrev count : ℕ
   count = k .count
 
@@ -170,7 +170,7 @@ module _ (k : SharedWalk) (at : ℕ) (e : Entry) (stack₀ stack : List ℕ) (r 
 
 -- the next branch is taken off the stack
 module _ (count : ℕ) (words : List ℕ) (at : ℕ) (stack : List ℕ) (s : Stack count at stack) (h : at < 640) where
-  abbrev e : Entry
+  abbrev e : SharedEntry
   e =
       record {
         depth = getD stack at 0;

@@ -14,8 +14,8 @@ use Rattle.walk.specs.Pending.{branchEnds}
 use Rattle.walk.specs.Stack.{branchOf}
 use Rattle.walk.specs.Steps.{Stopped, endOf}
 use Rattle.threshold_walk.specs.Stack.{entryEnds, toCome, Stack}
-use Rattle.threshold_walk.specs.declared.Entry.{Entry}
 use Rattle.threshold_walk.specs.declared.Halt.{Halt}
+use Rattle.threshold_walk.specs.declared.SharedEntry.{SharedEntry}
 use Rattle.threshold_walk.specs.declared.WorksPath.{WorksPath}
 
 -- one walk for several thresholds: how many events there are, the lowest threshold that is under way, and the words of the events
@@ -28,7 +28,7 @@ abbrev pub sharedWalk : ℕ → ℕ → List ℕ → SharedWalk
 sharedWalk count lowest words = record { count = count; lowest = lowest; words = words }
 
 -- a branch laid down with one failing event more, that at its depth
-pub record Pushed (e : Entry) (at : ℕ) (stack stack′ : List ℕ) : Type 0 where
+pub record Pushed (e : SharedEntry) (at : ℕ) (stack stack′ : List ℕ) : Type 0 where
   pub setLow : ℕ
   pub setHigh : ℕ
   pub word : setLow < 2 ^ 64
@@ -41,7 +41,7 @@ abbrev pub Faint : ℕ → ℕ → List ℕ → ℕ → ℕ → Type 0
 Faint count threshold words depth mass = threshold ≤ mass → depth < count → failing mass (getD words (depth * 4) 0) < threshold
 
 -- from a branch down to there: for each threshold t that is not below the lowest, the ends to come are the same
-pub record Halted (k : SharedWalk) (at : ℕ) (e : Entry) (stack stack′ : List ℕ) (r : Halt) : Type 0 where
+pub record Halted (k : SharedWalk) (at : ℕ) (e : SharedEntry) (stack stack′ : List ℕ) (r : Halt) : Type 0 where
   pub ends : (t : ℕ) → k .lowest ≤ t
       → branchEnds t (eventsOf (k .count) (k .words)) (branchOf (e .depth) (e .mass) (e .low) (e .high)) ++ toCome (k .count) t (k .words) at stack
       ≡ branchEnds t (eventsOf (k .count) (k .words)) (branchOf (r .depth) (r .mass) (e .low) (e .high)) ++ toCome (k .count) t (k .words) (r .at) stack′

@@ -13,7 +13,7 @@ use Rattle.plan.specs.Lists.{eventsOf}
 use Rattle.walk.specs.Ends.{End, dropped, relevant, ends}
 use Rattle.walk.specs.Pending.{Branch, branchEnds}
 use Rattle.walk.specs.Stack.{branchOf}
-use Rattle.threshold_walk.specs.declared.Entry.{Entry}
+use Rattle.threshold_walk.specs.declared.SharedEntry.{SharedEntry}
 
 -- the ends of a pending branch in the walk with the threshold t: none where the mass before its last event, `parent`, is below t, since
 -- that walk ended there
@@ -42,7 +42,7 @@ abbrev pub toCome : ℕ → ℕ → List ℕ → ℕ → List ℕ → List End
 toCome count t words at stack = stackEnds t (eventsOf count words) (drop at stack)
 
 -- what holds of a pending branch, and of the words under its five: no more entries lie under a branch than its depth says
-pub record SoundEntry (count : ℕ) (e : Entry) (below : ℕ) : Type 0 where
+pub record SoundEntry (count : ℕ) (e : SharedEntry) (below : ℕ) : Type 0 where
   pub deep : e .depth ≤ count
   pub lighter : e .mass ≤ e .parent
   pub light : e .parent ≤ whole

@@ -16,7 +16,7 @@ ghost use Rattle.threshold_walk.specs.Paths.{sharedWalk, Pushed, Halted,
 
 // A pending branch, as it stands in five words of the stack: how many events are decided, the mass, the failing events, and the mass before
 // the last event.
-pub struct Entry {
+pub struct SharedEntry {
     pub depth: u64,
     pub mass: u64,
     pub low: u64,
@@ -47,7 +47,7 @@ pub struct WorksPath {
 }
 
 // Lays a pending branch down in five words of the stack.
-fn put(stack: &mut [u64; 640], at: usize, branch: Entry)
+fn put(stack: &mut [u64; 640], at: usize, branch: SharedEntry)
     requires { ⌜ at + 5 ≤ 640 ⌝ }
     ensures { λ r. ⌜ now (stack .exit) ≡ sets (now (stack .entry)) at (branch .depth ∷ branch .mass ∷ branch .low ∷ branch .high ∷ branch .parent ∷ []) ⌝ }
 {
@@ -63,7 +63,7 @@ pub fn begin(stack: &mut [u64; 640]) -> usize
     ensures { λ r. ⌜ (r ≡ 635) × (now (stack .exit) ≡ sets (now (stack .entry)) 635 (0 ∷ whole ∷ 0 ∷ 0 ∷ whole ∷ [])) ⌝ }
 {
     let whole = mass::Mass::WHOLE.units;
-    let root = Entry {
+    let root = SharedEntry {
         depth: 0,
         mass: whole,
         low: 0,
@@ -75,7 +75,7 @@ pub fn begin(stack: &mut [u64; 640]) -> usize
 }
 
 // Lays a branch down with one failing event more, that at its depth.
-fn push(stack: &mut [u64; 640], at: usize, branch: Entry)
+fn push(stack: &mut [u64; 640], at: usize, branch: SharedEntry)
     requires { ⌜ (branch .depth < 128) × (branch .low < 2 ^ 64) × (joined (branch .low) (branch .high) < 2 ^ (branch .depth)) × (at + 5 ≤ 640) ⌝ }
     ensures { λ r. ⌜ Pushed branch at (now (stack .entry)) (now (stack .exit)) ⌝ }
 {
@@ -87,7 +87,7 @@ fn push(stack: &mut [u64; 640], at: usize, branch: Entry)
     put(
         stack,
         at,
-        Entry {
+        SharedEntry {
             depth: branch.depth + 1,
             mass: branch.mass,
             low: failing.low,
@@ -105,7 +105,7 @@ fn go_down(
     events: &[u64; 512],
     stack: &mut [u64; 640],
     at: usize,
-    branch: Entry,
+    branch: SharedEntry,
 ) -> Halt
     requires { ⌜ (count ≤ 128) × Falling certain (eventsOf count (now events)) ⌝ }
     requires { ⌜ SoundEntry count branch (length (drop at (now stack))) × Stack count at (now stack) ⌝ }
@@ -144,7 +144,7 @@ fn go_down(
         push(
             &mut *stack,
             top,
-            Entry {
+            SharedEntry {
                 depth: d,
                 mass: f,
                 low: branch.low,
@@ -173,7 +173,7 @@ pub fn next_path(
     let low = stack[at + 2];
     let high = stack[at + 3];
     let parent = stack[at + 4];
-    let branch = Entry {
+    let branch = SharedEntry {
         depth,
         mass,
         low,

@@ -24,7 +24,7 @@ use Rattle.pairs.specs.Pairs.{place, pairCount}
 use Rattle.pairs.proofs.PairLaws.{pairs-most, place-lt, unplace}
 use Rattle.bounds.specs.Bounds.{cuts, lowerOf, upperOf, lowerList, upperList}
 use Rattle.bounds.proofs.Answers.{mass-most, raised, enclosed}
-use Rattle.threshold_sums.specs.Walked.{planWith, plansOf, Numbers}
+use Rattle.threshold_sums.specs.Walked.{planWith, plansOf, PlaceNumbers}
 use Rattle.thresholds.specs.Thresholds.{thresholdsTest, blocks, places, answerOf, EnclosesBlocks}
 use Rattle.thresholds.specs.Steps.{BlocksWalked, Raising, Raised}
 use Rattle.thresholds.specs.declared.Answered.{Answered}
@@ -44,7 +44,7 @@ valid-at h links words e t some most =
 -- ---- what the walk of an accepted plan gave
 
 module _ (h : Header) (links words list : List ℕ) (valid : planRefusal (planOfLists h links words) ≡ 0) (few : h .nodes ≤ 64)
-    (tested : thresholdsTest list ≡ 0) (n : Numbers) (lower lower′ : List ℕ) (b : BlocksWalked (plansOf h links words list) n lower lower′) where
+    (tested : thresholdsTest list ≡ 0) (n : PlaceNumbers) (lower lower′ : List ℕ) (b : BlocksWalked (plansOf h links words list) n lower lower′) where
   abbrev plan : ℕ → Plan
   plan = planWith h links words
 

@@ -6,7 +6,7 @@ use Prim.Native.Nat.{ℕ, _+_, _-_, _*_, _<_, _≤_}
 use lib.ListN.{length, getD}
 use Rattle.mass.specs.Split.{whole}
 use Rattle.pairs.specs.Pairs.{pairCount}
-use Rattle.threshold_sums.specs.Walked.{Plans, planOf, Numbers, ownAt, HoldsAnswers, Places}
+use Rattle.threshold_sums.specs.Walked.{Plans, planFor, PlaceNumbers, numbersAt, HoldsAnswers, Places}
 use Rattle.thresholds.specs.Thresholds.{thresholdsTest}
 use Rattle.thresholds.specs.declared.CommonHeader.{CommonHeader}
 
@@ -18,9 +18,9 @@ pub record Accepted (h : CommonHeader) (list : List ℕ) (lowerRoom upperRoom : 
 
 -- the walk for a list of thresholds has ended: each has its plan's answers at its place and in its block, the places past the last hold 0,
 -- and the entries past the last block are untouched
-pub record BlocksWalked (ps : Plans) (n : Numbers) (lower lower′ : List ℕ) : Type 0 where
+pub record BlocksWalked (ps : Plans) (n : PlaceNumbers) (lower lower′ : List ℕ) : Type 0 where
   pub arrays : Places n
-  pub each : (i : ℕ) → i < length (ps .list) → HoldsAnswers (planOf ps i) (ownAt n i) (pairCount (ps .header .nodes) * i) lower′
+  pub each : (i : ℕ) → i < length (ps .list) → HoldsAnswers (planFor ps i) (numbersAt n i) (pairCount (ps .header .nodes) * i) lower′
   pub none : (i : ℕ) → length (ps .list) ≤ i → (getD (n .rooms) i 0 ≡ 0) × (getD (n .counts) i 0 ≡ 0) × (getD (n .masses) i 0 ≡ 0)
   pub past : (j : ℕ) → pairCount (ps .header .nodes) * length (ps .list) ≤ j → getD lower′ j 0 ≡ getD lower j 0
   pub sized : length lower′ ≡ length lower

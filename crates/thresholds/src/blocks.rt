@@ -16,7 +16,7 @@ ghost use Rattle.plan.specs.Held.{Held};
 ghost use Rattle.network.specs.Outage.{intact};
 ghost use Rattle.pairs.specs.Pairs.{pairCount};
 ghost use Rattle.bounds.specs.Bounds.{lowerList, upperList};
-ghost use Rattle.threshold_sums.specs.Walked.{planWith, plansOf, numbersOf};
+ghost use Rattle.threshold_sums.specs.Walked.{planWith, plansOf, placeNumbers};
 ghost use Rattle.thresholds.specs.Thresholds.{thresholdsTest, blocks, answerOf, EnclosesBlocks};
 ghost use Rattle.thresholds.specs.Steps.{BlocksWalked, Raising, Raised};
 
@@ -36,7 +36,7 @@ fn walk_blocks(
     requires { ⌜ (now rooms ≡ replicate 16 0) × ((now counts ≡ replicate 16 0) × (now masses ≡ replicate 16 0)) ⌝ }
     requires { ⌜ pairCount (h .nodes) * length (now list) ≤ length (now lower) ⌝ }
     ensures { λ r. ⌜ BlocksWalked (plansOf h (now (links .entry)) (now (words .entry)) (now (list .entry)))
-        (numbersOf (now (rooms .exit)) (now (counts .exit)) (now (masses .exit))) (now (lower .entry)) (now (lower .exit)) ⌝ }
+        (placeNumbers (now (rooms .exit)) (now (counts .exit)) (now (masses .exit))) (now (lower .entry)) (now (lower .exit)) ⌝ }
 {
     let number = list.len();
     let n = h.nodes as usize;

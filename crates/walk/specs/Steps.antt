@@ -15,9 +15,9 @@ use Rattle.walk.specs.Ends.{End, dropped, relevant}
 use Rattle.walk.specs.WorksPath.{pathSteps, pathMass}
 use Rattle.walk.specs.Stack.{toCome, pendingMass, Stack}
 use Rattle.walk.specs.declared.Descent.{Descent}
-use Rattle.walk.specs.declared.Entry.{Entry}
 use Rattle.walk.specs.declared.Failing.{Failing}
 use Rattle.walk.specs.declared.Parted.{Parted}
+use Rattle.walk.specs.declared.StackEntry.{StackEntry}
 use Rattle.walk.specs.declared.Step.{Step}
 use Rattle.walk.specs.declared.Stop.{Stop}
 
@@ -57,7 +57,7 @@ pub record Stopped (count threshold : ℕ) (words : List ℕ) (depth mass : ℕ)
   pub lighter : r .mass ≤ mass
 
 -- a branch laid down with one failing event more, that at its depth: its set of failing events is in two words
-pub record Pushed (b : Entry) (at : ℕ) (stack stack′ : List ℕ) : Type 0 where
+pub record Pushed (b : StackEntry) (at : ℕ) (stack stack′ : List ℕ) : Type 0 where
   pub setLow : ℕ
   pub setHigh : ℕ
   pub word : setLow < 2 ^ 64

@@ -1,8 +1,8 @@
 // One step of the walk: the next relevant scenario.
 use crate::Descent;
-use crate::Entry;
 use crate::Failing;
 use crate::Parted;
+use crate::StackEntry;
 use crate::Step;
 use crate::Stop;
 use crate::put;
@@ -98,7 +98,7 @@ pub fn straight(count: u64, threshold: u64, events: &[u64; 512], depth: u64, mas
 }
 
 // Lays a branch down with one failing event more, that at its depth.
-fn push(stack: &mut [u64; 512], at: usize, branch: Entry)
+fn push(stack: &mut [u64; 512], at: usize, branch: StackEntry)
     requires { ⌜ (branch .depth < 128) × (branch .failing .low < 2 ^ 64)
         × (joined (branch .failing .low) (branch .failing .high) < 2 ^ (branch .depth)) × (at + 4 ≤ 512) ⌝ }
     ensures { λ r. ⌜ Pushed branch at (now (stack .entry)) (now (stack .exit)) ⌝ }
@@ -107,7 +107,7 @@ fn push(stack: &mut [u64; 512], at: usize, branch: Entry)
     put(
         stack,
         at,
-        Entry {
+        StackEntry {
             depth: branch.depth + 1,
             mass: branch.mass,
             failing,
@@ -147,7 +147,7 @@ fn go_down(
     events: &[u64; 512],
     stack: &mut [u64; 512],
     at: usize,
-    branch: Entry,
+    branch: StackEntry,
 ) -> Descent
     requires { ⌜ (count ≤ 128) × Falling certain (eventsOf count (now events)) ⌝ }
     requires { ⌜ SoundBranch count (branch .depth) (branch .mass) (branch .failing .low) (branch .failing .high) (length (drop at (now stack)))
@@ -182,7 +182,7 @@ fn go_down(
         push(
             &mut *stack,
             top,
-            Entry {
+            StackEntry {
                 depth: d,
                 mass: f,
                 failing,
@@ -220,7 +220,7 @@ fn descend(
     }
     let low = stack[at + 2];
     let high = stack[at + 3];
-    let branch = Entry {
+    let branch = StackEntry {
         depth,
         mass,
         failing: Failing { low, high },
@@ -236,7 +236,7 @@ fn delay(stack: &mut [u64; 512], at: usize, number: u64) -> usize
     if number == 0 {
         return at;
     }
-    let run = Entry {
+    let run = StackEntry {
         depth: RUN,
         mass: number,
         failing: Failing { low: 0, high: 0 },

@@ -19,8 +19,9 @@ pub struct Failing {
     pub high: u64,
 }
 
-// A pending branch: how many events are decided, the mass, and the failing events.
-pub struct Entry {
+// An entry of the stack: a pending branch, with how many events are decided, its mass and its failing events; or, where the depth is RUN, so
+// many dropped ends as the mass says.
+pub struct StackEntry {
     pub depth: u64,
     pub mass: u64,
     pub failing: Failing,
@@ -79,7 +80,7 @@ pub fn with_event(failing: Failing, event: u64) -> Failing
 }
 
 // Lays an entry down in four words of the stack.
-fn put(stack: &mut [u64; 512], at: usize, e: Entry)
+fn put(stack: &mut [u64; 512], at: usize, e: StackEntry)
     requires { ⌜ at + 4 ≤ 512 ⌝ }
     ensures { λ r. ⌜ now (stack .exit) ≡ sets (now (stack .entry)) at (e .depth ∷ e .mass ∷ e .failing .low ∷ e .failing .high ∷ []) ⌝ }
 {
@@ -93,7 +94,7 @@ fn put(stack: &mut [u64; 512], at: usize, e: Entry)
 pub fn begin(stack: &mut [u64; 512]) -> usize
     ensures { λ r. ⌜ Begun r (now (stack .entry)) (now (stack .exit)) ⌝ }
 {
-    let root = Entry {
+    let root = StackEntry {
         depth: 0,
         mass: mass::Mass::WHOLE.units,
         failing: Failing { low: 0, high: 0 },

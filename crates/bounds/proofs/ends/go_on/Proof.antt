@@ -2,7 +2,7 @@
 use native.Mathlib.Omega.{arith}
 use borrow.Author.Tests.{not-true, not-false}
 use Rattle.network.specs.Code.{outage}
-use Rattle.bounds.specs.Tallied.{walkedOf, stateOf}
+use Rattle.bounds.specs.Tallied.{walkedPlan, runState}
 use Rattle.bounds.proofs.Examining.{first-fits, examined}
 use Rattle.bounds.proofs.Turn.{Turn, stopped, mass-fits, number-fits, room, less, turned}
 use Rattle.bounds.proofs.ends.go_on.Statement.{statement}
@@ -10,9 +10,9 @@ use Rattle.bounds.proofs.ends.go_on.Tie as tie
 
 abbrev Inv-loop : tie.InvT-loop
 Inv-loop h links words table out stack₀ lower₀ at₀ left₀ number₀ mass₀ stack lower at left number mass =
-    Turn (walkedOf (outage out) h links words)
-    (stateOf stack₀ lower₀ (record { at = at₀; left = left₀; number = number₀; mass = mass₀ }))
-    (stateOf stack lower (record { at = at; left = left; number = number; mass = mass }))
+    Turn (walkedPlan (outage out) h links words)
+    (runState stack₀ lower₀ (record { at = at₀; left = left₀; number = number₀; mass = mass₀ }))
+    (runState stack lower (record { at = at; left = left; number = number; mass = mass }))
 
 abbrev μ-loop : tie.MeasureT-loop
 μ-loop h links words table out stack₀ lower₀ at₀ left₀ number₀ mass₀ stack lower at left number mass = left

@@ -6,7 +6,7 @@ use borrow.Author.Needs.{needs}
 use native.Mathlib.Omega.{arith}
 use lib.ListN.{getD}
 use Rattle.threshold_walk.specs.Paths.{sharedWalk}
-use Rattle.threshold_sums.specs.Walked.{numbersOf, PathCounted}
+use Rattle.threshold_sums.specs.Walked.{placeNumbers, PathCounted}
 use Rattle.threshold_sums.proofs.Blocks.{lowest-least}
 use Rattle.threshold_sums.proofs.Counts.{counts-begin, counts-room, count-turned}
 use Rattle.threshold_sums.proofs.paths.count_path.Statement.{statement}
@@ -14,7 +14,7 @@ use Rattle.threshold_sums.proofs.paths.count_path.Tie as tie
 
 abbrev Inv-loop : tie.InvT-loop
 Inv-loop events words list active path rooms₀ counts₀ masses₀ lowest i₀ rooms counts masses i =
-    PathCounted (sharedWalk events (getD list (active - 1) 0) words) list i path (numbersOf rooms₀ counts₀ masses₀) (numbersOf rooms counts masses)
+    PathCounted (sharedWalk events (getD list (active - 1) 0) words) list i path (placeNumbers rooms₀ counts₀ masses₀) (placeNumbers rooms counts masses)
     × (i ≤ active)
 
 abbrev μ-loop : tie.MeasureT-loop

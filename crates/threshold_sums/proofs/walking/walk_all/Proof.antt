@@ -6,14 +6,14 @@ use native.Mathlib.Nat.{mul-le-mul-left}
 use native.Mathlib.Omega.{arith}
 use lib.ListN.{replicate}
 use Rattle.pairs.specs.Pairs.{pairCount}
-use Rattle.threshold_sums.specs.Walked.{plansOf, numbersOf}
+use Rattle.threshold_sums.specs.Walked.{plansOf, placeNumbers}
 use Rattle.threshold_sums.proofs.Turns.{Walking, fewer-fall, walk-begins, walk-turned, walk-done}
 use Rattle.threshold_sums.proofs.walking.walk_all.Statement.{statement}
 use Rattle.threshold_sums.proofs.walking.walk_all.Tie as tie
 
 abbrev Inv-loop : tie.InvT-loop
 Inv-loop h links words list number rooms₀ counts₀ masses₀ lower₀ table stack₀ at₀ active₀ rooms counts masses lower stack at active =
-    Walking (plansOf h links words list) number (numbersOf rooms₀ counts₀ masses₀) lower₀ active at stack (numbersOf rooms counts masses) lower
+    Walking (plansOf h links words list) number (placeNumbers rooms₀ counts₀ masses₀) lower₀ active at stack (placeNumbers rooms counts masses) lower
 
 abbrev μ-loop : tie.MeasureT-loop
 μ-loop h links words list number rooms₀ counts₀ masses₀ lower₀ table stack₀ at₀ active₀ rooms counts masses lower stack at active = active

@@ -5,7 +5,7 @@ use mathlib.Core.Logic.{inl, inr}
 use native.Mathlib.Omega.{arith}
 use Rattle.threshold_walk.specs.Stack.{Stack}
 use Rattle.threshold_walk.specs.Paths.{sharedWalk, leftToTake}
-use Rattle.threshold_sums.specs.Walked.{plansOf, numbersOf, AllCountedSoFar, Kept}
+use Rattle.threshold_sums.specs.Walked.{plansOf, placeNumbers, AllCountedSoFar, Kept}
 use Rattle.threshold_sums.proofs.Turns.{path-fits, counts-fit, decided, all-counted-on, kept-begin, kept-on}
 use Rattle.threshold_sums.proofs.walking.walk_with.Statement.{statement}
 use Rattle.threshold_sums.proofs.walking.walk_with.Tie as tie
@@ -13,8 +13,8 @@ use Rattle.threshold_sums.proofs.walking.walk_with.Tie as tie
 abbrev Inv-loop : tie.InvT-loop
 Inv-loop h links words table list active stack₀ start rooms₀ counts₀ masses₀ lower₀ lowest at₀ stack rooms counts masses lower at =
     Stack (h .events) at stack
-    × AllCountedSoFar (plansOf h links words list) active at stack (numbersOf rooms counts masses) lower
-    × Kept h active (numbersOf rooms₀ counts₀ masses₀) lower₀ (numbersOf rooms counts masses) lower
+    × AllCountedSoFar (plansOf h links words list) active at stack (placeNumbers rooms counts masses) lower
+    × Kept h active (placeNumbers rooms₀ counts₀ masses₀) lower₀ (placeNumbers rooms counts masses) lower
 
 abbrev μ-loop : tie.MeasureT-loop
 μ-loop h links words table list active stack₀ start rooms₀ counts₀ masses₀ lower₀ lowest at₀ stack rooms counts masses lower at =
