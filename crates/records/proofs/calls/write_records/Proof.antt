@@ -1,4 +1,5 @@
--- `records::calls::write_records` meets its contract: a walk of its MIR, by hand. An array of words of its own is lent to `flatten`, which lays the records' words down,
+-- `records::calls::write_records` meets its contract: a walk of its MIR, by hand. An array of words of its own is lent to `flatten`, which lays the records'
+-- words down,
 -- and then to `write_words`, which writes the plan; the output is given up for good to that call.
 -- Assumes nothing.
 use mathlib.Core.Path.{_≡_, refl, ap, subst, _∙_}
@@ -187,7 +188,8 @@ module _ {M : Type 1} (𝓤 : URA M) (H : Heap 𝓤) (A : Atoms 𝓤) (W : Given
         qed W ((‵ (flft κ₀ q₀) ⊛ (‵ (flft κ₁ q₁) ⊛ (‵ (flft κ₂ q₂) ⊛ ‵ ftrue))) ∷ ‵ (owns (T.the-row ∷ ShrSlice (named 0) κ₀ u8 ∷ ShrSlice (named 1) κ₁ E ∷ MutSlice (named 2) κ₂ u8 ∷ []) a at) ∷ []) ∵
         enter ! C Λ code.function (T′.lowered h ∷ sliceVal (k .ptr) (length (k .now)) ∷ sliceVal (b₁, o₁) (length es) ∷ sliceVal (b₂, o₂) (length us) ∷ []) _ $
         alloc1 ! (λ l₀. alloc1 ! (λ l₁. alloc1 ! (λ l₂. alloc1 ! (λ l₃. alloc1 ! (λ l₄. alloc1 ! (λ l₅. alloc1 ! (λ l₆. alloc1 ! (λ l₇. alloc1 ! (λ l₈. alloc1 ! (λ l₉. alloc1 ! (λ l₁₀. alloc1 ! (λ l₁₁. alloc0 ! $ params1 ! $
-        pass1 ! (init ! 20 refl (LL.lawful T.the-type T′.the-laws 𝓤 H A W .typed h _ h-is .0)) $ pass1 ! (init ! 18 refl (tt, (tt, (record { fits = k-room .0 }, tt)))) $ pass1 ! (init ! 16 refl (tt, (tt, (record { fits = v-room .0 }, tt)))) $ pass1 ! (init ! 14 refl (tt, (tt, (record { fits = w-room .0 }, tt)))) $ pass0 ! $
+        pass1 ! (init ! 20 refl (LL.lawful T.the-type T′.the-laws 𝓤 H A W .typed h _ h-is .0)) $ pass1 ! (init ! 18 refl (tt, (tt, (record { fits = k-room .0 }, tt)))) $
+        pass1 ! (init ! 16 refl (tt, (tt, (record { fits = v-room .0 }, tt)))) $ pass1 ! (init ! 14 refl (tt, (tt, (record { fits = w-room .0 }, tt)))) $ pass0 ! $
         move ! (24 ∷ []) $ split ! $ move ! (1 ∷ []) $ split ! $ move ! (1 ∷ []) $ split ! $ move ! (28 ∷ []) $ fsplit ! $ move ! (1 ∷ []) $ fsplit ! $ move ! (1 ∷ []) $ fsplit ! $ move ! (1 ∷ []) $ fsplit ! $
         -- the array of words
         use0 W (‵ (Words .own zeros (zeros-val ∷ []))) (zeros-own 𝓤 H A W) $ peeks ! Words (Is Words) (shows 𝓤 H A Words) zeros (zeros-val ∷ []) (λ is₀.
@@ -210,14 +212,20 @@ module _ {M : Type 1} (𝓤 : URA M) (H : Heap 𝓤) (A : Atoms 𝓤) (W : Given
         assigns ! (agg ! (and-then ! (load ! (from ! (stop !)) (look ! 16 refl)) (and-then ! (load ! (from ! (fld ! refl (stop !))) (look-in ! 27 (sub ! 1 refl (whole !)))) (no-more !)))) (from ! (stop !)) (init ! 14 refl (tt, (tt, (record { fits = w-room .0 }, tt)))) $
         -- the words are lent by `&` to `write_words`, for a lifetime ν′ of the call; the output is given up for good
         lft-new ! tt (λ ν′. move ! (1 ∷ []) $
-        use1 W (later (some (λ (δ′ : GName). ‵ (ShrRef (named 1) (ν′ ∷ []) Words .own (x l₅ δ′ (zs .1 .0)) (vptr l₅ 0 ∷ [])) ⊛ ‵ (flent (ν′ ∷ []) (partAt Words fullShare (zs .1 .0) l₅ 0))))) (lends-shr 𝓤 H A W Words (named 1) (ν′ ∷ []) fullShare (zs .1 .0) l₅ 0) $ await ! tt $ pick ! (λ δ′. split ! $
+        use1 W (later (some (λ (δ′ : GName). ‵ (ShrRef (named 1) (ν′ ∷ []) Words .own (x l₅ δ′ (zs .1 .0)) (vptr l₅ 0 ∷ [])) ⊛ ‵ (flent (ν′ ∷ []) (partAt Words fullShare (zs .1 .0) l₅ 0)))))
+        (lends-shr 𝓤 H A W Words (named 1) (ν′ ∷ []) fullShare (zs .1 .0) l₅ 0) $ await ! tt $ pick ! (λ δ′. split ! $
         move ! (11 ∷ []) $ use1 W (‵ OwnK ⊛ ‵ OwnK) (shr-slice-copy 𝓤 H A W (named 0) κ₀ u8 .twice k (at .1 .0)) $ split ! $ nothing ! $ move ! (15 ∷ 0 ∷ []) $ join ! $ move ! (5 ∷ 0 ∷ []) $ join ! $
         move ! (15 ∷ 0 ∷ []) $ join ! $ nothing ! $ move ! (12 ∷ 0 ∷ []) $ fjoin ! $ move ! (4 ∷ 0 ∷ []) $ fjoin ! $ owned ! usize (Is usize) (uint-makes 𝓤 H A W w64) (length es) _ (refl, v-room .0) $ fjoin ! $
         move ! (2 ∷ 0 ∷ []) $ fjoin ! $ owned ! T.the-row (Is T.the-row) header-makes h _ h-is $ fjoin ! $ move ! (1 ∷ 0 ∷ []) $
         use2 W (raw (WriteWords 𝓤 H A mem″ run .pre (to-write l₅ ν′ δ′ (zs .1 .0)))) (asked-write l₅ ν′ δ′ (zs .1 .0)) $
-        calls-at ! fm (WriteWords 𝓤 H A mem″ run) known-write (to-write l₅ ν′ δ′ (zs .1 .0)) (and-then ! (load ! (from ! (stop !)) (look ! 31 refl)) (and-then ! (load ! (from ! (stop !)) (look ! 29 refl)) (and-then ! (load ! (from ! (stop !)) (look ! 18 refl)) (and-then ! (load ! (from ! (stop !)) (look ! 16 refl)) (and-then ! (load ! (from ! (stop !)) (look ! 12 refl)) (no-more !)))))) (λ u.
-        use1 W (later (some (λ (r : Writing). ((‵ (flft κ₀ q₀) ⊛ (‵ (flft (ν′ ∷ []) fullShare) ⊛ (‵ (flft κ₂ q₂) ⊛ ‵ ftrue))) ⊛ ‵ (R.the-row .own r (u ∷ []))) ⊛ raw (ensured 𝓤 H A write-words.ended (write-words.clauses 𝓤 H A mem″ run) (κ₀, (ν′ ∷ [], (κ₂, tt))) ((to-write l₅ ν′ δ′ (zs .1 .0)) .0 .3) tt r)))) (id⊢ 𝓤 _) $ await ! tt $ pick ! (λ r.
-        split ! $ move ! (1 ∷ []) $ use1 W (some (λ (vs : Unit {0} × (Unit {0} × (Unit {0} × (Unit {0} × (List ℕ × Unit {0}))))). ‵ (lasts write-words.ended (κ₀, (ν′ ∷ [], (κ₂, tt))) ((to-write l₅ ν′ δ′ (zs .1 .0)) .0 .3) vs) ⊛ (raw (fact 𝓤 (r ≡ answered (length (taken (zs .1 .0)) / 4) (taken (zs .1 .0)))) ⊛ raw (fact 𝓤 (vs .1 .1 .1 .1 .0 ≡ out-left (length (taken (zs .1 .0)) / 4) (taken (zs .1 .0))))))) (id⊢ 𝓤 _) $ pick ! (λ vs. split ! $ move ! (1 ∷ []) $
+        calls-at ! fm (WriteWords 𝓤 H A mem″ run) known-write (to-write l₅ ν′ δ′ (zs .1 .0)) (and-then ! (load ! (from ! (stop !)) (look ! 31 refl))
+        (and-then ! (load ! (from ! (stop !)) (look ! 29 refl)) (and-then ! (load ! (from ! (stop !)) (look ! 18 refl)) (and-then ! (load ! (from ! (stop !)) (look ! 16 refl))
+        (and-then ! (load ! (from ! (stop !)) (look ! 12 refl)) (no-more !)))))) (λ u.
+        use1 W (later (some (λ (r : Writing). ((‵ (flft κ₀ q₀) ⊛ (‵ (flft (ν′ ∷ []) fullShare) ⊛ (‵ (flft κ₂ q₂) ⊛ ‵ ftrue))) ⊛ ‵ (R.the-row .own r (u ∷ [])))
+        ⊛ raw (ensured 𝓤 H A write-words.ended (write-words.clauses 𝓤 H A mem″ run) (κ₀, (ν′ ∷ [], (κ₂, tt))) ((to-write l₅ ν′ δ′ (zs .1 .0)) .0 .3) tt r)))) (id⊢ 𝓤 _) $ await ! tt $ pick ! (λ r.
+        split ! $ move ! (1 ∷ []) $ use1 W (some (λ (vs : Unit {0} × (Unit {0} × (Unit {0} × (Unit {0} × (List ℕ × Unit {0}))))).
+        ‵ (lasts write-words.ended (κ₀, (ν′ ∷ [], (κ₂, tt))) ((to-write l₅ ν′ δ′ (zs .1 .0)) .0 .3) vs) ⊛ (raw (fact 𝓤 (r ≡ answered (length (taken (zs .1 .0)) / 4) (taken (zs .1 .0))))
+        ⊛ raw (fact 𝓤 (vs .1 .1 .1 .1 .0 ≡ out-left (length (taken (zs .1 .0)) / 4) (taken (zs .1 .0))))))) (id⊢ 𝓤 _) $ pick ! (λ vs. split ! $ move ! (1 ∷ []) $
         split ! $ heard ! (r ≡ answered (length (taken (zs .1 .0)) / 4) (taken (zs .1 .0))) (λ e₂. heard ! (vs .1 .1 .1 .1 .0 ≡ out-left (length (taken (zs .1 .0)) / 4) (taken (zs .1 .0))) (λ e₃. fsplit ! $ move ! (1 ∷ []) $ fsplit ! $ move ! (1 ∷ []) $ fsplit ! $ move ! (1 ∷ []) $ fsplit ! $
         move ! (1 ∷ []) $ fsplit ! $ fsplit ! $ move ! (1 ∷ []) $ feqL ! (λ len. move ! (6 ∷ []) $ split ! $ move ! (1 ∷ []) $ peeks ! R.the-row (Is R.the-row) (shows 𝓤 H A R.the-row) r (u ∷ []) (λ is.
         land ! (from ! (stop !)) (init ! 40 refl (EL.lawful R.the-type R′.the-laws 𝓤 H A W tt .typed r _ is .0)) $ move ! (1 ∷ []) $ split ! $ move ! (1 ∷ []) $ split ! $ move ! (1 ∷ []) $ split ! $ move ! (2 ∷ []) $
