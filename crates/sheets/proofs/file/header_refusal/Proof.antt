@@ -1,8 +1,8 @@
 -- `sheets::file::header_refusal` meets its contract: the tests in their order. Assumes nothing.
-use mathlib.Core.Path.{_≡_, _∙_, ap₂}
+use mathlib.Core.Path.{_∙_, ap₂}
 use Prim.Native.Nat.{ℕ, _≤_}
 use native.Mathlib.Omega.{arith}
-use lib.ListN.{length, getD}
+use lib.ListN.{length}
 use Rattle.refusals.specs.Tests.{markTest, versionTest, countsTest}
 use Rattle.sheets.specs.SheetFile.{sheetHeaderRefusal}
 use Rattle.refusals.proofs.OrderLaws.{stop, skip, last, on, on3}
@@ -21,20 +21,6 @@ returns c = stop _ (c .before .short-test .ensures) (c .if1 .taken)
 there : (c : tie.Else1) → 8 ≤ length (c .before .before .before .args .s .now)
 there c = enough _ 8 (c .before .short-test .ensures) (c .if1 .left)
 
--- the first branch, seen from the test of the mark; that test from the test of the version
-abbrev first : tie.After-mark-test → tie.Else1
-first c = c .before .before .before .before
-
-abbrev second : tie.After-version-test → tie.After-mark-test
-second c = c .before .before .before
-
--- the test of the mark is of the file's first three bytes
-marked : (c : tie.After-mark-test)
-    → (let b = first c .before .before .before .args .s .now in c .mark-test .result ≡ markTest 69 81 83 (getD b 0 0) (getD b 1 0) (getD b 2 0))
-marked c =
-    on3 (markTest 69 81 83) (c .mark-test .ensures) (c .before .before .before .byte-at .ensures .0) (c .before .before .byte-at2 .ensures .0)
-    (c .before .byte-at3 .ensures .0)
-
 byte-at-requires : tie.Need-byte-at-requires
 byte-at-requires c κs = omega (arith, there c)
 
@@ -50,8 +36,8 @@ mark-test-requires c κs = tt
 returns-2 : tie.Need-returns-2
 unfolding sheetHeaderRefusal
 returns-2 c =
-    let m = c .before in
-    skip _ (first m .before .short-test .ensures) (first m .if1 .left) (stop _ (marked m) (c .if2 .taken))
+    skip _ (c .before .before .before .before .before .before .short-test .ensures) (c .before .before .before .before .before .if1 .left)
+    (stop _ (on3 (markTest 69 81 83) (c .before .mark-test .ensures) (c .before .before .before .before .byte-at .ensures .0) (c .before .before .before .byte-at2 .ensures .0) (c .before .before .byte-at3 .ensures .0)) (c .if2 .taken))
 
 number-at-requires : tie.Need-number-at-requires
 number-at-requires c κs = omega (arith, there (c .before .before .before .before .before))
@@ -62,10 +48,9 @@ version-test-requires c κs = tt
 returns-3 : tie.Need-returns-3
 unfolding sheetHeaderRefusal
 returns-3 c =
-    let v = c .before in
-    let m = second v in
-    skip _ (first m .before .short-test .ensures) (first m .if1 .left)
-    (skip _ (marked m) (v .before .before .if2 .left) (stop _ (on versionTest (v .version-test .ensures) (v .before .number-at .ensures)) (c .if3 .taken)))
+    skip _ (c .before .before .before .before .before .before .before .before .before .short-test .ensures) (c .before .before .before .before .before .before .before .before .if1 .left)
+    (skip _ (on3 (markTest 69 81 83) (c .before .before .before .before .mark-test .ensures) (c .before .before .before .before .before .before .before .byte-at .ensures .0) (c .before .before .before .before .before .before .byte-at2 .ensures .0) (c .before .before .before .before .before .byte-at3 .ensures .0)) (c .before .before .before .if2 .left)
+    (stop _ (on versionTest (c .before .version-test .ensures) (c .before .before .number-at .ensures)) (c .if3 .taken)))
 
 byte-at-requires-4 : tie.Need-byte-at-requires-4
 byte-at-requires-4 c κs = omega (arith, there (c .before .before .before .before .before .before .before .before))
@@ -79,11 +64,9 @@ counts-test-requires c κs = tt
 returns-4 : tie.Need-returns-4
 unfolding sheetHeaderRefusal
 returns-4 c =
-    let v = c .before .before .before .before in
-    let m = second v in
-    skip _ (first m .before .short-test .ensures) (first m .if1 .left)
-    (skip _ (marked m) (v .before .before .if2 .left)
-    (skip _ (on versionTest (v .version-test .ensures) (v .before .number-at .ensures)) (c .before .before .before .if3 .left)
+    skip _ (c .before .before .before .before .before .before .before .before .before .before .before .before .short-test .ensures) (c .before .before .before .before .before .before .before .before .before .before .before .if1 .left)
+    (skip _ (on3 (markTest 69 81 83) (c .before .before .before .before .before .before .before .mark-test .ensures) (c .before .before .before .before .before .before .before .before .before .before .byte-at .ensures .0) (c .before .before .before .before .before .before .before .before .before .byte-at2 .ensures .0) (c .before .before .before .before .before .before .before .before .byte-at3 .ensures .0)) (c .before .before .before .before .before .before .if2 .left)
+    (skip _ (on versionTest (c .before .before .before .before .version-test .ensures) (c .before .before .before .before .before .number-at .ensures)) (c .before .before .before .if3 .left)
     (last (c .counts-test .ensures ∙ ap₂ (λ (n k : ℕ). countsTest n k 0) (c .before .before .byte-at4 .ensures .0) (c .before .byte-at5 .ensures .0)))))
 
 pub header-refusal-spec : {M : Type 1} → statement M
