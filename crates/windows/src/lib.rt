@@ -73,12 +73,10 @@ pub fn work_refusal(nodes: u64, links: u64, words: &[u64], minute: u64) -> u32
     requires { ⌜ (nodes ≤ 64) × (links ≤ 128) ⌝ }
     ensures { λ r. ⌜ r ≡ workRefusal nodes links (now (words .entry)) minute ⌝ }
 {
-    let count = words.len() / 5;
-    let tail = refusals::room_test(5 * count, words.len());
-    if tail != 0 {
-        return tail;
+    if words.len() % 5 != 0 {
+        return 12;
     }
-    let wrong = window_list_refusal(words, count, nodes, links);
+    let wrong = window_list_refusal(words, words.len() / 5, nodes, links);
     if wrong != 0 {
         return wrong;
     }
