@@ -1,7 +1,7 @@
 -- The listing: from what the run gave to the listing of the plan, and from the plan to that of the file.
 -- Assumes nothing.
 use mathlib.Core.Path.{_≡_, refl, sym, ap, ap₂, subst, _∙_}
-use mathlib.Core.List.{List, [], _∷_, _++_}
+use mathlib.Core.List.{List, [], _∷_, _++_, flatten}
 use Prim.Native.Nat.{ℕ, zero, suc, _+_, _-_, _<_, _≤_}
 use native.Mathlib.Omega.{arith}
 use borrow.Author.Tests.{lt-ltb, le-ltb}
@@ -19,7 +19,7 @@ use Rattle.layout.proofs.ListLaws.{length-links-of, length-events-of}
 use Rattle.files.proofs.ReaderLawsAnswer.{take-sets}
 use Rattle.network.specs.Outage.{intact}
 use Rattle.walk.specs.Walk.{count, complete, massExamined}
-use Rattle.pairs.specs.Pairs.{place}
+use Rattle.pairs.specs.Pairs.{row, rows, table, place}
 use Rattle.bounds.specs.Bounds.{lowerOf}
 use Rattle.pairs.specs.BoundsFit.{BoundsFit}
 use Rattle.bounds.specs.Calls.{totalsOf}
@@ -27,7 +27,7 @@ use Rattle.bounds.specs.Summed.{Summed}
 use Rattle.bounds.specs.declared.Totals.{Totals}
 use Rattle.bounds.proofs.Answers.{raised}
 use Rattle.input.specs.Loaded.{Loaded}
-use Rattle.text.specs.Listing.{line, rowText, rowsText, pairsText, pairLine, planText, refusedText, answerText, listing}
+use Rattle.text.specs.Listing.{line, pairsText, pairLine, planText, refusedText, answerText, listing}
 use Rattle.text.specs.Sums.{Listable, sumLine, headLine, sumsText}
 use Rattle.text.specs.Calls.{formattedAnswer}
 use Rattle.text.specs.declared.Formatted.the-variants as formatted
@@ -56,20 +56,20 @@ listable n mass sums g = record { few = g .few; sized = g .sized; fits = λ i. o
 -- ---- texts that are the same for each pair
 
 module _ (f g : ℕ → ℕ → List ℕ) (n : ℕ) (same : (v w : ℕ) → v < w → w < n → f v w ≡ g v w) where
-  row-same : (v w some : ℕ) → v < w → w + some ≤ n → rowText f v w some ≡ rowText g v w some
-  unfolding rowText
+  row-same : (v w some : ℕ) → v < w → w + some ≤ n → row f v w some ≡ row g v w some
+  unfolding row
   row-same v w zero h k = refl
-  row-same v w (suc some) h k = ap₂ (λ (a b : List ℕ). a ++ b) (same v w h (omega arith)) (row-same v (suc w) some (omega arith) (omega arith))
+  row-same v w (suc some) h k = ap₂ (λ (a : List ℕ) (b : List (List ℕ)). a ∷ b) (same v w h (omega arith)) (row-same v (suc w) some (omega arith) (omega arith))
 
-  rows-same : (v some : ℕ) → v + some ≡ n → rowsText f n v some ≡ rowsText g n v some
-  unfolding rowsText
+  rows-same : (v some : ℕ) → v + some ≡ n → rows f n v some ≡ rows g n v some
+  unfolding rows
   rows-same v zero e = refl
   rows-same v (suc some) e =
-      ap₂ (λ (a b : List ℕ). a ++ b) (row-same v (suc v) (n - suc v) (omega arith) (omega arith)) (rows-same (suc v) some (omega arith))
+      ap₂ (λ (a b : List (List ℕ)). a ++ b) (row-same v (suc v) (n - suc v) (omega arith) (omega arith)) (rows-same (suc v) some (omega arith))
 
   pub pairs-same : pairsText f n ≡ pairsText g n
-  unfolding pairsText
-  pairs-same = rows-same 0 n (omega arith)
+  unfolding table
+  pairs-same = ap flatten (rows-same 0 n (omega arith))
 
 -- ---- from the sums to the plan
 
