@@ -16,7 +16,7 @@ use Rattle.topology.specs.Paths.{via, disconnected}
 use Rattle.walk.specs.Ends.{ends}
 use Rattle.sums.specs.Exact.{exactSum, exactCut}
 use Rattle.pairs.specs.Pairs.{start}
-use Rattle.windows.specs.Windows.{windowsOf, windowListRefusal, workRefusal}
+use Rattle.windows.specs.Windows.{windowsOf, workRefusal}
 use Rattle.bounds.specs.Bounds.{cuts}
 use Rattle.bounds.specs.Calls.{boundsOf, runRefusal, runAtNumber}
 use Rattle.bounds.specs.declared.PairBounds.{PairBounds}
@@ -64,5 +64,5 @@ number limit lower windows minute =
 example-order : (number 100 (7 ∷ []) (0 ∷ 1 ∷ 0 ∷ 1 ∷ 0 ∷ []) 0 ≡ 0) × (number 0 [] (7 ∷ 7 ∷ 0 ∷ 0 ∷ 0 ∷ []) 10080 ≡ 6)
     × (number 100 [] (7 ∷ 7 ∷ 0 ∷ 0 ∷ 0 ∷ []) 10080 ≡ 12) × (number 100 (7 ∷ []) (7 ∷ 7 ∷ 0 ∷ 0 ∷ 0 ∷ []) 10080 ≡ 21)
     × (number 100 (7 ∷ []) [] 10080 ≡ 22)
-unfolding runAtNumber runRefusal listsRefusal linkListRefusal eventListRefusal linksOf eventsOf workRefusal windowListRefusal windowsOf first start
+unfolding runAtNumber runRefusal listsRefusal linkListRefusal eventListRefusal linksOf eventsOf workRefusal windowsOf first start
 example-order = (refl, refl, refl, refl, refl)

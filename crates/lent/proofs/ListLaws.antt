@@ -81,11 +81,11 @@ module _ (nodes : ℕ) (bytes : List ℕ) (at left : ℕ) (some : 0 < left) wher
   pub link-passes : endsTest nodes (getD bytes at 0) (getD bytes (at + 1) 0) ≡ 0
       → linkListRefusal nodes (linksOf (left - 1) (drop (at + 2) bytes)) ≡ linkListRefusal nodes (linksOf left (drop at bytes))
   unfolding linkListRefusal
-  link-passes e = rw (links-next bytes at left some) (sym (first-skip _ _ e ∙ first-last _))
+  link-passes e = rw (links-next bytes at left some) (sym (first-skip _ _ e))
 
 -- no link is left, and none is refused
 pub links-end : (nodes left : ℕ) (bytes : List ℕ) → left ≤ 0 → 0 ≡ linkListRefusal nodes (linksOf left bytes)
-unfolding linkListRefusal linksOf
+unfolding linkListRefusal linksOf first
 links-end nodes zero bytes h = refl
 links-end nodes (suc left) bytes h = absurd (omega arith)
 

@@ -2,7 +2,7 @@
 -- A test gives its number where it refuses; a call's order of tests is the first that is not 0.
 -- Assumes nothing.
 use mathlib.Core.Bool.{Bool, true, false}
-use mathlib.Core.List.{List, [], _∷_}
+use mathlib.Core.List.{List, [], _∷_, map}
 use Prim.Native.Nat.{ℕ, zero, suc}
 
 -- a test that holds refuses with its number
@@ -15,3 +15,7 @@ unfoldable pub first : List ℕ → ℕ
 first [] = 0
 first (zero ∷ later) = first later
 first (suc number ∷ later) = suc number
+
+-- the first number that a test gives, of the elements of a list in their order
+abbrev pub each : {A : Type 0} → (A → ℕ) → List A → ℕ
+each test list = first (map test list)

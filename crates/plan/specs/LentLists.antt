@@ -3,7 +3,7 @@
 use mathlib.Core.List.{List, [], _∷_}
 use Prim.Native.Nat.{ℕ, _*_, _/_}
 use lib.ListN.{length}
-use Rattle.mass.specs.Refusal.{first}
+use Rattle.mass.specs.Refusal.{first, each}
 use Rattle.mass.specs.Split.{certain, probabilityTest}
 use Rattle.plan.specs.Plan.{Plan, Link, Event}
 use Rattle.plan.specs.Lists.{linksOf, eventsOf}
@@ -12,8 +12,7 @@ use Rattle.plan.specs.declared.Header.{Header}
 
 -- "each link, 7"
 unfoldable pub linkListRefusal : ℕ → List Link → ℕ
-linkListRefusal nodes [] = 0
-linkListRefusal nodes (l ∷ ls) = first (endsTest nodes (l .low) (l .high) ∷ linkListRefusal nodes ls ∷ [])
+linkListRefusal nodes list = each (λ l. endsTest nodes (l .low) (l .high)) list
 
 -- "each event, 8, 9, 10"; `before` is the probability of the event before, or 10^9
 unfoldable pub eventListRefusal : ℕ → ℕ → ℕ → List Event → ℕ

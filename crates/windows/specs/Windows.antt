@@ -5,7 +5,7 @@ use mathlib.Core.List.{List, [], _∷_}
 use Prim.Native.Nat.{ℕ, zero, suc, _+_, _/_, _%_, _^_}
 use lib.Dec.{leb, ltb, eqb}
 use lib.ListN.{length, getD, drop}
-use Rattle.mass.specs.Refusal.{refuse, first}
+use Rattle.mass.specs.Refusal.{refuse, first, each}
 use Rattle.sets.specs.Sets.{joined}
 use Rattle.network.specs.Outage.{Outage, intact, beside}
 
@@ -59,16 +59,12 @@ windowTest nodes links w =
 abbrev pub minuteTest : ℕ → ℕ
 minuteTest minute = refuse (ltb 10079 minute) 22
 
--- each window, 21, "tested in list order"
-unfoldable pub windowListRefusal : ℕ → ℕ → List Window → ℕ
-windowListRefusal nodes links [] = 0
-windowListRefusal nodes links (w ∷ later) = first (windowTest nodes links w ∷ windowListRefusal nodes links later ∷ [])
-
--- 12 for words that make no whole window, so that the list is too short for the last one; then each window, 21; then 22
+-- 12 for words that make no whole window, so that the list is too short for the last one; then each window, 21, "tested in list order";
+-- then 22
 unfoldable pub workRefusal : ℕ → ℕ → List ℕ → ℕ → ℕ
 workRefusal nodes links words minute =
     first
     (refuse (not (eqb (length words % 5) 0)) 12
-    ∷ windowListRefusal nodes links (windowsIn words)
+    ∷ each (windowTest nodes links) (windowsIn words)
     ∷ minuteTest minute
     ∷ [])

@@ -7,9 +7,10 @@ ghost use mathlib.Core.Bool.{_&&_};
 ghost use Prim.Native.Nat.{_+_, _*_, _≤_};
 ghost use lib.Dec.{leb, ltb};
 ghost use lib.ListN.{length};
+ghost use Rattle.mass.specs.Refusal.{each};
 ghost use Rattle.network.specs.Code.{outage};
 ghost use Rattle.windows.specs.Windows.{windowOf, windowAt, windowsOf, withWindow, takenOut};
-ghost use Rattle.windows.specs.Windows.{windowTest, minuteTest, windowListRefusal, workRefusal};
+ghost use Rattle.windows.specs.Windows.{windowTest, minuteTest, workRefusal};
 
 // 21: the window breaks its range, or names a node or link that is not there.
 fn window_test(nodes: u64, links: u64, start: u64, end: u64, set: u64, low: u64, high: u64) -> u32
@@ -44,7 +45,7 @@ fn minute_test(minute: u64) -> u32
 // Each window, 21.
 fn window_list_refusal(words: &[u64], count: usize, nodes: u64, links: u64) -> u32
     requires { ⌜ (5 * count ≤ length (now words)) × ((nodes ≤ 64) × (links ≤ 128)) ⌝ }
-    ensures { λ r. ⌜ r ≡ windowListRefusal nodes links (windowsOf count (now (words .entry))) ⌝ }
+    ensures { λ r. ⌜ r ≡ each (windowTest nodes links) (windowsOf count (now (words .entry))) ⌝ }
 {
     let mut at = 0;
     let mut left = count;

@@ -3,7 +3,8 @@ use mathlib.Core.Path.{_≡_, refl, _∙_}
 use Prim.Native.Nat.{_+_, _*_}
 use native.Mathlib.Omega.{arith}
 use lib.ListN.{drop}
-use Rattle.windows.specs.Windows.{windowsOf, windowListRefusal}
+use Rattle.mass.specs.Refusal.{each}
+use Rattle.windows.specs.Windows.{windowsOf, windowTest}
 use Rattle.windows.proofs.WindowLaws.{window-decides, window-passes, windows-end}
 use Rattle.windows.proofs.window_list_refusal.Statement.{statement}
 use Rattle.windows.proofs.window_list_refusal.Tie as tie
@@ -11,7 +12,7 @@ use Rattle.windows.proofs.window_list_refusal.Tie as tie
 abbrev Inv-loop : tie.InvT-loop
 Inv-loop words count nodes links at₀ left₀ at left =
     (at + 5 * left ≡ 5 * count)
-    × (windowListRefusal nodes links (windowsOf left (drop at words)) ≡ windowListRefusal nodes links (windowsOf count words))
+    × (each (windowTest nodes links) (windowsOf left (drop at words)) ≡ each (windowTest nodes links) (windowsOf count words))
 
 abbrev μ-loop : tie.MeasureT-loop
 μ-loop words count nodes links at₀ left₀ at left = left
