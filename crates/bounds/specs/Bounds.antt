@@ -1,5 +1,4 @@
--- The bounds of a pair: document 01, section "Bounds of a pair", over a network of which some nodes and links may be out before the first
--- event (document 02, request U7). What is out stands beside the plan; where nothing is, it is `intact`.
+-- The bounds of a pair: document 01, section "Bounds of a pair", over a network of which some nodes and links may be out.
 -- Assumes nothing.
 use mathlib.Core.Bool.{Bool}
 use mathlib.Core.List.{List}

@@ -1,5 +1,4 @@
 -- The loop of the run over the relevant scenarios of the walk: what it asks and promises, from any state.
--- `out` is what is out before the first event (document 02, request U7).
 -- Assumes nothing.
 use mathlib.Core.Path.{_≡_}
 use mathlib.Core.List.{List}

@@ -1,5 +1,4 @@
 -- Service credits: document 02, request U6. Fee, rate and credits are in cents, the limit in seconds of a year of 365 days.
--- `out` is what is out before the first event (document 02, request U7).
 -- Assumes nothing.
 use mathlib.Core.Bool.{_||_}
 use mathlib.Core.List.{List, [], _∷_}

@@ -1,5 +1,4 @@
 -- Downtime: document 01, section "Further readings of a plan", with the rounding of document 02, request U1.
--- `out` is what is out before the first event (document 02, request U7).
 -- Assumes nothing.
 use mathlib.Core.Path.{_≡_, refl}
 use mathlib.Core.List.{[], _∷_}

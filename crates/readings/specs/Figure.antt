@@ -1,7 +1,6 @@
 -- Conditional figure: document 01, section "Further readings of a plan" (document 001, equation 6). It is no bound: the scenarios that
 -- were not examined are left out of it. Floats are those of the logic's account of IEEE 754: a value of binary64 is one bit pattern, but
 -- for NaN.
--- `out` is what is out before the first event (document 02, request U7).
 -- Assumes nothing.
 use mathlib.Core.Bool.{not}
 use mathlib.Core.List.{List, [], _∷_}

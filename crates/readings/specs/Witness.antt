@@ -1,5 +1,4 @@
 -- Witness: document 01, section "Further readings of a plan", as document 02, request U5, has it: the first one.
--- `out` is what is out before the first event (document 02, request U7).
 -- Assumes nothing.
 use mathlib.Core.Bool.{Bool, true, false, not, _||_}
 use mathlib.Core.List.{List, [], _∷_}

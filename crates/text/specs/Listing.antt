@@ -1,5 +1,4 @@
 -- The listing of a plan file: document 01, section "Listing", to the byte. 32 is a space, 10 a line feed.
--- `out` is what is out before the first event (document 02, request U7).
 -- Assumes nothing.
 use mathlib.Core.List.{List, [], _∷_, _++_, flatten}
 use Prim.Native.Nat.{ℕ, zero, suc}

@@ -1,6 +1,5 @@
 -- What the call `topologies` answers, and what it leaves in the lent list, for every input. For each case of the answer, `listedAnswer`
 -- says which number and value it stands for.
--- `out` is what is out before the first event (document 02, request U7).
 -- Assumes nothing.
 use mathlib.Core.List.{List, [], _∷_}
 use Prim.Native.Nat.{ℕ, zero, suc, _/_}
