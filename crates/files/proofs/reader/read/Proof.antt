@@ -15,12 +15,6 @@ use Rattle.files.proofs.ReaderLawsAnswer.{header-bounds, read-links, re
 use Rattle.files.proofs.reader.read.Statement.{statement}
 use Rattle.files.proofs.reader.read.Tie as tie
 
-read-core-requires : tie.Need-read-core-requires
-read-core-requires c κs = tt
-
-header-in-requires : tie.Need-header-in-requires
-header-in-requires c κs = tt
-
 -- the arrays keep their lengths, and the header is that of the answer
 bytes-long : (c : tie.After-read-core) → 256 ≡ length (c .read-core .last .1 .1 .1 .0)
 bytes-long c =
@@ -96,8 +90,8 @@ pub read-spec : {M : Type 1} → statement M
 read-spec =
     tie.close
     (tie.spec
-    read-core-requires
-    header-in-requires
+    (λ c κs. tt)  -- read-core-requires
+    (λ c κs. tt)  -- header-in-requires
     slice-aggregate-copy-bytes
     mul-copy-bytes
     copy-bytes-requires

@@ -11,12 +11,6 @@ use Rattle.files.proofs.ReaderLawsAnswer.{from-smaller}
 use Rattle.files.proofs.reader.read_at.Statement.{statement}
 use Rattle.files.proofs.reader.read_at.Tie as tie
 
-smaller-requires : tie.Need-smaller-requires
-smaller-requires c κs = tt
-
-read-core-requires : tie.Need-read-core-requires
-read-core-requires c κs = tt
-
 returns : tie.Need-returns
 returns c =
     let r = c .before .before .before .before in
@@ -34,9 +28,9 @@ pub read-at-spec : {M : Type 1} → statement M
 read-at-spec =
     tie.close
     (tie.spec
-    smaller-requires
+    (λ c κs. tt)  -- smaller-requires
     (λ c. search needs)  -- sub-read-core
     (λ c. search needs)  -- part-read-core-start
     (λ c. search needs)  -- part-read-core-end
-    read-core-requires
+    (λ c κs. tt)  -- read-core-requires
     returns)

@@ -14,9 +14,6 @@ use Rattle.files.proofs.ReaderLawsAnswer.{read-accepted, reading-stop, 
 use Rattle.files.proofs.reader.read_core.Statement.{statement}
 use Rattle.files.proofs.reader.read_core.Tie as tie
 
-read-test-requires : tie.Need-read-test-requires
-read-test-requires c κs = tt
-
 -- the number is 0, so the plan is accepted
 none : (c : tie.Else1) → readRefusal (c .before .before .before .args .link-room) (c .before .before .before .args .event-room) (c .before .before .before .args .s .now) ≡ 0
 none c = sym (c .before .read-test .ensures) ∙ c .if1 .left
@@ -77,7 +74,7 @@ pub read-core-spec : {M : Type 1} → statement M
 read-core-spec =
     tie.close
     (tie.spec
-    read-test-requires
+    (λ c κs. tt)  -- read-test-requires
     returns
     header-of-requires
     fill-links-requires

@@ -11,9 +11,6 @@ use Rattle.plan.proofs.FileLawsAccepted.{plan-fits}
 use Rattle.files.proofs.reader.read_test.Statement.{statement}
 use Rattle.files.proofs.reader.read_test.Tie as tie
 
-check-requires : tie.Need-check-requires
-check-requires c κs = tt
-
 -- the header's bytes are there
 there : (c : tie.Else1) → 20 ≤ length (c .before .before .before .args .s .now)
 there c = plan-fits _ (sym (c .before .check .ensures) ∙ c .if1 .left)
@@ -25,9 +22,6 @@ returns c = stop _ (c .before .check .ensures) (c .if1 .taken)
 byte-at-requires : tie.Need-byte-at-requires
 byte-at-requires c κs = omega (arith, there c)
 
-room-test-requires : tie.Need-room-test-requires
-room-test-requires c κs = tt
-
 returns-2 : tie.Need-returns-2
 unfolding readRefusal
 returns-2 c =
@@ -38,9 +32,6 @@ returns-2 c =
 
 byte-at-requires-2 : tie.Need-byte-at-requires-2
 byte-at-requires-2 c κs = omega (arith, there (c .before .before .before))
-
-room-test-requires-2 : tie.Need-room-test-requires-2
-room-test-requires-2 c κs = tt
 
 returns-3 : tie.Need-returns-3
 unfolding readRefusal
@@ -56,12 +47,12 @@ pub read-test-spec : {M : Type 1} → statement M
 read-test-spec =
     tie.close
     (tie.spec
-    check-requires
+    (λ c κs. tt)  -- check-requires
     returns
     byte-at-requires
     (λ c. search needs)  -- mul-room-test
-    room-test-requires
+    (λ c κs. tt)  -- room-test-requires
     returns-2
     byte-at-requires-2
-    room-test-requires-2
+    (λ c κs. tt)  -- room-test-requires-2
     returns-3)

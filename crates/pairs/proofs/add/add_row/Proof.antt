@@ -22,9 +22,6 @@ abbrev μ-loop : tie.MeasureT-loop
 loop-holds : tie.Need-loop-holds Inv-loop μ-loop
 loop-holds c = record { asked = c .before .pre; sized = refl; sub = λ w e. e; each = λ i. refl }
 
-lowest-requires : tie.Need-lowest-requires Inv-loop μ-loop
-lowest-requires c κs = omega arith
-
 add-i : tie.Need-add-i Inv-loop μ-loop
 add-i c = omega (arith, c .before .before .loop .inv .asked .low, c .lowest .ensures .1 .0)
 
@@ -73,7 +70,7 @@ add-row-spec =
     Inv-loop
     μ-loop
     loop-holds
-    lowest-requires
+    (λ c κs. omega arith)  -- lowest-requires
     add-i
     sub-i
     mul-lower

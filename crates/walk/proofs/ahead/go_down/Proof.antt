@@ -35,9 +35,6 @@ returns-2 c =
 split-at-requires : tie.Need-split-at-requires Inv-loop μ-loop
 split-at-requires c κs = (omega arith, c .before .before .loop .inv .hand .light, probable _ _ (c .before .before .before .pre .0 .1) _ (c .if2 .left))
 
-add-straight : tie.Need-add-straight Inv-loop μ-loop
-add-straight c = omega arith
-
 straight-requires : tie.Need-straight-requires Inv-loop μ-loop
 straight-requires c κs =
     let two = c .before .before in
@@ -71,12 +68,6 @@ push-requires c κs =
     let g = two .before .before .loop .inv in
     (omega arith, g .hand .word, g .hand .decided, room-next _ _ _ _ _ _ _ _ _ _ _ g (s .pre .0 .0) (s .pre .0 .1) (two .before .if1 .left) (two .if2 .left))
 
-add-d : tie.Need-add-d Inv-loop μ-loop
-add-d c = omega arith
-
-loop-less : tie.Need-loop-less Inv-loop μ-loop
-loop-less c = omega arith
-
 loop-again : tie.Need-loop-again Inv-loop μ-loop
 loop-again c =
     let parts = c .before .before .before in
@@ -97,13 +88,13 @@ go-down-spec =
     (λ c κs. search needs)  -- come-to-requires-2
     returns-2
     split-at-requires
-    add-straight
+    (λ c. omega arith)  -- add-straight
     straight-requires
     sub-come-to
     (λ c κs. search needs)  -- come-to-requires-3
     returns-3
     sub-top
     push-requires
-    add-d
-    loop-less
+    (λ c. omega arith)  -- add-d
+    (λ c. omega arith)  -- loop-less
     loop-again)
