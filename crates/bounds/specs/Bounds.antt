@@ -9,7 +9,6 @@ use Rattle.network.specs.Outage.{Outage, outageOf}
 use Rattle.network.specs.Topology.{Network, networkOf}
 use Rattle.topology.specs.Paths.{disconnected}
 use Rattle.walk.specs.Scenario.{Scenario, number}
-use Rattle.walk.specs.Walk.{count}
 use Rattle.sums.specs.Exact.{exactCut, exactMissed}
 use Rattle.sums.specs.Bounds.{lower, upper, Demand3}
 use Rattle.pairs.specs.Pairs.{table, place}

@@ -5,7 +5,6 @@ use Prim.Native.Nat.{ℕ, _*_, _≤_}
 use native.Mathlib.Nat.{mul-le-mul-right}
 use native.Mathlib.Omega.{arith}
 use borrow.Author.Tests.{le-ltb}
-use lib.Dec.{ltb}
 use Rattle.mass.specs.Refusal.{refuse, first}
 use Rattle.mass.specs.Split.{whole, massTest}
 use Rattle.mass.proofs.RefusalLaws.{first-skip}

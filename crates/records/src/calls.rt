@@ -5,7 +5,6 @@ use crate::lists::used_words;
 use plan::Header;
 use plan::Writing;
 ghost use mathlib.Core.Path.{_≡_};
-ghost use Prim.Native.Nat.{_*_};
 ghost use lib.ListN.{length};
 ghost use Rattle.plan.specs.Layout.{layout};
 ghost use Rattle.plan.specs.LentLists.{planOfLists};

@@ -1,7 +1,7 @@
 -- `entries::place` meets its contract, each of the three ways. Assumes nothing.
 use native.Mathlib.Omega.{arith}
 use borrow.Author.Needs.{needs}
-use Rattle.entries.proofs.PlaceLaws.{mass-fits, placed-known, placed-full, has-space, placed-new}
+use Rattle.entries.proofs.PlaceLaws.{mass-fits, placed-known, placed-full, placed-new}
 use Rattle.entries.proofs.place.Statement.{statement}
 use Rattle.entries.proofs.place.Tie as tie
 

@@ -1,6 +1,6 @@
 -- `files::reader::read_at` meets its contract: from the position on, or from the end where the position is past it, the bytes are the same.
 -- Assumes nothing.
-use mathlib.Core.Path.{_≡_, _∙_, ap}
+use mathlib.Core.Path.{_∙_, ap}
 use mathlib.Core.List.{List}
 use Prim.Native.Nat.{ℕ}
 use borrow.Author.Needs.{needs}
