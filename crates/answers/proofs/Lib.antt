@@ -1,3 +1,2 @@
 -- Laws that the proofs of the crate `answers` share.
 pub mod LaidLaws
-pub mod NumberLaws

@@ -6,14 +6,11 @@ use Prim.Native.Nat.{ℕ}
 use Rattle.plan.specs.Calls.{headerIn}
 use Rattle.plan.specs.declared.Header.{Header}
 use Rattle.plan.specs.declared.Reading.{Reading}
-use Rattle.plan.specs.declared.Reading.the-variants as reading
 use Rattle.plan.specs.declared.Writing.{Writing}
 use Rattle.plan.specs.declared.Writing.the-variants as writing
 use Rattle.bounds.specs.Calls.{totalsIn, boundsIn}
 use Rattle.bounds.specs.declared.Ran.{Ran}
-use Rattle.bounds.specs.declared.Ran.the-variants as ran
 use Rattle.bounds.specs.declared.Paired.{Paired}
-use Rattle.bounds.specs.declared.Paired.the-variants as paired
 
 -- the header of five numbers
 abbrev pub headerWith : ℕ → ℕ → ℕ → ℕ → ℕ → Header
@@ -22,19 +19,11 @@ headerWith nodes links events threshold limit =
 
 -- ---- a plan that is read: its five numbers
 
-abbrev pub readingNumber : Reading → ℕ
-readingNumber (reading.Refused number) = number
-readingNumber (reading.Accepted header) = 0
-
 abbrev pub headerValues : Reading → List ℕ
 headerValues answer =
     headerIn answer .nodes ∷ headerIn answer .links ∷ headerIn answer .events ∷ headerIn answer .threshold ∷ headerIn answer .limit ∷ []
 
 -- ---- a plan that is written: the size of the file
-
-abbrev pub writtenNumber : Writing → ℕ
-writtenNumber (writing.Refused number) = number
-writtenNumber (writing.Written count) = 0
 
 abbrev pub sizeValues : Writing → List ℕ
 sizeValues (writing.Refused number) = 0 ∷ []
@@ -42,18 +31,10 @@ sizeValues (writing.Written count) = count ∷ []
 
 -- ---- a run: the examined count, complete and E
 
-abbrev pub ranNumber : Ran → ℕ
-ranNumber (ran.Refused number) = number
-ranNumber (ran.Done totals) = 0
-
 abbrev pub totalsValues : Ran → List ℕ
 totalsValues answer = totalsIn answer .count ∷ totalsIn answer .complete ∷ totalsIn answer .mass ∷ []
 
 -- ---- a pair: its lower and its upper bound
-
-abbrev pub pairedNumber : Paired → ℕ
-pairedNumber (paired.Refused number) = number
-pairedNumber (paired.Done bounds) = 0
 
 abbrev pub boundsValues : Paired → List ℕ
 boundsValues answer = boundsIn answer .lower ∷ boundsIn answer .upper ∷ []

@@ -8,8 +8,9 @@ use plan::Reading;
 use plan::Writing;
 ghost use mathlib.Core.Path.{_≡_};
 ghost use Rattle.answers.specs.Laid.{laid};
-ghost use Rattle.answers.specs.Answers.{readingNumber, headerValues, writtenNumber, sizeValues, ranNumber, totalsValues};
-ghost use Rattle.answers.specs.Answers.{pairedNumber, boundsValues};
+ghost use Rattle.plan.specs.Calls.{readingNumber, writtenNumber};
+ghost use Rattle.bounds.specs.Calls.{ranNumber, pairedNumber};
+ghost use Rattle.answers.specs.Answers.{headerValues, sizeValues, totalsValues, boundsValues};
 
 // The five numbers of the plan that was read.
 pub fn give_header(answer: Reading, numbers: &mut [u64]) -> u32

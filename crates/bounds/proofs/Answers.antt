@@ -8,11 +8,10 @@ use borrow.Author.Tests.{leb-false}
 use lib.Dec.{leb}
 use lib.ListN.{length, getD, take, List·getD-append}
 use lib.Seq.{sets, sets-eq}
-use Rattle.mass.proofs.RefusalLaws.{refuse-none, first-none}
+use Rattle.mass.proofs.RefusalLaws.{refuse-none, first-none, answered-number}
 use Rattle.mass.specs.Split.{whole}
 use Rattle.plan.specs.Plan.{Plan}
-use Rattle.plan.specs.LentLists.{planRefusal, listsRefusal}
-use Rattle.plan.specs.declared.Header.{Header}
+use Rattle.plan.specs.LentLists.{Lent, planRefusal, listsNumber}
 use Rattle.refusals.proofs.TestLaws.{or-none}
 use Rattle.network.specs.Outage.{Outage}
 use Rattle.walk.specs.Walk.{massExamined, count}
@@ -24,29 +23,21 @@ use Rattle.pairs.specs.BoundsFit.{BoundsFit}
 use Rattle.pairs.specs.Pairs.{table, place, pairCount, pairTest}
 use Rattle.pairs.proofs.PairLaws.{table-is, table-at, table-long, map-table, table-same, place-lt, pairs-most}
 use Rattle.bounds.specs.Bounds.{cuts, lowerOf, upperOf, lowerList, upperList, Encloses, EnclosesAll}
-use Rattle.bounds.specs.Calls.{ranAnswer, pairRefusal, pairAnswer, boundsOf}
+use Rattle.bounds.specs.Calls.{ranAnswer, ranNumber, pairNumber, pairAnswer, pairedNumber, boundsOf}
 use Rattle.bounds.specs.Summed.{Summed}
 use Rattle.bounds.specs.declared.Totals.{Totals}
 use Rattle.bounds.specs.declared.Ran.the-variants as ran
 use Rattle.bounds.specs.declared.PairBounds.{PairBounds}
 use Rattle.bounds.specs.declared.Paired.the-variants as paired
 
-pub ran-refused : (number : ℕ) (totals : Totals) → (number ≡ 0 → ⊥) → ran.Refused number ≡ ranAnswer number totals
-ran-refused zero totals n = absurd (n refl)
-ran-refused (suc number) totals n = refl
+-- ---- what an answer says of its number
 
-pub pair-refused : (number : ℕ) (bounds : PairBounds) → (number ≡ 0 → ⊥) → paired.Refused number ≡ pairAnswer number bounds
-pair-refused zero bounds n = absurd (n refl)
-pair-refused (suc number) bounds n = refl
+pub ran-number : (number : ℕ) (totals : Totals) → ranNumber (ranAnswer number totals) ≡ number
+ran-number number totals = answered-number ran.Refused (ran.Done totals) ranNumber refl (λ n. refl) number
 
--- what a test's number says of the answer
-pub ran-refuses : (number refusal : ℕ) (totals : Totals) → number ≡ refusal → (number ≡ 0 → ⊥) → ran.Refused number ≡ ranAnswer refusal totals
-ran-refuses number refusal totals e n = ran-refused number totals n ∙ ap (λ (x : ℕ). ranAnswer x totals) e
+pub paired-number : (number : ℕ) (bounds : PairBounds) → pairedNumber (pairAnswer number bounds) ≡ number
+paired-number number bounds = answered-number paired.Refused (paired.Done bounds) pairedNumber refl (λ n. refl) number
 
-pub pair-refuses : (number refusal : ℕ) (bounds : PairBounds) → number ≡ refusal → (number ≡ 0 → ⊥) → paired.Refused number ≡ pairAnswer refusal bounds
-pair-refuses number refusal bounds e n = pair-refused number bounds n ∙ ap (λ (x : ℕ). pairAnswer x bounds) e
-
--- and what the answer says of its number
 pub pair-refused-is : (number n : ℕ) (b : PairBounds) → paired.Refused n ≡ pairAnswer number b → (n ≡ number) × (number ≡ 0 → ⊥)
 pair-refused-is zero n b e = absurd (let never : _≡_ {A = ℕ} 0 1 = cc in omega arith)
 pair-refused-is (suc number) n b e = let is : n ≡ suc number = cc in (is, λ z. omega arith)
@@ -55,10 +46,9 @@ pub pair-done-is : (number : ℕ) (x b : PairBounds) → paired.Done x ≡ pairA
 pair-done-is zero x b e = (refl, cc)
 pair-done-is (suc number) x b e = absurd (let never : _≡_ {A = ℕ} 0 1 = cc in omega arith)
 
-pub pair-none : (h : Header) (linkRoom eventRoom : ℕ) (links words : List ℕ) (v w : ℕ)
-    → pairRefusal h linkRoom eventRoom links words v w ≡ 0 → listsRefusal h linkRoom eventRoom links words ≡ 0
-unfolding pairRefusal
-pair-none h linkRoom eventRoom links words v w e = first-none _ _ e .0
+pub pair-none : (l : Lent) (v w : ℕ) → pairNumber l v w ≡ 0 → listsNumber l ≡ 0
+unfolding pairNumber
+pair-none l v w e = first-none _ _ e .0
 
 pub pair-inside : (nodes v w : ℕ) → pairTest nodes v w ≡ 0 → (v < w) × (w < nodes)
 pair-inside nodes v w e =

@@ -30,7 +30,7 @@ use Rattle.network.specs.declared.Failed.{Failed}
 use Rattle.topology.proofs.RowLinks.{nodes-shown, joining, step-link, link-step}
 use Rattle.walk.specs.Scenario.{scenarioOf}
 use Rattle.walk.proofs.ScenarioLaws.{number-scenario}
-use Rattle.walk.specs.declared.Step.{Step}
+use Rattle.walk.specs.declared.Failing.{Failing}
 use Rattle.pairs.specs.Pairs.{place, pairCount}
 use Rattle.pairs.proofs.PairLaws.{unplace, place-lt, pairs-most}
 use Rattle.bounds.specs.Bounds.{cuts}
@@ -39,6 +39,10 @@ use Rattle.bounds.specs.Blocks.{BlocksFit, BlocksAdded}
 use Rattle.bounds.specs.Tallied.{Room, MassAdded}
 use Rattle.plan.specs.Held.{Held}
 use Rattle.pairs.proofs.Row.{at-most}
+
+-- whether a pair is cut where the events of a set fail, with what is out before the first event
+abbrev pub cutBy : Outage → Header → List ℕ → List ℕ → Failing → ℕ → ℕ → Bool
+cutBy out h links words f v w = cuts out (planOfLists h links words) v w (scenarioOf (h .events) (joined (f .low) (f .high)))
 
 module _ (base : ℕ) (h : Header) (links words lower : List ℕ) (failed : Failed) (nodes : ℕ) (rows : List ℕ)
     (up : (v : ℕ) → bit nodes v ≡ (ltb v (h .nodes) && not (bit (failed .nodes) v)))
@@ -79,19 +83,19 @@ module _ (base : ℕ) (h : Header) (links words lower : List ℕ) (failed : Fail
         let c = connected-is net v w .0 e in
         omega (arith, added .joined v w l k (works v ∙ c .0, chain-map (link-step net nodes rows works row) (c .2)), ap (λ (b : Bool). mass * digit b) e)
 
-    module _ (out : Outage) (low high : ℕ) (decided : joined low high < 2 ^ h .events)
-        (gathered : outage failed ≡ outageOf out (eventsOf (h .events) words) (joined low high)) where
-      is-cut : (v w : ℕ) → disconnected net v w ≡ cuts out (planOfLists h links words) v w (scenarioOf (h .events) (joined low high))
+    module _ (out : Outage) (f : Failing) (decided : joined (f .low) (f .high) < 2 ^ h .events)
+        (gathered : outage failed ≡ outageOf out (eventsOf (h .events) words) (joined (f .low) (f .high))) where
+      is-cut : (v w : ℕ) → disconnected net v w ≡ cutBy out h links words f v w
       unfolding planOfLists
       is-cut v w =
           ap (λ (o : Outage). disconnected (networkOf (h .nodes) (linksOf (h .links) links) o) v w)
-          (gathered ∙ ap (outageOf out (eventsOf (h .events) words)) (sym (number-scenario (h .events) (joined low high) decided)))
+          (gathered ∙ ap (outageOf out (eventsOf (h .events) words)) (sym (number-scenario (h .events) (joined (f .low) (f .high)) decided)))
 
       -- so it gains the mass where the scenario cuts it
       pub gained : (v w : ℕ) → v < w → w < h .nodes
           → getD lower′ (place (h .nodes) v w + base) 0
           ≡ getD lower (place (h .nodes) v w + base) 0
-          + mass * digit (cuts out (planOfLists h links words) v w (scenarioOf (h .events) (joined low high)))
+          + mass * digit (cutBy out h links words f v w)
       gained v w l k =
           gains v w l k (which (disconnected net v w))
           ∙ ap (λ (b : Bool). getD lower (place (h .nodes) v w + base) 0 + mass * digit b) (is-cut v w)
@@ -103,55 +107,53 @@ pub low-base : (n b : ℕ) → n ≤ 64 → b < 16 → pairCount n * b ≤ 30240
 low-base n b few l = omega (arith, mul-le-mul (pairs-most n few) (let last : b ≤ 15 = omega arith in last))
 
 -- working nodes and neighbours that show the topology of a scenario, with what is out before the first event
-pub record Shown (out : Outage) (h : Header) (links words : List ℕ) (low high nodes : ℕ) (rows : List ℕ) : Type 0 where
+pub record Shown (out : Outage) (h : Header) (links words : List ℕ) (f : Failing) (nodes : ℕ) (rows : List ℕ) : Type 0 where
+  pub decided : joined (f .low) (f .high) < 2 ^ h .events
   pub failed : Failed
-  pub gathered : outage failed ≡ outageOf out (eventsOf (h .events) words) (joined low high)
+  pub gathered : outage failed ≡ outageOf out (eventsOf (h .events) words) (joined (f .low) (f .high))
   pub up : (v : ℕ) → bit nodes v ≡ (ltb v (h .nodes) && not (bit (failed .nodes) v))
   pub row : (v w : ℕ) → bit (getD rows v 0) w ≡ adjacent (networkIn (h .nodes) failed links (h .links)) v w
 
-pub shown-by : (out : Outage) (h : Header) (links words : List ℕ) (low high nodes : ℕ) (rows : List ℕ) (failed : Failed)
-    → outage failed ≡ outageOf out (eventsOf (h .events) words) (joined low high)
+pub shown-by : (out : Outage) (h : Header) (links words : List ℕ) (f : Failing) (nodes : ℕ) (rows : List ℕ) (failed : Failed)
+    → joined (f .low) (f .high) < 2 ^ h .events → outage failed ≡ outageOf out (eventsOf (h .events) words) (joined (f .low) (f .high))
     → ((v : ℕ) → bit nodes v ≡ (ltb v (h .nodes) && not (bit (failed .nodes) v)))
     → ((v w : ℕ) → bit (getD rows v 0) w ≡ adjacent (networkIn (h .nodes) failed links (h .links)) v w)
-    → Shown out h links words low high nodes rows
-shown-by out h links words low high nodes rows failed gathered up row = record { failed = failed; gathered = gathered; up = up; row = row }
+    → Shown out h links words f nodes rows
+shown-by out h links words f nodes rows failed decided gathered up row = record { decided = decided; failed = failed; gathered = gathered; up = up; row = row }
 
 -- in the loop: what is left to add gives what the whole was to give
-pub record BlocksTurn (out : Outage) (h : Header) (links words : List ℕ) (blocks low high mass : ℕ) (lower₀ lower : List ℕ) (left : ℕ) : Type 0 where
+pub record BlocksTurn (n : ℕ) (cut : ℕ → ℕ → Bool) (blocks mass : ℕ) (lower₀ lower : List ℕ) (left : ℕ) : Type 0 where
   pub sized : length lower ≡ length lower₀
   pub sub : (b : ℕ) → bit left b ≡ true → bit blocks b ≡ true
-  pub each : (b v w : ℕ) → v < w → w < h .nodes
-      → getD lower (place (h .nodes) v w + pairCount (h .nodes) * b) 0
-      + mass * digit (bit left b) * digit (cuts out (planOfLists h links words) v w (scenarioOf (h .events) (joined low high)))
-      ≡ getD lower₀ (place (h .nodes) v w + pairCount (h .nodes) * b) 0
-      + mass * digit (bit blocks b) * digit (cuts out (planOfLists h links words) v w (scenarioOf (h .events) (joined low high)))
-  pub past : (k : ℕ) → ((b : ℕ) → bit blocks b ≡ true → b < k) → (j : ℕ) → pairCount (h .nodes) * k ≤ j → getD lower j 0 ≡ getD lower₀ j 0
+  pub each : (b v w : ℕ) → v < w → w < n
+      → getD lower (place n v w + pairCount n * b) 0 + mass * digit (bit left b) * digit (cut v w)
+      ≡ getD lower₀ (place n v w + pairCount n * b) 0 + mass * digit (bit blocks b) * digit (cut v w)
+  pub past : (k : ℕ) → ((b : ℕ) → bit blocks b ≡ true → b < k) → (j : ℕ) → pairCount n * k ≤ j → getD lower j 0 ≡ getD lower₀ j 0
 
-pub blocks-begin : (out : Outage) (h : Header) (links words : List ℕ) (blocks low high mass : ℕ) (lower : List ℕ)
-    → BlocksTurn out h links words blocks low high mass lower lower blocks
-blocks-begin out h links words blocks low high mass lower =
-    record { sized = refl; sub = λ b e. e; each = λ b v w l k. refl; past = λ k a j l. refl }
+pub blocks-begin : (n : ℕ) (cut : ℕ → ℕ → Bool) (blocks mass : ℕ) (lower : List ℕ) → BlocksTurn n cut blocks mass lower lower blocks
+blocks-begin n cut blocks mass lower = record { sized = refl; sub = λ b e. e; each = λ b v w l k. refl; past = λ k a j l. refl }
 
-module _ (out : Outage) (h : Header) (links words : List ℕ) (blocks low high mass : ℕ) (lower₀ lower : List ℕ) (left : ℕ)
-    (g : BlocksTurn out h links words blocks low high mass lower₀ lower left) where
+-- nothing is left
+pub blocks-done : (n : ℕ) (cut : ℕ → ℕ → Bool) (blocks mass : ℕ) (lower₀ lower : List ℕ) (left : ℕ)
+    → BlocksTurn n cut blocks mass lower₀ lower left → left ≡ 0 → BlocksAdded n cut blocks mass lower₀ lower
+blocks-done n cut blocks mass lower₀ lower left g e =
+    record {
+      sized = g .sized;
+      each =
+          λ b v w l k.
+          let none : bit left b ≡ false = ap (λ (x : ℕ). bit x b) e ∙ bit-none b in
+          omega (arith, g .each b v w l k, ap (λ (x : Bool). mass * digit x * digit (cut v w)) none);
+      past = g .past;
+    }
+
+module _ (out : Outage) (h : Header) (links words : List ℕ) (f : Failing) (blocks mass : ℕ) (lower₀ lower : List ℕ) (left : ℕ)
+    (g : BlocksTurn (h .nodes) (cutBy out h links words f) blocks mass lower₀ lower left) where
   abbrev cut : ℕ → ℕ → ℕ
-  cut v w = digit (cuts out (planOfLists h links words) v w (scenarioOf (h .events) (joined low high)))
-
-  -- nothing is left
-  pub blocks-done : left ≡ 0 → BlocksAdded out h links words blocks low high mass lower₀ lower
-  blocks-done e =
-      record {
-        sized = g .sized;
-        each =
-            λ b v w l k.
-            let none : bit left b ≡ false = ap (λ (x : ℕ). bit x b) e ∙ bit-none b in
-            omega (arith, g .each b v w l k, ap (λ (x : Bool). mass * digit x * cut v w) none);
-        past = g .past;
-      }
+  cut v w = digit (cutBy out h links words f v w)
 
   -- the lowest block t of what is left
   module _ (held : Held h links words) (fit : BlocksFit (h .nodes) blocks mass lower₀) (nodes : ℕ) (rows : List ℕ)
-      (s : Shown out h links words low high nodes rows) (t : ℕ) (found : bit left t ≡ true) where
+      (s : Shown out h links words f nodes rows) (t : ℕ) (found : bit left t ≡ true) where
     few : h .nodes ≤ 64
     few = held .links-held .nodes-fit
 
@@ -168,8 +170,7 @@ module _ (out : Outage) (h : Header) (links words : List ℕ) (blocks low high m
           fit .fits t (g .sub t found) v w l k,
         ))
 
-    module _ (decided : joined low high < 2 ^ h .events) (lower′ : List ℕ)
-        (added : AddedCut (pairCount (h .nodes) * t) (h .nodes) nodes mass rows lower lower′)
+    module _ (lower′ : List ℕ) (added : AddedCut (pairCount (h .nodes) * t) (h .nodes) nodes mass rows lower lower′)
         (left′ : ℕ) (rest : (j : ℕ) → bit left′ j ≡ (bit left j && not (eqb j t))) where
       -- the other blocks stay as they are
       stays : (b v w : ℕ) → v < w → w < h .nodes → (b ≡ t → ⊥) → Dec (b < t)
@@ -192,7 +193,7 @@ module _ (out : Outage) (h : Header) (links words : List ℕ) (blocks low high m
           (let gone : bit left′ t ≡ false = rest t ∙ ap (λ (x : Bool). bit left t && not x) (eq-eqb t t refl) ∙ and-false (bit left t) in
           omega (
             arith,
-            gained (pairCount (h .nodes) * t) h links words lower (s .failed) nodes rows (s .up) (s .row) mass lower′ added out low high decided (s .gathered) v w l k,
+            gained (pairCount (h .nodes) * t) h links words lower (s .failed) nodes rows (s .up) (s .row) mass lower′ added out f (s .decided) (s .gathered) v w l k,
             ap (λ (x : Bool). mass * digit x * cut v w) gone,
             ap (λ (x : Bool). mass * digit x * cut v w) found,
             g .each t v w l k,
@@ -201,7 +202,7 @@ module _ (out : Outage) (h : Header) (links words : List ℕ) (blocks low high m
           let same : bit left′ b ≡ bit left b = rest b ∙ ap (λ (x : Bool). bit left b && not x) (ne-eqb b t n) ∙ and-true (bit left b) in
           omega (arith, stays b v w l k n (decLt b t), ap (λ (x : Bool). mass * digit x * cut v w) same, g .each b v w l k)
 
-      pub blocks-turned : BlocksTurn out h links words blocks low high mass lower₀ lower′ left′
+      pub blocks-turned : BlocksTurn (h .nodes) (cutBy out h links words f) blocks mass lower₀ lower′ left′
       blocks-turned =
           record {
             sized = added .sized ∙ g .sized;
@@ -226,31 +227,19 @@ first-fits n mass lower few room =
       fits = λ b e v w l k. room .fits (place n v w + pairCount n * b);
     }
 
-module _ (out : Outage) (h : Header) (links words : List ℕ) (step : Step) (lower lower′ : List ℕ) (few : h .nodes ≤ 64) (room : Room (step .mass) lower)
-    (added : BlocksAdded out h links words 1 (step .low) (step .high) (step .mass) lower lower′) where
-  each-pair : (v w : ℕ) → v < w → w < h .nodes
-      → getD lower′ (place (h .nodes) v w) 0
-      ≡ getD lower (place (h .nodes) v w) 0
-      + step .mass * digit (cuts out (planOfLists h links words) v w (scenarioOf (h .events) (joined (step .low) (step .high))))
+module _ (n : ℕ) (cut : ℕ → ℕ → Bool) (mass : ℕ) (lower lower′ : List ℕ) (few : n ≤ 64) (room : Room mass lower)
+    (added : BlocksAdded n cut 1 mass lower lower′) where
+  each-pair : (v w : ℕ) → v < w → w < n → getD lower′ (place n v w) 0 ≡ getD lower (place n v w) 0 + mass * digit (cut v w)
   each-pair v w l k =
-      let there : place (h .nodes) v w + pairCount (h .nodes) * 0 ≡ place (h .nodes) v w = omega arith in
+      let there : place n v w + pairCount n * 0 ≡ place n v w = omega arith in
       let one : bit 1 0 ≡ true = bit-zero 1 in
-      omega (
-        arith,
-        rw there at (added .each 0 v w l k),
-        ap (λ (x : Bool). step .mass * digit x * digit (cuts out (planOfLists h links words) v w (scenarioOf (h .events) (joined (step .low) (step .high))))) one,
-      )
+      omega (arith, rw there at (added .each 0 v w l k), ap (λ (x : Bool). mass * digit x * digit (cut v w)) one)
 
-  most : (i : ℕ) → Dec (i < pairCount (h .nodes)) → getD lower′ i 0 ≤ getD lower i 0 + step .mass
+  most : (i : ℕ) → Dec (i < pairCount n) → getD lower′ i 0 ≤ getD lower i 0 + mass
   most i (no m) = omega (arith, added .past 1 (λ b e. omega (arith, first-block b e)) i (omega arith))
   most i (yes m) =
-      let p = unplace (h .nodes) (h .nodes) i (omega arith) m in
-      rw (p .4)
-      (omega (
-        arith,
-        each-pair (p .0) (p .1) (p .2) (p .3),
-        mul-le-mul-left (step .mass) (at-most (cuts out (planOfLists h links words) (p .0) (p .1) (scenarioOf (h .events) (joined (step .low) (step .high))))),
-      ))
+      let p = unplace n n i (omega arith) m in
+      rw (p .4) (omega (arith, each-pair (p .0) (p .1) (p .2) (p .3), mul-le-mul-left mass (at-most (cut (p .0) (p .1)))))
 
-  pub examined : MassAdded out h links words step lower lower′
-  examined = record { sized = added .sized ∙ room .sized; most = λ i. most i (decLt i (pairCount (h .nodes))); each = each-pair }
+  pub examined : MassAdded n cut mass lower lower′
+  examined = record { sized = added .sized ∙ room .sized; most = λ i. most i (decLt i (pairCount n)); each = each-pair }

@@ -2,17 +2,17 @@
 -- Assumes nothing.
 use mathlib.Core.Path.{_≡_, sym, ap, subst, _∙_}
 use mathlib.Core.List.{List, [], _∷_, map}
-use Prim.Native.Nat.{ℕ, _+_, _-_, _/_, _≤_}
+use Prim.Native.Nat.{ℕ, _+_, _-_, _≤_}
 use lib.ListN.{length, take}
 use lib.Seq.{sets}
 use Rattle.mass.specs.Refusal.{first}
-use Rattle.mass.proofs.RefusalLaws.{first-none}
+use Rattle.mass.proofs.RefusalLaws.{first-none, refuses}
 use Rattle.mass.specs.Split.{whole}
 use Rattle.refusals.specs.Tests.{roomTest}
 use Rattle.refusals.proofs.OrderLaws.{stop, skip, last}
 use Rattle.refusals.proofs.TestLaws.{room-none}
 use Rattle.plan.specs.Plan.{Plan}
-use Rattle.plan.specs.LentLists.{planRefusal, planOfLists, listsNumber}
+use Rattle.plan.specs.LentLists.{Lent, planRefusal, planOfLists, listsNumber}
 use Rattle.plan.specs.Calls.{filled}
 use Rattle.plan.specs.declared.Header.{Header}
 use Rattle.plan.proofs.FilledLaws.{filled-none}
@@ -23,44 +23,41 @@ use Rattle.pairs.specs.BoundsFit.{BoundsFit}
 use Rattle.pairs.specs.Pairs.{pairCount}
 use Rattle.windows.specs.Windows.{workRefusal}
 use Rattle.bounds.specs.Bounds.{lowerList, upperList, EnclosesAll}
-use Rattle.bounds.specs.Calls.{runRefusal, runNumber, runAtNumber, ranAnswer, totalsOf, totalsIn}
+use Rattle.bounds.specs.Calls.{runNumber, runAtNumber, ranAnswer, ranNumber, totalsOf, totalsIn}
 use Rattle.bounds.specs.Summed.{Summed}
 use Rattle.bounds.specs.declared.Totals.{Totals}
 use Rattle.bounds.specs.declared.Ran.{Ran}
 use Rattle.bounds.specs.declared.Ran.the-variants as ran
-use Rattle.bounds.proofs.Answers.{ran-refuses, giving, lower-laid, upper-laid, all-enclosed}
+use Rattle.bounds.proofs.Answers.{giving, lower-laid, upper-laid, all-enclosed}
 
 -- ---- the numbers
 
 -- a run's tests: those of the lists, then 12 for two lists of bounds with room for so many entries
-module _ (h : Header) (links events : List ℕ) (lowerRoom upperRoom : ℕ) where
+module _ (l : Lent) (lowerRoom upperRoom : ℕ) where
   abbrev rooms : ℕ
-  rooms = first (roomTest lowerRoom (pairCount (h .nodes)) ∷ roomTest upperRoom (pairCount (h .nodes)) ∷ [])
+  rooms = first (roomTest lowerRoom (pairCount (l .header .nodes)) ∷ roomTest upperRoom (pairCount (l .header .nodes)) ∷ [])
 
-  abbrev tested : ℕ
-  tested = runRefusal h (length links) (length events / 4) links events lowerRoom upperRoom
-
-  pub lists-refuse : (n : ℕ) → n ≡ listsNumber h links events → (n ≡ 0 → ⊥) → n ≡ tested
-  unfolding runRefusal
+  pub lists-refuse : (n : ℕ) → n ≡ listsNumber l → (n ≡ 0 → ⊥) → n ≡ runNumber l lowerRoom upperRoom
+  unfolding runNumber
   lists-refuse n e some = stop _ e some
 
-  pub rooms-decide : (lists n : ℕ) → lists ≡ listsNumber h links events → lists ≡ 0 → n ≡ rooms → n ≡ tested
-  unfolding runRefusal
+  pub rooms-decide : (lists n : ℕ) → lists ≡ listsNumber l → lists ≡ 0 → n ≡ rooms → n ≡ runNumber l lowerRoom upperRoom
+  unfolding runNumber
   rooms-decide lists n e z f = skip _ e z f
 
-  pub rooms-fit : rooms ≡ 0 → (pairCount (h .nodes) ≤ lowerRoom) × (pairCount (h .nodes) ≤ upperRoom)
+  pub rooms-fit : rooms ≡ 0 → (pairCount (l .header .nodes) ≤ lowerRoom) × (pairCount (l .header .nodes) ≤ upperRoom)
   rooms-fit z = let a = first-none _ _ z in (room-none _ _ (a .0), room-none _ _ (first-none _ _ (a .1) .0))
 
--- the run with windows: the run's number, then that of the windows and the minute
-module _ (h : Header) (links events windows : List ℕ) (minute : ℕ) (lower upper : List ℕ) where
-  pub run-refuses : (n : ℕ) → n ≡ runNumber h links events lower upper → (n ≡ 0 → ⊥) → n ≡ runAtNumber h links events windows minute lower upper
-  unfolding runAtNumber
-  run-refuses n e some = stop _ e some
+  -- the run with windows: the run's number, then that of the windows and the minute
+  module _ (windows : List ℕ) (minute : ℕ) where
+    pub run-refuses : (n : ℕ) → n ≡ runNumber l lowerRoom upperRoom → (n ≡ 0 → ⊥) → n ≡ runAtNumber l lowerRoom upperRoom windows minute
+    unfolding runAtNumber
+    run-refuses n e some = stop _ e some
 
-  pub work-decides : (passed n : ℕ) → passed ≡ runNumber h links events lower upper → passed ≡ 0 → n ≡ workRefusal (h .nodes) (h .links) windows minute
-      → n ≡ runAtNumber h links events windows minute lower upper
-  unfolding runAtNumber
-  work-decides passed n e z f = skip _ e z (last f)
+    pub work-decides : (passed n : ℕ) → passed ≡ runNumber l lowerRoom upperRoom → passed ≡ 0
+        → n ≡ workRefusal (l .header .nodes) (l .header .links) windows minute → n ≡ runAtNumber l lowerRoom upperRoom windows minute
+    unfolding runAtNumber
+    work-decides passed n e z f = skip _ e z (last f)
 
 -- ---- a run that is refused with a number, 0 if it is not, over a network of which some nodes and links are out
 
@@ -72,16 +69,15 @@ module _ (out : Outage) (number : ℕ) (h : Header) (links events lower upper : 
   abbrev pub RunPromised : Ran → List ℕ → List ℕ → Type 0
   RunPromised r lower′ upper′ =
       (r ≡ ranAnswer number (totalsOf p))
-      × ((lower′ ≡ filled number (lowerList out p) lower)
-      × ((upper′ ≡ filled number (upperList out p) upper)
-      × (number ≡ 0 → EnclosesAll out p lower′ upper′ (totalsIn r .count))))
+      × ((lower′ ≡ filled (ranNumber r) (lowerList out p) lower)
+      × ((upper′ ≡ filled (ranNumber r) (upperList out p) upper)
+      × (ranNumber r ≡ 0 → EnclosesAll out p lower′ upper′ (totalsIn r .count))))
 
   pub run-refused : (n : ℕ) → n ≡ number → (n ≡ 0 → ⊥) → RunPromised (ran.Refused n) lower upper
-  run-refused n e some =
-      let no-zero : number ≡ 0 → ⊥ = λ z. some (e ∙ z) in (
-        ran-refuses n number (totalsOf p) e some,
-        (filled-none number (lowerList out p) lower no-zero, (filled-none number (upperList out p) upper no-zero, λ z. absurd (no-zero z))),
-      )
+  run-refused n e some = (
+    refuses ran.Refused (ran.Done (totalsOf p)) e some,
+    (filled-none n (lowerList out p) lower some, (filled-none n (upperList out p) upper some, λ z. absurd (some z))),
+  )
 
   -- the walk of the arrays that accepted lists were taken into filled the two lists
   module _ (bytes words : List ℕ) (t : Taken h links events bytes words) (totals : Totals) (lower′ upper′ : List ℕ)
@@ -106,9 +102,9 @@ module _ (out : Outage) (number : ℕ) (h : Header) (links events lower upper : 
     run-done zero-number = (
       rw zero-number (ap ran.Done same),
       (
-        rw zero-number lower-is,
+        lower-is,
         (
-          rw zero-number upper-is,
+          upper-is,
           λ z.
               subst (λ (c : ℕ). EnclosesAll out p lower′ upper′ c) (ap (λ (x : Totals). x .count) (sym same))
               (rw (lower-is, upper-is) enclosed-all),

@@ -22,17 +22,16 @@ use Rattle.walk.proofs.Valid.{held-probable}
 use Rattle.walk.proofs.Resume.{Alone, begun-stack, begun-whole, root-entry, complete-at}
 use Rattle.pairs.specs.Pairs.{place}
 use Rattle.bounds.specs.Bounds.{cuts}
-use Rattle.bounds.specs.Tallied.{coming, reached, Ready, Tallied}
+use Rattle.bounds.specs.Tallied.{walkedPlan, RunState, runState, coming, reached, Ready, Tallied}
 use Rattle.bounds.specs.Summed.{Summed, Cleared}
 use Rattle.bounds.specs.Calls.{totalsOf}
-use Rattle.bounds.specs.declared.Tally.{Tally}
 
 module _ (h : Header) (links words : List ℕ) (at : ℕ) (stack lower : List ℕ) (b : Alone 0 whole 0 0 at stack) (clear : Cleared lower) where
   -- nothing is examined at the root
-  abbrev start : Tally
-  start = record { at = at; left = h .limit; number = 0; mass = 0 }
+  abbrev start : RunState
+  start = runState stack lower (record { at = at; left = h .limit; number = 0; mass = 0 })
 
-  pub ready-whole : Held h links words → h .limit < 4294967296 → Ready h links words stack lower start
+  pub ready-whole : Held h links words → h .limit < 4294967296 → Ready h links words start
   ready-whole held few =
       record {
         held = held;
@@ -45,30 +44,30 @@ module _ (h : Header) (links words : List ℕ) (at : ℕ) (stack lower : List �
         counted = omega arith;
       }
 
-  module _ (out : Outage) (stack′ lower′ : List ℕ) (r : Tally) (t : Tallied out h links words stack lower start stack′ lower′ r) where
+  module _ (out : Outage) (r : RunState) (t : Tallied (walkedPlan out h links words) start r) where
     abbrev p : Plan
     p = planOfLists h links words
 
-    from-root : coming h words at stack ≡ planEnds p
+    from-root : coming h words start ≡ planEnds p
     unfolding planOfLists
     from-root = begun-whole at stack b (h .events) (h .threshold) words
 
-    firsts : reached h words stack start ≡ firstEnds p
+    firsts : reached h words start ≡ firstEnds p
     unfolding planOfLists
     firsts = ap (take (h .limit)) from-root
 
-    left-over : drop (p .limit) (planEnds p) ≡ coming h words (r .at) stack′
+    left-over : drop (p .limit) (planEnds p) ≡ coming h words r
     unfolding planOfLists
     left-over = sym (t .rest ∙ ap (drop (h .limit)) from-root)
 
-    pub whole-totals : (c : ℕ) → c ≡ digit (leb 512 (r .at)) → (record { count = r .number; complete = c; mass = r .mass }) ≡ totalsOf p
+    pub whole-totals : (c : ℕ) → c ≡ digit (leb 512 (r .sums .at)) → (record { count = r .sums .number; complete = c; mass = r .sums .mass }) ≡ totalsOf p
     whole-totals c e =
-        let one : r .number ≡ totalsOf p .count = omega (arith, t .numbers, ap (sumEnds (λ s m. 1)) firsts, count-sum p) in
-        let two : c ≡ totalsOf p .complete = e ∙ sym (complete-at (h .events) (h .threshold) words p (r .at) stack′ (t .stacked) left-over) in
-        let three : r .mass ≡ totalsOf p .mass = omega (arith, t .masses, ap (sumEnds (λ s m. m)) firsts) in
+        let one : r .sums .number ≡ totalsOf p .count = omega (arith, t .numbers, ap (sumEnds (λ s m. 1)) firsts, count-sum p) in
+        let two : c ≡ totalsOf p .complete = e ∙ sym (complete-at (h .events) (h .threshold) words p (r .sums .at) (r .stack) (t .stacked) left-over) in
+        let three : r .sums .mass ≡ totalsOf p .mass = omega (arith, t .masses, ap (sumEnds (λ s m. m)) firsts) in
         λ i. record { count = one i; complete = two i; mass = three i }
 
-    pub whole-sums : Summed out p (h .nodes) lower′
+    pub whole-sums : Summed out p (h .nodes) (r .lower)
     whole-sums =
         record {
           sized = t .sized;

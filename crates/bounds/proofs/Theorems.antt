@@ -7,12 +7,12 @@ use mathlib.Core.List.{List, [], _∷_, List·Memᴰ}
 use Prim.Native.Nat.{ℕ, zero, suc, _≤_}
 use native.Mathlib.Nat.{mul-le-mul-left}
 use native.Mathlib.Omega.{arith}
+use lib.ListN.{length}
 use Rattle.mass.specs.Refusal.{first}
 use Rattle.sets.specs.Sets.{digit}
 use Rattle.plan.specs.Plan.{Plan}
-use Rattle.plan.specs.LentLists.{planOfLists}
+use Rattle.plan.specs.LentLists.{Lent, planLent}
 use Rattle.plan.specs.Calls.{filled}
-use Rattle.plan.specs.declared.Header.{Header}
 use Rattle.network.specs.Outage.{Outage, intact}
 use Rattle.topology.proofs.Theorems.{NoBetter, never-connects, outage-grows}
 use Rattle.walk.specs.Scenario.{Scenario, number}
@@ -70,17 +70,17 @@ last-passes zero later e = rw e
 last-passes (suc number) later e = refl
 
 -- "where no window holds the minute, all is as `run` gives it": the number, the answer, and what is left in both lists
-module _ (h : Header) (links events windows : List ℕ) (minute : ℕ) (lower upper : List ℕ)
-    (fair : workRefusal (h .nodes) (h .links) windows minute ≡ 0)
+module _ (l : Lent) (windows : List ℕ) (minute : ℕ) (lower upper : List ℕ)
+    (fair : workRefusal (l .header .nodes) (l .header .links) windows minute ≡ 0)
     (none : (x : Window) → List·Memᴰ x (windowsIn windows) → holds x minute ≡ false) where
   abbrev p : Plan
-  p = planOfLists h links events
+  p = planLent l
 
   abbrev atNumber : ℕ
-  atNumber = runAtNumber h links events windows minute lower upper
+  atNumber = runAtNumber l (length lower) (length upper) windows minute
 
   abbrev number₀ : ℕ
-  number₀ = runNumber h links events lower upper
+  number₀ = runNumber l (length lower) (length upper)
 
   pub same-number : atNumber ≡ number₀
   unfolding runAtNumber

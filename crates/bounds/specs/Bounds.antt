@@ -1,5 +1,4 @@
--- The bounds of a pair: document 01, section "Bounds of a pair", over a network of which some nodes and links may be out before the first
--- event (document 02, request U7). What is out stands beside the plan; where nothing is, it is `intact`.
+-- The bounds of a pair: document 01, section "Bounds of a pair", over a network of which some nodes and links may be out.
 -- Assumes nothing.
 use mathlib.Core.Bool.{Bool}
 use mathlib.Core.List.{List}
@@ -10,7 +9,6 @@ use Rattle.network.specs.Outage.{Outage, outageOf}
 use Rattle.network.specs.Topology.{Network, networkOf}
 use Rattle.topology.specs.Paths.{disconnected}
 use Rattle.walk.specs.Scenario.{Scenario, number}
-use Rattle.walk.specs.Walk.{count}
 use Rattle.sums.specs.Exact.{exactCut, exactMissed}
 use Rattle.sums.specs.Bounds.{lower, upper, Demand3}
 use Rattle.pairs.specs.Pairs.{table, place}

@@ -2,13 +2,11 @@
 -- For each case of an answer, `ranAnswer` and `pairAnswer` say which number and values it stands for.
 -- Assumes nothing.
 use mathlib.Core.List.{List, [], _∷_}
-use Prim.Native.Nat.{ℕ, zero, suc, _/_}
-use lib.ListN.{length}
-use Rattle.mass.specs.Refusal.{first}
+use Prim.Native.Nat.{ℕ}
+use Rattle.mass.specs.Refusal.{first, answered}
 use Rattle.plan.specs.Plan.{Plan}
 use Rattle.refusals.specs.Tests.{roomTest}
-use Rattle.plan.specs.LentLists.{listsRefusal}
-use Rattle.plan.specs.declared.Header.{Header}
+use Rattle.plan.specs.LentLists.{Lent, listsNumber}
 use Rattle.network.specs.Outage.{Outage}
 use Rattle.walk.specs.Walk.{count, complete, massExamined}
 use Rattle.pairs.specs.Pairs.{pairCount, pairTest}
@@ -22,31 +20,31 @@ use Rattle.bounds.specs.declared.Paired.{Paired}
 use Rattle.bounds.specs.declared.Paired.the-variants as paired
 
 -- the run: the lists' tests, then 12 for the two lists of bounds
-unfoldable pub runRefusal : Header → ℕ → ℕ → List ℕ → List ℕ → ℕ → ℕ → ℕ
-runRefusal h linkRoom eventRoom links words lowerRoom upperRoom =
+unfoldable pub runNumber : Lent → ℕ → ℕ → ℕ
+runNumber l lowerRoom upperRoom =
     first
-    (listsRefusal h linkRoom eventRoom links words
-    ∷ roomTest lowerRoom (pairCount (h .nodes))
-    ∷ roomTest upperRoom (pairCount (h .nodes))
+    (listsNumber l
+    ∷ roomTest lowerRoom (pairCount (l .header .nodes))
+    ∷ roomTest upperRoom (pairCount (l .header .nodes))
     ∷ [])
 
--- the number with which a run on lent lists is refused
-abbrev pub runNumber : Header → List ℕ → List ℕ → List ℕ → List ℕ → ℕ
-runNumber h links events lower upper =
-    runRefusal h (length links) (length events / 4) links events (length lower) (length upper)
-
 -- the run with windows: as the run, then 12 for words that make no whole window, each window 21, then 22 for the minute
-unfoldable pub runAtNumber : Header → List ℕ → List ℕ → List ℕ → ℕ → List ℕ → List ℕ → ℕ
-runAtNumber h links events windows minute lower upper =
-    first (runNumber h links events lower upper ∷ workRefusal (h .nodes) (h .links) windows minute ∷ [])
+unfoldable pub runAtNumber : Lent → ℕ → ℕ → List ℕ → ℕ → ℕ
+runAtNumber l lowerRoom upperRoom windows minute =
+    first (runNumber l lowerRoom upperRoom ∷ workRefusal (l .header .nodes) (l .header .links) windows minute ∷ [])
 
 -- the examined count, complete and E of a plan; no outage moves them
 abbrev pub totalsOf : Plan → Totals
 totalsOf p = record { count = count p; complete = complete p; mass = massExamined p }
 
+-- the answer of a run
 abbrev pub ranAnswer : ℕ → Totals → Ran
-ranAnswer zero totals = ran.Done totals
-ranAnswer (suc number) totals = ran.Refused (suc number)
+ranAnswer number totals = answered ran.Refused (ran.Done totals) number
+
+-- the number of a run's answer
+abbrev pub ranNumber : Ran → ℕ
+ranNumber (ran.Refused number) = number
+ranNumber (ran.Done totals) = 0
 
 -- the totals of an answer: all numbers are 0 where it refuses
 abbrev pub totalsIn : Ran → Totals
@@ -54,21 +52,21 @@ totalsIn (ran.Refused number) = record { count = 0; complete = 0; mass = 0 }
 totalsIn (ran.Done totals) = totals
 
 -- the bounds of one pair: the lists' tests, then 13
-unfoldable pub pairRefusal : Header → ℕ → ℕ → List ℕ → List ℕ → ℕ → ℕ → ℕ
-pairRefusal h linkRoom eventRoom links words v w =
-    first (listsRefusal h linkRoom eventRoom links words ∷ pairTest (h .nodes) v w ∷ [])
-
--- the number with which the bounds of one pair are refused
-abbrev pub pairNumber : Header → List ℕ → List ℕ → ℕ → ℕ → ℕ
-pairNumber h links events v w = pairRefusal h (length links) (length events / 4) links events v w
+unfoldable pub pairNumber : Lent → ℕ → ℕ → ℕ
+pairNumber l v w = first (listsNumber l ∷ pairTest (l .header .nodes) v w ∷ [])
 
 -- the two bounds of the pair (v, w)
 abbrev pub boundsOf : Outage → Plan → ℕ → ℕ → PairBounds
 boundsOf out p v w = record { lower = lowerOf out p v w; upper = upperOf out p v w }
 
+-- the answer of one pair
 abbrev pub pairAnswer : ℕ → PairBounds → Paired
-pairAnswer zero bounds = paired.Done bounds
-pairAnswer (suc number) bounds = paired.Refused (suc number)
+pairAnswer number bounds = answered paired.Refused (paired.Done bounds) number
+
+-- the number of one pair's answer
+abbrev pub pairedNumber : Paired → ℕ
+pairedNumber (paired.Refused number) = number
+pairedNumber (paired.Done bounds) = 0
 
 -- the bounds in an answer: both are 0 where it refuses
 abbrev pub boundsIn : Paired → PairBounds

@@ -3,12 +3,13 @@
 use mathlib.Core.Path.{_≡_, refl}
 use mathlib.Core.List.{List, [], _∷_}
 use Prim.Native.Nat.{ℕ}
+use lib.ListN.{length}
 use Rattle.mass.specs.Refusal.{first}
 use Rattle.mass.specs.Split.{whole}
 use Rattle.sets.specs.Sets.{bit, anyBelow}
 use Rattle.plan.specs.Plan.{Plan}
 use Rattle.plan.specs.Lists.{linksOf, eventsOf}
-use Rattle.plan.specs.LentLists.{linkListRefusal, eventListRefusal, listsRefusal}
+use Rattle.plan.specs.LentLists.{linkListRefusal, eventListRefusal, inWords, listsNumber}
 use Rattle.plan.specs.declared.Header.{Header}
 use Rattle.network.specs.Outage.{Outage, intact, unionOf}
 use Rattle.network.specs.Topology.{nodeWorks, linkWorks, joins, adjacent}
@@ -16,9 +17,9 @@ use Rattle.topology.specs.Paths.{via, disconnected}
 use Rattle.walk.specs.Ends.{ends}
 use Rattle.sums.specs.Exact.{exactSum, exactCut}
 use Rattle.pairs.specs.Pairs.{start}
-use Rattle.windows.specs.Windows.{windowsOf, windowListRefusal, workRefusal}
+use Rattle.windows.specs.Windows.{windowsOf, workRefusal}
 use Rattle.bounds.specs.Bounds.{cuts}
-use Rattle.bounds.specs.Calls.{boundsOf, runRefusal, runAtNumber}
+use Rattle.bounds.specs.Calls.{boundsOf, runNumber, runAtNumber}
 use Rattle.bounds.specs.declared.PairBounds.{PairBounds}
 
 -- the link 0-1 of two nodes, an event of 1/10 on it, t = 10^17
@@ -58,11 +59,11 @@ header limit = record { nodes = 2; links = 1; events = 1; threshold = 1; limit =
 
 abbrev number : ℕ → List ℕ → List ℕ → ℕ → ℕ
 number limit lower windows minute =
-    runAtNumber (header limit) (0 ∷ 1 ∷ []) (100000000 ∷ 0 ∷ 1 ∷ 0 ∷ []) windows minute lower (7 ∷ [])
+    runAtNumber (inWords (header limit) (0 ∷ 1 ∷ []) (100000000 ∷ 0 ∷ 1 ∷ 0 ∷ [])) (length lower) 1 windows minute
 
 -- a window whose end is its start, and a minute past the week: 6 for the cap, 12 for a list of bounds, 21, then 22
 example-order : (number 100 (7 ∷ []) (0 ∷ 1 ∷ 0 ∷ 1 ∷ 0 ∷ []) 0 ≡ 0) × (number 0 [] (7 ∷ 7 ∷ 0 ∷ 0 ∷ 0 ∷ []) 10080 ≡ 6)
     × (number 100 [] (7 ∷ 7 ∷ 0 ∷ 0 ∷ 0 ∷ []) 10080 ≡ 12) × (number 100 (7 ∷ []) (7 ∷ 7 ∷ 0 ∷ 0 ∷ 0 ∷ []) 10080 ≡ 21)
     × (number 100 (7 ∷ []) [] 10080 ≡ 22)
-unfolding runAtNumber runRefusal listsRefusal linkListRefusal eventListRefusal linksOf eventsOf workRefusal windowListRefusal windowsOf first start
+unfolding runAtNumber runNumber listsNumber linkListRefusal eventListRefusal linksOf eventsOf workRefusal windowsOf first start
 example-order = (refl, refl, refl, refl, refl)

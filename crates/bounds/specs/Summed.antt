@@ -1,5 +1,4 @@
 -- The entries of the pairs: those of a plan, and those before its walk.
--- `out` is what is out before the first event (document 02, request U7).
 -- Assumes nothing.
 use mathlib.Core.Path.{_≡_}
 use mathlib.Core.List.{List}

@@ -4,13 +4,17 @@ use network::Failed;
 use pairs::add_cut;
 use pairs::start_of;
 use plan::Header;
+use walk::Failing;
 ghost use Prim.Native.Nat.{_^_, _<_};
 ghost use Rattle.sets.specs.Sets.{joined};
 ghost use Rattle.plan.specs.Held.{Held};
+ghost use Rattle.plan.specs.LentLists.{planOfLists};
 ghost use Rattle.network.specs.Code.{outage};
 ghost use Rattle.network.specs.Table.{LinksAt};
+ghost use Rattle.walk.specs.Scenario.{scenarioOf};
+ghost use Rattle.bounds.specs.Bounds.{cuts};
 ghost use Rattle.bounds.specs.Blocks.{BlocksFit, BlocksAdded};
-ghost use Rattle.bounds.specs.Tallied.{Ready, Tallied};
+ghost use Rattle.bounds.specs.Tallied.{walkedPlan, runState, Ready, Tallied};
 
 // Adds the mass of a scenario to the entries of the pairs that its topology, with what is out before the first event, disconnects, in each
 // block of a set. The topology is worked out once.
@@ -20,21 +24,20 @@ pub fn examine(
     words: &[u64; 512],
     table: &[u64; 128],
     out: Failed,
-    low: u64,
-    high: u64,
+    failing: Failing,
     lower: &mut [u64],
     blocks: u64,
     mass: u64,
 )
     requires { ⌜ Held h (now links) (now words) ⌝ }
     requires { ⌜ LinksAt (now links) (h .links) (now table) ⌝ }
-    requires { ⌜ joined low high < 2 ^ (h .events) ⌝ }
+    requires { ⌜ joined (failing .low) (failing .high) < 2 ^ (h .events) ⌝ }
     requires { ⌜ BlocksFit (h .nodes) blocks mass (now lower) ⌝ }
-    ensures { λ r. ⌜ BlocksAdded (outage out) h (now (links .entry)) (now (words .entry)) blocks low high mass
-        (now (lower .entry)) (now (lower .exit)) ⌝ }
+    ensures { λ r. ⌜ BlocksAdded (h .nodes) (λ v w. cuts (outage out) (planOfLists h (now (links .entry)) (now (words .entry))) v w
+        (scenarioOf (h .events) (joined (failing .low) (failing .high)))) blocks mass (now (lower .entry)) (now (lower .exit)) ⌝ }
 {
     let n = h.nodes as usize;
-    let failed = network::failed_by(words, h.events as usize, low, high, out);
+    let failed = network::failed_by(words, h.events as usize, failing.low, failing.high, out);
     let nodes = network::working_nodes(n, failed.nodes);
     let rows = network::neighbours(n, links, h.links as usize, table, failed);
     let pairs = start_of(n, n);
@@ -66,9 +69,9 @@ pub fn go_on(
     so_far: Tally,
 ) -> Tally
     requires { ⌜ LinksAt (now links) (h .links) (now table) ⌝ }
-    requires { ⌜ Ready h (now links) (now words) (now stack) (now lower) «so_far» ⌝ }
-    ensures { λ r. ⌜ Tallied (outage out) h (now (links .entry)) (now (words .entry)) (now (stack .entry)) (now (lower .entry)) «so_far»
-        (now (stack .exit)) (now (lower .exit)) r ⌝ }
+    requires { ⌜ Ready h (now links) (now words) (runState (now stack) (now lower) «so_far») ⌝ }
+    ensures { λ r. ⌜ Tallied (walkedPlan (outage out) h (now (links .entry)) (now (words .entry)))
+        (runState (now (stack .entry)) (now (lower .entry)) «so_far») (runState (now (stack .exit)) (now (lower .exit)) r) ⌝ }
 {
     let mut at = so_far.at;
     let mut left = so_far.left;
@@ -88,14 +91,17 @@ pub fn go_on(
                 mass,
             };
         }
+        let failing = Failing {
+            low: step.low,
+            high: step.high,
+        };
         examine(
             h,
             links,
             words,
             table,
             out,
-            step.low,
-            step.high,
+            failing,
             &mut *lower,
             1,
             step.mass,

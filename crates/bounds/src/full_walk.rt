@@ -5,11 +5,9 @@ use crate::ends::go_on;
 use network::Failed;
 use plan::Header;
 ghost use mathlib.Core.Path.{_≡_};
-ghost use Prim.Native.Nat.{_<_};
 ghost use lib.Dec.{leb};
 ghost use Rattle.sets.specs.Sets.{digit};
-ghost use Rattle.plan.specs.LentLists.{planOfLists};
-ghost use Rattle.plan.specs.Held.{Held};
+ghost use Rattle.plan.specs.LentLists.{planRefusal, planOfLists};
 ghost use Rattle.network.specs.Code.{outage};
 ghost use Rattle.bounds.specs.Calls.{totalsOf};
 ghost use Rattle.bounds.specs.Summed.{Summed, Cleared};
@@ -33,15 +31,14 @@ pub fn walk_all(
     out: Failed,
     lower: &mut [u64; 2016],
 ) -> Totals
-    requires { ⌜ Held h (now links) (now words) ⌝ }
-    requires { ⌜ h .limit < 4294967296 ⌝ }
+    requires { ⌜ planRefusal (planOfLists h (now links) (now words)) ≡ 0 ⌝ }
     requires { ⌜ Cleared (now lower) ⌝ }
     ensures { λ r. ⌜ r ≡ totalsOf (planOfLists h (now (links .entry)) (now (words .entry))) ⌝ }
     ensures { λ r. ⌜ Summed (outage out) (planOfLists h (now (links .entry)) (now (words .entry))) (h .nodes) (now (lower .exit)) ⌝ }
 {
     let table = network::links_at(h.nodes as usize, links, h.links as usize);
     let mut stack = [0u64; 512];
-    let at = walk::begin(&mut stack, 0, mass::Mass::WHOLE.units, 0, 0);
+    let at = walk::begin(&mut stack);
     let so_far = Tally {
         at,
         left: h.limit,

@@ -8,13 +8,12 @@ use pairs::start_of;
 use plan::Header;
 ghost use mathlib.Core.Path.{_≡_};
 ghost use mathlib.Core.List.{[], _∷_};
-ghost use Prim.Native.Nat.{_/_, _≤_, _<_};
+ghost use Prim.Native.Nat.{_≤_};
 ghost use lib.ListN.{length};
 ghost use lib.Seq.{sets};
 ghost use Rattle.mass.specs.Refusal.{first};
 ghost use Rattle.refusals.specs.Tests.{roomTest};
-ghost use Rattle.plan.specs.LentLists.{planRefusal, planOfLists};
-ghost use Rattle.plan.specs.Held.{Held};
+ghost use Rattle.plan.specs.LentLists.{planRefusal, planOfLists, inWords};
 ghost use Rattle.plan.specs.Calls.{filled};
 ghost use Rattle.lent.specs.Taken.{Taken};
 ghost use Rattle.network.specs.Outage.{intact};
@@ -22,7 +21,7 @@ ghost use Rattle.network.specs.Code.{outage};
 ghost use Rattle.pairs.specs.Pairs.{pairCount};
 ghost use Rattle.windows.specs.Windows.{takenOut};
 ghost use Rattle.bounds.specs.Bounds.{lowerList, upperList, EnclosesAll};
-ghost use Rattle.bounds.specs.Calls.{totalsOf, ranAnswer, totalsIn, runRefusal, runNumber, runAtNumber};
+ghost use Rattle.bounds.specs.Calls.{totalsOf, ranAnswer, ranNumber, totalsIn, runNumber, runAtNumber};
 
 // 12 for the two lists of bounds: each is to have room for `entries`.
 pub fn bounds_test(entries: usize, lower_room: usize, upper_room: usize) -> u32
@@ -45,8 +44,7 @@ fn accept_run(
     bytes: &mut [u8; 256],
     words: &mut [u64; 512],
 ) -> u32
-    ensures number { λ r. ⌜ r ≡ runRefusal h (length (now (links .entry))) (length (now (events .entry)) / 4)
-        (now (links .entry)) (now (events .entry)) «lower_room» «upper_room» ⌝ }
+    ensures number { λ r. ⌜ r ≡ runNumber (inWords h (now (links .entry)) (now (events .entry))) «lower_room» «upper_room» ⌝ }
     ensures accepted { λ r. ⌜ (r ≡ 0 → Taken h (now (links .entry)) (now (events .entry)) (now (bytes .exit)) (now (words .exit))
         × ((pairCount (h .nodes) ≤ «lower_room») × (pairCount (h .nodes) ≤ «upper_room»))) ⌝ }
 {
@@ -68,9 +66,7 @@ fn fill_bounds(
     lower: &mut [u64],
     upper: &mut [u64],
 ) -> Totals
-    requires { ⌜ Held h (now links) (now words) ⌝ }
     requires { ⌜ planRefusal (planOfLists h (now links) (now words)) ≡ 0 ⌝ }
-    requires { ⌜ h .limit < 4294967296 ⌝ }
     requires { ⌜ (pairCount (h .nodes) ≤ length (now lower)) × (pairCount (h .nodes) ≤ length (now upper)) ⌝ }
     ensures totals { λ r. ⌜ r ≡ totalsOf (planOfLists h (now (links .entry)) (now (words .entry))) ⌝ }
     ensures lowers { λ r. ⌜ now (lower .exit) ≡ sets (now (lower .entry)) 0
@@ -87,15 +83,13 @@ fn fill_bounds(
 // The run over all pairs: fills the two lists with the bounds of the pairs, in order, and answers the examined count, complete and E.
 pub fn run(h: Header, links: &[u8], events: &[u64], lower: &mut [u64], upper: &mut [u64]) -> Ran
     ensures answer { λ r. ⌜ r ≡ ranAnswer
-        (runNumber h (now (links .entry)) (now (events .entry)) (now (lower .entry)) (now (upper .entry)))
+        (runNumber (inWords h (now (links .entry)) (now (events .entry))) (length (now (lower .entry))) (length (now (upper .entry))))
         (totalsOf (planOfLists h (now (links .entry)) (now (events .entry)))) ⌝ }
-    ensures lowers { λ r. ⌜ now (lower .exit) ≡ filled
-        (runNumber h (now (links .entry)) (now (events .entry)) (now (lower .entry)) (now (upper .entry)))
+    ensures lowers { λ r. ⌜ now (lower .exit) ≡ filled (ranNumber r)
         (lowerList intact (planOfLists h (now (links .entry)) (now (events .entry)))) (now (lower .entry)) ⌝ }
-    ensures uppers { λ r. ⌜ now (upper .exit) ≡ filled
-        (runNumber h (now (links .entry)) (now (events .entry)) (now (lower .entry)) (now (upper .entry)))
+    ensures uppers { λ r. ⌜ now (upper .exit) ≡ filled (ranNumber r)
         (upperList intact (planOfLists h (now (links .entry)) (now (events .entry)))) (now (upper .entry)) ⌝ }
-    ensures demand3 { λ r. ⌜ (runNumber h (now (links .entry)) (now (events .entry)) (now (lower .entry)) (now (upper .entry)) ≡ 0
+    ensures demand3 { λ r. ⌜ (ranNumber r ≡ 0
         → EnclosesAll intact (planOfLists h (now (links .entry)) (now (events .entry)))
         (now (lower .exit)) (now (upper .exit)) (totalsIn r .count)) ⌝ }
 {
@@ -128,18 +122,16 @@ pub fn run_at(
     upper: &mut [u64],
 ) -> Ran
     ensures answer { λ r. ⌜ r ≡ ranAnswer
-        (runAtNumber h (now (links .entry)) (now (events .entry)) (now (windows .entry)) minute (now (lower .entry)) (now (upper .entry)))
+        (runAtNumber (inWords h (now (links .entry)) (now (events .entry))) (length (now (lower .entry))) (length (now (upper .entry)))
+        (now (windows .entry)) minute)
         (totalsOf (planOfLists h (now (links .entry)) (now (events .entry)))) ⌝ }
-    ensures lowers { λ r. ⌜ now (lower .exit) ≡ filled
-        (runAtNumber h (now (links .entry)) (now (events .entry)) (now (windows .entry)) minute (now (lower .entry)) (now (upper .entry)))
+    ensures lowers { λ r. ⌜ now (lower .exit) ≡ filled (ranNumber r)
         (lowerList (takenOut (now (windows .entry)) minute) (planOfLists h (now (links .entry)) (now (events .entry))))
         (now (lower .entry)) ⌝ }
-    ensures uppers { λ r. ⌜ now (upper .exit) ≡ filled
-        (runAtNumber h (now (links .entry)) (now (events .entry)) (now (windows .entry)) minute (now (lower .entry)) (now (upper .entry)))
+    ensures uppers { λ r. ⌜ now (upper .exit) ≡ filled (ranNumber r)
         (upperList (takenOut (now (windows .entry)) minute) (planOfLists h (now (links .entry)) (now (events .entry))))
         (now (upper .entry)) ⌝ }
-    ensures demand3 { λ r. ⌜
-        (runAtNumber h (now (links .entry)) (now (events .entry)) (now (windows .entry)) minute (now (lower .entry)) (now (upper .entry)) ≡ 0
+    ensures demand3 { λ r. ⌜ (ranNumber r ≡ 0
         → EnclosesAll (takenOut (now (windows .entry)) minute) (planOfLists h (now (links .entry)) (now (events .entry)))
         (now (lower .exit)) (now (upper .exit)) (totalsIn r .count)) ⌝ }
 {

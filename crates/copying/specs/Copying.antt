@@ -11,8 +11,8 @@ use Rattle.plan.specs.declared.Reading.the-variants as reading
 use Rattle.plan.specs.declared.Writing.{Writing}
 use Rattle.plan.specs.declared.Writing.the-variants as writing
 
-unfoldable pub copyRefusal : List ℕ → ℕ → ℕ
-copyRefusal b room = first (refusal b ∷ roomTest room (length b) ∷ [])
+unfoldable pub copyNumber : List ℕ → ℕ → ℕ
+copyNumber b room = first (refusal b ∷ roomTest room (length b) ∷ [])
 
 -- the reader's number where it refuses, else what the writer answers
 abbrev pub copyAnswer : Reading → Writing → Writing

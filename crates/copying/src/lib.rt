@@ -7,8 +7,8 @@ use records::Event;
 use records::write_records;
 ghost use mathlib.Core.Path.{_≡_};
 ghost use lib.ListN.{length};
-ghost use Rattle.plan.specs.Calls.{filled, writeAnswer};
-ghost use Rattle.copying.specs.Copying.{copyAnswer, copyRefusal};
+ghost use Rattle.plan.specs.Calls.{filled, writeAnswer, writtenNumber};
+ghost use Rattle.copying.specs.Copying.{copyAnswer, copyNumber};
 
 // What a copy answers: the reader's number where it refuses, else what the writer answers.
 fn answer_of(answer: Reading, written: Writing) -> Writing
@@ -22,9 +22,8 @@ fn answer_of(answer: Reading, written: Writing) -> Writing
 
 // Reads a plan into a list of records of its own, and writes it again: the bytes that are accepted are copied. A refusal changes nothing.
 pub fn copy_plan(s: &[u8], out: &mut [u8]) -> Writing
-    ensures answer { λ r. ⌜ r ≡ writeAnswer (copyRefusal (now (s .entry)) (length (now (out .entry)))) (length (now (s .entry))) ⌝ }
-    ensures out { λ r. ⌜ now (out .exit) ≡ filled (copyRefusal (now (s .entry)) (length (now (out .entry))))
-        (now (s .entry)) (now (out .entry)) ⌝ }
+    ensures answer { λ r. ⌜ r ≡ writeAnswer (copyNumber (now (s .entry)) (length (now (out .entry)))) (length (now (s .entry))) ⌝ }
+    ensures out { λ r. ⌜ now (out .exit) ≡ filled (writtenNumber r) (now (s .entry)) (now (out .entry)) ⌝ }
 {
     let mut links = [0u8; 256];
     let mut events = [Event {

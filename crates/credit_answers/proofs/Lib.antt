@@ -1,3 +1,2 @@
 -- Laws that the proofs of the crate `credit_answers` share.
-pub mod NumberLaws
 pub mod Words

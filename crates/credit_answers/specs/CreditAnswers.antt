@@ -7,11 +7,6 @@ use Prim.Native.Nat.{ℕ, suc, _-_, _^_}
 use lib.IntN.{ℤ, pos, negsuc}
 use Rattle.credits.specs.Credit.{creditsIn}
 use Rattle.credits.specs.declared.Credited.{Credited}
-use Rattle.credits.specs.declared.Credited.the-variants as credited
-
-abbrev pub creditedNumber : Credited → ℕ
-creditedNumber (credited.Refused number) = number
-creditedNumber (credited.Given credits) = 0
 
 -- `negsuc n` is −(n + 1)
 abbrev pub wordOf : ℤ → ℕ

@@ -5,10 +5,11 @@ use answers::give_three;
 use credits::Credited;
 use plan::Header;
 ghost use mathlib.Core.Path.{_≡_};
+ghost use Rattle.plan.specs.LentLists.{inWords};
 ghost use Rattle.network.specs.Outage.{intact};
-ghost use Rattle.credits.specs.Credit.{creditNumber, creditOf};
+ghost use Rattle.credits.specs.Credit.{creditedNumber, creditNumber, creditOf};
 ghost use Rattle.answers.specs.Laid.{laid};
-ghost use Rattle.credit_answers.specs.CreditAnswers.{wordOf, creditedNumber, creditsValues};
+ghost use Rattle.credit_answers.specs.CreditAnswers.{wordOf, creditsValues};
 
 // A signed number as an unsigned one: 2^64 is added where it is negative, so that −(k + 1) is k less than 2^64 − 1.
 fn word_of(n: i64) -> u64
@@ -50,9 +51,9 @@ pub fn credit(
     rate: u64,
     result: &mut [u64],
 ) -> u32
-    ensures number { λ r. ⌜ r ≡ creditNumber h (now (links .entry)) (now (events .entry)) v w fee limit rate ⌝ }
+    ensures number { λ r. ⌜ r ≡ creditNumber (inWords h (now (links .entry)) (now (events .entry))) v w fee limit rate ⌝ }
     ensures result { λ r. ⌜ now (result .exit) ≡ laid
-        (creditsValues (creditOf intact h (now (links .entry)) (now (events .entry)) v w fee limit rate)) (now (result .entry)) ⌝ }
+        (creditsValues (creditOf intact (inWords h (now (links .entry)) (now (events .entry))) v w fee limit rate)) (now (result .entry)) ⌝ }
 {
     give_credits(
         credits::credit(h, links, events, v, w, fee, limit, rate),

@@ -2,18 +2,16 @@
 -- Assumes nothing.
 use mathlib.Core.Path.{_≡_, refl, sym, ap, subst, _∙_}
 use mathlib.Core.Bool.{_||_}
-use mathlib.Core.List.{List}
 use Prim.Native.Nat.{ℕ, zero, suc, _≤_}
 use native.Mathlib.Omega.{arith}
 use borrow.Author.Tests.{ltb-false}
 use lib.Dec.{ltb}
 use lib.IntN.{ℤ}
-use Rattle.mass.proofs.RefusalLaws.{refuse-none}
+use Rattle.mass.proofs.RefusalLaws.{refuse-none, refuses, answered-number}
 use Rattle.refusals.proofs.OrderLaws.{stop, skip, last}
 use Rattle.refusals.proofs.TestLaws.{or-none}
 use Rattle.plan.specs.Plan.{Plan}
-use Rattle.plan.specs.LentLists.{planOfLists}
-use Rattle.plan.specs.declared.Header.{Header}
+use Rattle.plan.specs.LentLists.{Lent, planLent}
 use Rattle.bounds.specs.Bounds.{lowerOf, upperOf}
 use Rattle.bounds.specs.Calls.{pairNumber, pairAnswer, boundsOf}
 use Rattle.bounds.specs.declared.PairBounds.{PairBounds}
@@ -24,8 +22,7 @@ use Rattle.network.specs.Outage.{intact}
 use Rattle.readings.specs.Downtime.{year, lowerSeconds, upperSeconds, secondsOf}
 use Rattle.readings.specs.declared.Seconds.{Seconds}
 use Rattle.readings.proofs.PairTold.{Accepted, refused-told, done-told}
-use Rattle.readings.proofs.Refusing.{refuses}
-use Rattle.credits.specs.Credit.{mostCents, termsTest, creditFor, headroomOf, creditsOf, creditAnswer, creditNumber, creditOf}
+use Rattle.credits.specs.Credit.{mostCents, termsTest, creditFor, headroomOf, creditsOf, creditAnswer, creditedNumber, creditNumber, creditOf}
 use Rattle.credits.specs.Credit.{creditsIn, exactCredit, CreditWithin}
 use Rattle.credits.specs.declared.Credits.{Credits}
 use Rattle.credits.specs.declared.Credited.{Credited}
@@ -40,9 +37,9 @@ terms-none fee limit rate e =
     (refuse-none (ltb mostCents fee || ltb mostCents rate || ltb year limit) 19 e) in
     (ltb-false year limit (t .1), ltb-false mostCents rate (or-none (ltb mostCents fee) (ltb mostCents rate) (t .0) .1))
 
--- a number that is not 0 refuses
-pub refused-is : (number refusal : ℕ) (credits : Credits) → number ≡ refusal → (number ≡ 0 → ⊥) → credited.Refused number ≡ creditAnswer refusal credits
-refused-is = refuses creditAnswer credited.Refused (λ n x. refl)
+-- an answer has the number that it follows from
+pub credited-number : (number : ℕ) (credits : Credits) → creditedNumber (creditAnswer number credits) ≡ number
+credited-number number credits = answered-number credited.Refused (credited.Given credits) creditedNumber refl (λ n. refl) number
 
 -- the seconds of masses of at most one whole are at most those of a year
 pub seconds-fit : (lower upper : ℕ) (s : Seconds) → s ≡ secondsOf lower upper → lower ≤ whole → upper ≤ whole → (s .lower ≤ year) × (s .upper ≤ year)
@@ -60,12 +57,12 @@ given-is lower upper fee limit rate s e none l u z low high room =
     ∙ ap (λ (x : Seconds). credited.Given (creditsOf fee limit rate x)) e
     ∙ ap (λ (n : ℕ). creditAnswer n (creditsOf fee limit rate (secondsOf lower upper))) (sym none)
 
-module _ (h : Header) (links events : List ℕ) (v w fee limit rate : ℕ) where
+module _ (l : Lent) (v w fee limit rate : ℕ) where
   abbrev p : Plan
-  p = planOfLists h links events
+  p = planLent l
 
   abbrev number : ℕ
-  number = creditNumber h links events v w fee limit rate
+  number = creditNumber l v w fee limit rate
 
   abbrev credits : Credits
   credits = creditsOf fee limit rate (secondsOf (lowerOf intact p v w) (upperOf intact p v w))
@@ -73,22 +70,22 @@ module _ (h : Header) (links events : List ℕ) (v w fee limit rate : ℕ) where
   -- what the call promises of its answer
   abbrev Promised : Credited → Type 0
   Promised a =
-      (a ≡ creditOf intact h links events v w fee limit rate)
+      (a ≡ creditOf intact l v w fee limit rate)
       × ((creditsIn a .lower ≤ creditsIn a .upper)
       × (number ≡ 0 → CreditWithin (exactCredit intact p v w fee limit rate) (creditsIn a)))
 
-  module _ (r : Paired) (told : r ≡ pairAnswer (pairNumber h links events v w) (boundsOf intact p v w)) where
+  module _ (r : Paired) (told : r ≡ pairAnswer (pairNumber l v w) (boundsOf intact p v w)) where
     -- the pair is refused, and so the call
     pub pair-refused : (n : ℕ) → r ≡ paired.Refused n → Promised (credited.Refused n)
     unfolding creditNumber
     pair-refused n e =
-        let k = refused-told h links events v w r told n e in
+        let k = refused-told l v w r told n e in
         let is : n ≡ number = stop _ (k .0) (k .1) in
-        (refused-is n number credits is (k .1), (omega arith, λ z. absurd (k .1 (is ∙ z))))
+        (refuses credited.Refused _ is (k .1), (omega arith, λ z. absurd (k .1 (is ∙ z))))
 
     module _ (b : PairBounds) (e : r ≡ paired.Done b) where
-      known : Accepted h links events v w b
-      known = done-told h links events v w r told b e
+      known : Accepted l v w b
+      known = done-told l v w r told b e
 
       -- the terms alone decide
       number-is : termsTest fee limit rate ≡ number
@@ -99,7 +96,7 @@ module _ (h : Header) (links events : List ℕ) (v w fee limit rate : ℕ) where
       ordered zero = credits-ordered p (known .valid) v w fee limit rate
       ordered (suc n) = omega arith
 
-      promised : Promised (creditOf intact h links events v w fee limit rate)
+      promised : Promised (creditOf intact l v w fee limit rate)
       promised = (
         refl,
         (
@@ -112,8 +109,8 @@ module _ (h : Header) (links events : List ℕ) (v w fee limit rate : ℕ) where
 
       pub given-told : (a : Credited) (lower upper : ℕ) → lower ≡ b .lower → upper ≡ b .upper
           → a ≡ creditAnswer (termsTest fee limit rate) (creditsOf fee limit rate (secondsOf lower upper)) → Promised a
-      given-told a lower upper l u is =
-          let same : a ≡ creditOf intact h links events v w fee limit rate =
+      given-told a lower upper low high is =
+          let same : a ≡ creditOf intact l v w fee limit rate =
           is
-          ∙ (λ i. creditAnswer (number-is i) (creditsOf fee limit rate (secondsOf ((l ∙ known .lower-is) i) ((u ∙ known .upper-is) i)))) in
+          ∙ (λ i. creditAnswer (number-is i) (creditsOf fee limit rate (secondsOf ((low ∙ known .lower-is) i) ((high ∙ known .upper-is) i)))) in
           subst Promised (sym same) promised

@@ -1,16 +1,14 @@
 -- Service credits: document 02, request U6. Fee, rate and credits are in cents, the limit in seconds of a year of 365 days.
--- `out` is what is out before the first event (document 02, request U7).
 -- Assumes nothing.
 use mathlib.Core.Bool.{_||_}
-use mathlib.Core.List.{List, [], _∷_}
-use Prim.Native.Nat.{ℕ, zero, suc, _+_, _-_, _*_, _/_, _≤_, min}
+use mathlib.Core.List.{[], _∷_}
+use Prim.Native.Nat.{ℕ, _+_, _-_, _*_, _/_, _≤_, min}
 use lib.Dec.{ltb}
 use lib.IntN.{ℤ, pos, _-ℤ_}
 use lib.ListN.{length}
-use Rattle.mass.specs.Refusal.{refuse, first}
+use Rattle.mass.specs.Refusal.{refuse, first, answered}
 use Rattle.plan.specs.Plan.{Plan}
-use Rattle.plan.specs.LentLists.{planOfLists}
-use Rattle.plan.specs.declared.Header.{Header}
+use Rattle.plan.specs.LentLists.{Lent, planLent}
 use Rattle.network.specs.Outage.{Outage}
 use Rattle.sums.specs.Exact.{scale, exactCut}
 use Rattle.bounds.specs.Bounds.{cuts, lowerOf, upperOf}
@@ -50,10 +48,14 @@ creditsOf fee limit rate seconds = record {
   headroom = headroomOf limit (seconds .upper);
 }
 
--- the case of the answer that a number and the credits stand for: `Refused` with a number that is not 0, else the credits
+-- the answer of a credit
 abbrev pub creditAnswer : ℕ → Credits → Credited
-creditAnswer zero credits = credited.Given credits
-creditAnswer (suc number) credits = credited.Refused (suc number)
+creditAnswer number credits = answered credited.Refused (credited.Given credits) number
+
+-- the number of a credit's answer
+abbrev pub creditedNumber : Credited → ℕ
+creditedNumber (credited.Refused number) = number
+creditedNumber (credited.Given credits) = 0
 
 -- the credits in an answer: all numbers are 0 where it refuses
 abbrev pub creditsIn : Credited → Credits
@@ -61,14 +63,14 @@ creditsIn (credited.Refused number) = record { lower = 0; upper = 0; headroom = 
 creditsIn (credited.Given credits) = credits
 
 -- the number with which a call is refused: that of the bounds of the pair (the lists' tests, 13), then 20, "tested after the pair"
-unfoldable pub creditNumber : Header → List ℕ → List ℕ → (v w fee limit rate : ℕ) → ℕ
-creditNumber h links events v w fee limit rate = first (pairNumber h links events v w ∷ termsTest fee limit rate ∷ [])
+unfoldable pub creditNumber : Lent → (v w fee limit rate : ℕ) → ℕ
+creditNumber l v w fee limit rate = first (pairNumber l v w ∷ termsTest fee limit rate ∷ [])
 
 -- the whole answer of a call
-abbrev pub creditOf : Outage → Header → List ℕ → List ℕ → (v w fee limit rate : ℕ) → Credited
-creditOf out h links events v w fee limit rate =
-    creditAnswer (creditNumber h links events v w fee limit rate)
-    (creditsOf fee limit rate (secondsOf (lowerOf out (planOfLists h links events) v w) (upperOf out (planOfLists h links events) v w)))
+abbrev pub creditOf : Outage → Lent → (v w fee limit rate : ℕ) → Credited
+creditOf out l v w fee limit rate =
+    creditAnswer (creditNumber l v w fee limit rate)
+    (creditsOf fee limit rate (secondsOf (lowerOf out (planLent l) v w) (upperOf out (planLent l) v w)))
 
 -- the credit of a pair's exact downtime, D × 31,536,000 seconds, with D in units of 10^-9n
 abbrev pub exactCredit : Outage → Plan → (v w fee limit rate : ℕ) → ℕ

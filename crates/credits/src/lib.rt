@@ -6,7 +6,7 @@ use plan::Header;
 ghost use mathlib.Core.Path.{_≡_};
 ghost use Prim.Native.Nat.{_≤_};
 ghost use Rattle.mass.specs.Split.{whole};
-ghost use Rattle.plan.specs.LentLists.{planOfLists};
+ghost use Rattle.plan.specs.LentLists.{planOfLists, inWords};
 ghost use Rattle.network.specs.Outage.{intact};
 ghost use Rattle.readings.specs.Downtime.{year, secondsOf};
 ghost use Rattle.credits.specs.Credit.{mostCents, termsTest, creditFor, headroomOf, creditsOf, creditAnswer};
@@ -102,9 +102,9 @@ pub fn credit(
     limit: u64,
     rate: u64,
 ) -> Credited
-    ensures answer { λ r. ⌜ r ≡ creditOf intact h (now (links .entry)) (now (events .entry)) v w fee limit rate ⌝ }
+    ensures answer { λ r. ⌜ r ≡ creditOf intact (inWords h (now (links .entry)) (now (events .entry))) v w fee limit rate ⌝ }
     ensures ordered { λ r. ⌜ creditsIn r .lower ≤ creditsIn r .upper ⌝ }
-    ensures enclosed { λ r. ⌜ (creditNumber h (now (links .entry)) (now (events .entry)) v w fee limit rate ≡ 0
+    ensures enclosed { λ r. ⌜ (creditNumber (inWords h (now (links .entry)) (now (events .entry))) v w fee limit rate ≡ 0
         → CreditWithin (exactCredit intact (planOfLists h (now (links .entry)) (now (events .entry))) v w fee limit rate) (creditsIn r)) ⌝ }
 {
     let answer = bounds::pair(h, links, events, v, w);

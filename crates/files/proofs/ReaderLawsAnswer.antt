@@ -1,7 +1,7 @@
 -- Laws of reading a plan file into lent lists: there is room, and what a reading answers and leaves.
 -- Assumes nothing.
 use mathlib.Core.Path.{_≡_, refl, sym, _∙_, ap}
-use mathlib.Core.List.{List}
+use mathlib.Core.List.{List, [], _∷_}
 use Prim.Native.Nat.{ℕ, zero, suc, _+_, _-_, _*_, _≤_, min}
 use native.Mathlib.Nat.{min-eq-left, min-eq-right}
 use native.Mathlib.Decide.{decLe}
@@ -9,12 +9,14 @@ use native.Mathlib.Omega.{arith}
 use borrow.Author.Tests.{ltb-false}
 use lib.ListN.{length, take, drop, length-drop, drop-of-length-le}
 use lib.Seq.{sets, sets-eq, take-at, take-all, drop-length}
+use Rattle.mass.specs.Refusal.{first}
+use Rattle.refusals.specs.Tests.{roomTest}
+use Rattle.refusals.proofs.TestLaws.{room-pass}
 use Rattle.mass.proofs.RefusalLaws.{first-none, refuse-none}
 use Rattle.plan.specs.File.{eventSize, refusal, eventsAt, linksIn, eventsIn, planOf}
-use Rattle.plan.specs.Calls.{filled, headerOf, readRefusal, readAnswer, headerIn}
+use Rattle.plan.specs.Calls.{filled, headerOf, readNumber, readAnswer, headerIn}
 use Rattle.plan.specs.Lists.{linksOf, linkBytes, eventWords}
 use Rattle.plan.specs.declared.Header.{Header}
-use Rattle.plan.specs.declared.Reading.the-variants as reading
 use Rattle.plan.proofs.FileLawsAccepted.{accepted-counts}
 
 -- ---- a reading from a position on: past the end there is nothing
@@ -30,28 +32,27 @@ from-smaller s at from e = take-all (length s - from) (drop from s) (omega (arit
 
 -- ---- an accepted reading: there is room
 
-module _ (linkRoom eventRoom : ℕ) (b : List ℕ) (e : readRefusal linkRoom eventRoom b ≡ 0) where
+module _ (linkRoom eventRoom : ℕ) (b : List ℕ) (e : readNumber linkRoom eventRoom b ≡ 0) where
   pub read-accepted : refusal b ≡ 0
-  unfolding readRefusal
+  unfolding readNumber
   read-accepted = first-none _ _ e .0
 
   pub read-room : (2 * linksIn b ≤ linkRoom) × (eventsIn b ≤ eventRoom)
-  unfolding readRefusal
+  unfolding readNumber
   read-room =
       let f = first-none _ _ (first-none _ _ e .1) in
       (ltb-false _ _ (refuse-none _ 11 (f .0)), ltb-false _ _ (refuse-none _ 11 (first-none _ _ (f .1) .0)))
 
--- ---- the answer and the lists, by the number
-
-pub reading-stop : {r number : ℕ} (h : Header) → r ≡ number → (r ≡ 0 → ⊥) → reading.Refused r ≡ readAnswer number h
-reading-stop {r} {number} h e n = go number e
+-- with room for 128 links and 128 events, a reading refuses what the check refuses
+pub full-rooms : (b : List ℕ) → readNumber 256 128 b ≡ refusal b
+unfolding readNumber first
+full-rooms b = go (refusal b) refl
   where
-    go : (k : ℕ) → r ≡ k → reading.Refused r ≡ readAnswer k h
-    go zero z = absurd (n z)
-    go (suc k) z = ap reading.Refused z
-
-pub reading-go : (number : ℕ) {x h : Header} → number ≡ 0 → x ≡ h → reading.Accepted x ≡ readAnswer number h
-reading-go number e p = rw e (ap reading.Accepted p)
+    go : (n : ℕ) → refusal b ≡ n → first (n ∷ roomTest 256 (2 * linksIn b) ∷ roomTest 128 (eventsIn b) ∷ []) ≡ n
+    go zero e =
+        let k = accepted-counts b e in
+        rw (room-pass 256 (2 * linksIn b) (omega (arith, k .1)), room-pass 128 (eventsIn b) (k .2))
+    go (suc n) e = refl
 
 -- ---- the lists have as many elements as the counts say
 
@@ -89,15 +90,15 @@ header-stop (suc number) h n = (refl, refl)
 
 -- ---- copying what was read into the lent lists: h is the header of the answer
 
-module _ (linkRoom eventRoom : ℕ) (b : List ℕ) (h : Header) (p : h ≡ headerIn (readAnswer (readRefusal linkRoom eventRoom b) (headerOf b))) where
-  header-go : readRefusal linkRoom eventRoom b ≡ 0 → h ≡ headerOf b
+module _ (linkRoom eventRoom : ℕ) (b : List ℕ) (h : Header) (p : h ≡ headerIn (readAnswer (readNumber linkRoom eventRoom b) (headerOf b))) where
+  header-go : readNumber linkRoom eventRoom b ≡ 0 → h ≡ headerOf b
   header-go e = p ∙ ap (λ (n : ℕ). headerIn (readAnswer n (headerOf b))) e
 
   pub header-bounds : (2 * h .links ≤ linkRoom) × (h .events ≤ eventRoom) × (h .links ≤ 128) × (h .events ≤ 128)
   unfolding headerOf
-  header-bounds = go (readRefusal linkRoom eventRoom b) refl
+  header-bounds = go (readNumber linkRoom eventRoom b) refl
     where
-      go : (n : ℕ) → readRefusal linkRoom eventRoom b ≡ n → (2 * h .links ≤ linkRoom) × (h .events ≤ eventRoom) × (h .links ≤ 128) × (h .events ≤ 128)
+      go : (n : ℕ) → readNumber linkRoom eventRoom b ≡ n → (2 * h .links ≤ linkRoom) × (h .events ≤ eventRoom) × (h .links ≤ 128) × (h .events ≤ 128)
       go zero e =
           let r = read-room linkRoom eventRoom b e in
           let k = accepted-counts b (read-accepted linkRoom eventRoom b e) in
@@ -105,21 +106,21 @@ module _ (linkRoom eventRoom : ℕ) (b : List ℕ) (h : Header) (p : h ≡ heade
       go (suc n) e = rw (p ∙ ap (λ (n : ℕ). headerIn (readAnswer n (headerOf b))) e) (omega arith, omega arith, omega arith, omega arith)
 
   pub read-links : (room list : List ℕ) → 256 ≤ length room
-      → sets list 0 (take (2 * h .links) (filled (readRefusal linkRoom eventRoom b) (linkBytes ((planOf b) .links)) room))
-      ≡ filled (readRefusal linkRoom eventRoom b) (linkBytes ((planOf b) .links)) list
+      → sets list 0 (take (2 * h .links) (filled (readNumber linkRoom eventRoom b) (linkBytes ((planOf b) .links)) room))
+      ≡ filled (readNumber linkRoom eventRoom b) (linkBytes ((planOf b) .links)) list
   unfolding headerOf planOf
   read-links room list l =
-      copied (readRefusal linkRoom eventRoom b) (2 * h .links) (linkBytes ((planOf b) .links)) room list
+      copied (readNumber linkRoom eventRoom b) (2 * h .links) (linkBytes ((planOf b) .links)) room list
       (λ e. rw (header-go e) (sym (length-links (linksIn b) (drop 20 b))))
-      (λ n. omega (arith, ap (λ (x : Header). x .links) p, header-stop (readRefusal linkRoom eventRoom b) (headerOf b) n .0))
+      (λ n. omega (arith, ap (λ (x : Header). x .links) p, header-stop (readNumber linkRoom eventRoom b) (headerOf b) n .0))
       (omega (arith, header-bounds))
 
   pub read-events : (room list : List ℕ) → 512 ≤ length room
-      → sets list 0 (take (4 * h .events) (filled (readRefusal linkRoom eventRoom b) (eventWords ((planOf b) .events)) room))
-      ≡ filled (readRefusal linkRoom eventRoom b) (eventWords ((planOf b) .events)) list
+      → sets list 0 (take (4 * h .events) (filled (readNumber linkRoom eventRoom b) (eventWords ((planOf b) .events)) room))
+      ≡ filled (readNumber linkRoom eventRoom b) (eventWords ((planOf b) .events)) list
   unfolding headerOf planOf
   read-events room list l =
-      copied (readRefusal linkRoom eventRoom b) (4 * h .events) (eventWords ((planOf b) .events)) room list
+      copied (readNumber linkRoom eventRoom b) (4 * h .events) (eventWords ((planOf b) .events)) room list
       (λ e. rw (header-go e) (sym (length-events (eventsIn b) (drop (20 + 2 * linksIn b) b))))
-      (λ n. omega (arith, ap (λ (x : Header). x .events) p, header-stop (readRefusal linkRoom eventRoom b) (headerOf b) n .1))
+      (λ n. omega (arith, ap (λ (x : Header). x .events) p, header-stop (readNumber linkRoom eventRoom b) (headerOf b) n .1))
       (omega (arith, header-bounds))

@@ -17,7 +17,7 @@ ghost use Rattle.sets.specs.Sets.{joined};
 ghost use Rattle.plan.specs.Lists.{linksOf, linkBytes, eventWords};
 ghost use Rattle.plan.specs.File.{membersRefusal, eventsRefusal, setOf, eventsAt, planOf};
 ghost use Rattle.files.specs.Members.{nodeValue, linkValue, Above};
-ghost use Rattle.plan.specs.Calls.{filled, headerOf, readRefusal, readNumber, readAnswer, headerIn};
+ghost use Rattle.plan.specs.Calls.{filled, headerOf, readNumber, readAnswer, readingNumber, headerIn};
 
 // The sets of an event: its nodes, links 0 to 63 and links 64 to 127.
 pub struct Members {
@@ -139,17 +139,17 @@ fn fill_links(s: &[u8], start: usize, count: u64, links: &mut [u8; 256])
 
 // The tests of a reading: 1 to 11, then 12 for the two lists.
 fn read_test(s: &[u8], link_room: usize, event_room: usize) -> u32
-    ensures { λ r. ⌜ r ≡ readRefusal «link_room» «event_room» (now (s .entry)) ⌝ }
+    ensures { λ r. ⌜ r ≡ readNumber «link_room» «event_room» (now (s .entry)) ⌝ }
 {
     let number = plan::check(s);
     if number != 0 {
         return number;
     }
-    let link_list = refusals::room_test(link_room, 2 * (byte_at(s, 6) as usize));
-    if link_list != 0 {
-        return link_list;
-    }
-    refusals::room_test(event_room, byte_at(s, 7) as usize)
+    let tests = [
+        refusals::room_test(link_room, 2 * (byte_at(s, 6) as usize)),
+        refusals::room_test(event_room, byte_at(s, 7) as usize),
+    ];
+    refusals::first_of(&tests)
 }
 
 // Reads a plan into the arrays, where the lent lists have room for `link_room` bytes and `event_room` whole events.
@@ -160,11 +160,11 @@ pub fn read_core(
     links: &mut [u8; 256],
     words: &mut [u64; 512],
 ) -> Reading
-    ensures answer { λ r. ⌜ r ≡ readAnswer (readRefusal «link_room» «event_room» (now (s .entry))) (headerOf (now (s .entry))) ⌝ }
-    ensures links { λ r. ⌜ now (links .exit) ≡ filled (readRefusal «link_room» «event_room» (now (s .entry)))
+    ensures answer { λ r. ⌜ r ≡ readAnswer (readNumber «link_room» «event_room» (now (s .entry))) (headerOf (now (s .entry))) ⌝ }
+    ensures links { λ r. ⌜ now (links .exit) ≡ filled (readNumber «link_room» «event_room» (now (s .entry)))
         (linkBytes ((planOf (now (s .entry))) .links))
         (now (links .entry)) ⌝ }
-    ensures words { λ r. ⌜ now (words .exit) ≡ filled (readRefusal «link_room» «event_room» (now (s .entry)))
+    ensures words { λ r. ⌜ now (words .exit) ≡ filled (readNumber «link_room» «event_room» (now (s .entry)))
         (eventWords ((planOf (now (s .entry))) .events))
         (now (words .entry)) ⌝ }
 {
@@ -195,11 +195,11 @@ pub fn read_at(
     links: &mut [u8; 256],
     words: &mut [u64; 512],
 ) -> Reading
-    ensures answer { λ r. ⌜ r ≡ readAnswer (readRefusal «link_room» «event_room» (drop at (now (s .entry))))
+    ensures answer { λ r. ⌜ r ≡ readAnswer (readNumber «link_room» «event_room» (drop at (now (s .entry))))
         (headerOf (drop at (now (s .entry)))) ⌝ }
-    ensures links { λ r. ⌜ now (links .exit) ≡ filled (readRefusal «link_room» «event_room» (drop at (now (s .entry))))
+    ensures links { λ r. ⌜ now (links .exit) ≡ filled (readNumber «link_room» «event_room» (drop at (now (s .entry))))
         (linkBytes ((planOf (drop at (now (s .entry)))) .links)) (now (links .entry)) ⌝ }
-    ensures words { λ r. ⌜ now (words .exit) ≡ filled (readRefusal «link_room» «event_room» (drop at (now (s .entry))))
+    ensures words { λ r. ⌜ now (words .exit) ≡ filled (readNumber «link_room» «event_room» (drop at (now (s .entry))))
         (eventWords ((planOf (drop at (now (s .entry)))) .events)) (now (words .entry)) ⌝ }
 {
     let from = lent::smaller(at, s.len());
@@ -224,11 +224,11 @@ pub fn header_in(answer: Reading) -> Header
 
 // Reads a plan into lent lists: the links' bytes, and four words to an event. A refusal changes nothing.
 pub fn read(s: &[u8], links: &mut [u8], events: &mut [u64]) -> Reading
-    ensures answer { λ r. ⌜ r ≡ readAnswer (readNumber (now (s .entry)) (now (links .entry)) (now (events .entry)))
-        (headerOf (now (s .entry))) ⌝ }
-    ensures links { λ r. ⌜ now (links .exit) ≡ filled (readNumber (now (s .entry)) (now (links .entry)) (now (events .entry)))
+    ensures answer { λ r. ⌜ r ≡ readAnswer
+        (readNumber (length (now (links .entry))) (length (now (events .entry)) / 4) (now (s .entry))) (headerOf (now (s .entry))) ⌝ }
+    ensures links { λ r. ⌜ now (links .exit) ≡ filled (readingNumber r)
         (linkBytes ((planOf (now (s .entry))) .links)) (now (links .entry)) ⌝ }
-    ensures events { λ r. ⌜ now (events .exit) ≡ filled (readNumber (now (s .entry)) (now (links .entry)) (now (events .entry)))
+    ensures events { λ r. ⌜ now (events .exit) ≡ filled (readingNumber r)
         (eventWords ((planOf (now (s .entry))) .events)) (now (events .entry)) ⌝ }
 {
     let mut bytes = [0u8; 256];

@@ -15,11 +15,12 @@ ghost use mathlib.Core.List.{[], _∷_};
 ghost use mathlib.Core.Path.{_≡_};
 ghost use lib.Dec.{T};
 ghost use lib.Ieee.{binary64, isNan, toBits};
-ghost use Rattle.readings.specs.Figure.{floatsIn, Numbers};
-ghost use Rattle.readings.specs.Downtime.{downtimeAnswer, downtimeRefusal, secondsOf};
+ghost use Rattle.readings.specs.Figure.{figuredNumber, floatsIn, Numbers};
+ghost use Rattle.readings.specs.Downtime.{downtimeAnswer, timedNumber, downtimeRefusal, secondsOf};
+ghost use Rattle.readings.specs.Witness.{witnessedNumber};
+ghost use Rattle.topology_list.specs.Calls.{listedNumber};
 ghost use Rattle.answers.specs.Laid.{laid};
-ghost use Rattle.further_answers.specs.FurtherAnswers.{listedNumber, entriesValues, figuredNumber, figureValues};
-ghost use Rattle.further_answers.specs.FurtherAnswers.{timedNumber, secondsValues, witnessedNumber, failingValues};
+ghost use Rattle.further_answers.specs.FurtherAnswers.{entriesValues, figureValues, secondsValues, failingValues};
 
 // How many entries the topology list has.
 pub fn give_entries(answer: Listed, result: &mut [u64]) -> u32

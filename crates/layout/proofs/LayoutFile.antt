@@ -44,7 +44,7 @@ links-pass nodes count b long ends rest = rw (short-pass (length b) 2 long, ends
 pub link-list-none : (nodes : ℕ) (l : Link) (ls : List Link) → linkListRefusal nodes (l ∷ ls) ≡ 0
     → (endsTest nodes (l .low) (l .high) ≡ 0) × (linkListRefusal nodes ls ≡ 0)
 unfolding linkListRefusal
-link-list-none nodes l ls e = let t = first-none _ _ e in (t .0, first-none _ _ (t .1) .0)
+link-list-none nodes l ls e = first-none _ _ e
 
 pub link-list-pass : (nodes : ℕ) (l : Link) (ls : List Link) → endsTest nodes (l .low) (l .high) ≡ 0 → linkListRefusal nodes ls ≡ 0
     → linkListRefusal nodes (l ∷ ls) ≡ 0
@@ -85,7 +85,7 @@ one-link nodes count x y b ends r =
     }
 
 pub links-read : (nodes count : ℕ) (b : List ℕ) → linksRefusal nodes count b ≡ 0 → ReadLinks nodes count b
-links-read nodes zero b h = unfold linkBytes linksOf linkListRefusal in record { long = omega arith; valid = refl; bytes = refl; counted = refl }
+links-read nodes zero b h = unfold linkBytes linksOf linkListRefusal first in record { long = omega arith; valid = refl; bytes = refl; counted = refl }
 links-read nodes (suc count) [] h = absurd (never (links-none nodes count [] h .0))
   where
     never : 2 ≤ 0 → ⊥

@@ -10,7 +10,7 @@ use Rattle.mass.specs.Split.{certain}
 use Rattle.plan.specs.Plan.{Plan}
 use Rattle.plan.specs.Layout.{layout, Bytes}
 use Rattle.plan.specs.File.{refusal, planOf, nodesIn, linksIn, eventsIn, eventsAt}
-use Rattle.plan.specs.LentLists.{eventListRefusal, planRefusal, planOfLists, listsRefusal}
+use Rattle.plan.specs.LentLists.{Lent, eventListRefusal, planRefusal, planOfLists, planLent, listsNumber}
 use Rattle.mass.specs.Refusal.{first}
 use Rattle.refusals.specs.Tests.{countsTest}
 use Rattle.refusals.proofs.TestLaws.{counts-none, room-pass}
@@ -20,7 +20,6 @@ use lib.Seq.{sets}
 use Rattle.mass.proofs.RefusalLaws.{first-none}
 use Rattle.plan.specs.Lists.{linksOf, eventsOf, linkBytes, eventWords}
 use Rattle.plan.specs.Calls.{headerOf}
-use Rattle.plan.specs.declared.Header.{Header}
 use Rattle.layout.proofs.ListLaws.{length-links-of, length-events-of, links-laid, events-laid, length-events-at}
 use Rattle.layout.proofs.Longest.{events-length, fullPlan, full-valid, full-long}
 
@@ -57,41 +56,41 @@ pub prefix-decides : (b : List ℕ) → refusal (take 50070 b) ≡ refusal b
 prefix-decides b = file-same 50070 b (omega arith)
 
 -- accepted lists denote a valid plan
-pub lists-denote : (h : Header) (linkRoom eventRoom : ℕ) (links words : List ℕ) → listsRefusal h linkRoom eventRoom links words ≡ 0
-    → planRefusal (planOfLists h links words) ≡ 0
-unfolding listsRefusal planOfLists
-lists-denote h linkRoom eventRoom links words e =
+pub lists-denote : (l : Lent) → listsNumber l ≡ 0 → planRefusal (planLent l) ≡ 0
+unfolding listsNumber planOfLists
+lists-denote l e =
     let c = first-none _ _ e in
     let t = first-none _ _ (c .1) in
     let m = first-none _ _ (t .1) in
     let r = first-none _ _ (m .1) in
     let s = first-none _ _ (r .1) in
-    let l = first-none _ _ (s .1) in
-    valid-pass (planOfLists h links words)
+    let k = first-none _ _ (s .1) in
+    valid-pass (planLent l)
     (record {
-      counts = rw (length-links-of (h .links) links, length-events-of (h .events) words) (c .0);
+      counts = rw (length-links-of (l .header .links) (l .links), length-events-of (l .header .events) (l .words)) (c .0);
       threshold = t .0;
       limit = m .0;
-      links = l .0;
-      events = rw (length-links-of (h .links) links) (first-none _ _ (l .1) .0);
+      links = k .0;
+      events = rw (length-links-of (l .header .links) (l .links)) (first-none _ _ (k .1) .0);
     })
 
--- lists in arrays that denote a valid plan are accepted
-pub lists-accepted : (h : Header) (links words : List ℕ) → planRefusal (planOfLists h links words) ≡ 0 → listsRefusal h 256 128 links words ≡ 0
-unfolding listsRefusal planOfLists first
-lists-accepted h links words e =
-    let v = valid-none (planOfLists h links words) e in
+-- where there is room for every plan, the lists of a valid plan are accepted
+pub lists-accepted : (l : Lent) → 256 ≤ length (l .links) → 128 ≤ l .room → planRefusal (planLent l) ≡ 0 → listsNumber l ≡ 0
+unfolding listsNumber planOfLists first
+lists-accepted l long wide e =
+    let h = l .header in
+    let v = valid-none (planLent l) e in
     let counts : countsTest (h .nodes) (h .links) (h .events) ≡ 0 =
-    rw (length-links-of (h .links) links, length-events-of (h .events) words) at (v .counts) in
+    rw (length-links-of (h .links) (l .links), length-events-of (h .events) (l .words)) at (v .counts) in
     let fit = counts-none (h .nodes) (h .links) (h .events) counts in
-    let events : eventListRefusal (h .nodes) (h .links) certain (eventsOf (h .events) words) ≡ 0 =
-    rw (length-links-of (h .links) links) at (v .events) in
+    let events : eventListRefusal (h .nodes) (h .links) certain (eventsOf (h .events) (l .words)) ≡ 0 =
+    rw (length-links-of (h .links) (l .links)) at (v .events) in
     rw (
       counts,
       v .threshold,
       v .limit,
-      room-pass 256 (2 * h .links) (omega (arith, fit .links-fit)),
-      room-pass 128 (h .events) (fit .events-fit),
+      room-pass (length (l .links)) (2 * h .links) (omega (arith, fit .links-fit)),
+      room-pass (l .room) (h .events) (omega (arith, fit .events-fit)),
       v .links,
       events,
     )

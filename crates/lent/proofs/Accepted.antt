@@ -1,27 +1,28 @@
 -- What lists that no test refuses hold.
 -- Assumes nothing.
-use mathlib.Core.Path.{_≡_, _∙_}
+use mathlib.Core.Path.{_≡_, ap, _∙_}
 use mathlib.Core.Bool.{_||_}
 use mathlib.Core.List.{List, [], _∷_}
-use Prim.Native.Nat.{ℕ, zero, suc, _/_, _<_, _≤_}
+use Prim.Native.Nat.{ℕ, zero, suc, _<_, _≤_}
 use native.Mathlib.Omega.{arith}
 use borrow.Author.Tests.{leb-false, ltb-false}
 use lib.Dec.{leb, ltb}
 use lib.ListN.{length}
-use Rattle.mass.proofs.RefusalLaws.{first-none, refuse-none}
+use Rattle.mass.proofs.RefusalLaws.{refuse-none}
 use Rattle.mass.specs.Split.{certain}
 use Rattle.plan.specs.Plan.{Link}
 use Rattle.refusals.specs.Tests.{endsTest, limitTest}
 use Rattle.plan.specs.Lists.{linksOf, eventsOf}
-use Rattle.plan.specs.LentLists.{linkListRefusal, planOfLists, listsRefusal, listsNumber}
+use Rattle.plan.specs.LentLists.{linkListRefusal, planRefusal, planOfLists, inWords, listsNumber}
 use Rattle.plan.specs.Held.{EndsBelow, Falling, Held}
 use Rattle.plan.proofs.HeldLaws.{plan-falling}
 use Rattle.plan.specs.declared.Header.{Header}
 use Rattle.refusals.proofs.TestLaws.{Ranges, counts-none, or-none}
 use Rattle.layout.proofs.LayoutFile.{link-list-none, valid-none, ValidPlan}
 use Rattle.layout.proofs.Theorems.{lists-denote}
+use Rattle.layout.proofs.ListLaws.{length-links-of, length-events-of}
 use Rattle.lent.specs.Taken.{Taken}
-use Rattle.lent.proofs.CopyLaws.{byteCopy, wordCopy, copies-refused, copies-denote}
+use Rattle.lent.proofs.CopyLaws.{byteCopy, wordCopy, copies-denote}
 
 ends-none : (nodes low high : ℕ) → endsTest nodes low high ≡ 0 → (low < nodes) × (high < nodes)
 ends-none nodes low high e =
@@ -39,14 +40,15 @@ limit-few limit e =
     let most : limit ≤ 1000000 = ltb-false 1000000 limit (or-none (ltb limit 1) (ltb 1000000 limit) (refuse-none _ 5 e) .1) in
     omega arith
 
-module _ (h : Header) (linkRoom eventRoom : ℕ) (links words : List ℕ) (accepted : listsRefusal h linkRoom eventRoom links words ≡ 0) where
-  -- the counts are in range
-  pub lists-counted : Ranges (h .nodes) (h .links) (h .events)
-  unfolding listsRefusal
-  lists-counted = counts-none _ _ _ (first-none _ _ accepted .0)
-
+-- what the lists of a valid plan hold
+module _ (h : Header) (links words : List ℕ) (good : planRefusal (planOfLists h links words) ≡ 0) where
   valid : ValidPlan (planOfLists h links words)
-  valid = valid-none (planOfLists h links words) (lists-denote h linkRoom eventRoom links words accepted)
+  valid = valid-none (planOfLists h links words) good
+
+  -- the counts are in range
+  pub plan-counted : Ranges (h .nodes) (h .links) (h .events)
+  unfolding planOfLists
+  plan-counted = counts-none _ _ _ (rw (length-links-of (h .links) links, length-events-of (h .events) words) at (valid .counts))
 
   links-below : EndsBelow (h .nodes) (linksOf (h .links) links)
   unfolding planOfLists
@@ -54,34 +56,33 @@ module _ (h : Header) (linkRoom eventRoom : ℕ) (links words : List ℕ) (accep
 
   events-fall : Falling certain (eventsOf (h .events) words)
   unfolding planOfLists
-  events-fall = plan-falling (planOfLists h links words) (lists-denote h linkRoom eventRoom links words accepted)
+  events-fall = plan-falling (planOfLists h links words) good
 
-  pub lists-held : Held h links words
-  lists-held =
-      let c = lists-counted in
+  pub plan-held : Held h links words
+  plan-held =
+      let c = plan-counted in
       record {
         links-held = record { nodes-fit = c .nodes-fit; links-fit = c .links-fit; ends-below = links-below };
         events-fit = c .events-fit;
         falling = events-fall;
       }
 
-  pub limit-most : h .limit < 4294967296
+  pub plan-limited : h .limit < 4294967296
   unfolding planOfLists
-  limit-most = limit-few (h .limit) (valid .limit)
+  plan-limited = limit-few (h .limit) (valid .limit)
 
--- the number of the copies is that of the lists, and with 0 the lists were taken
-module _ (h : Header) (links events bytes wide : List ℕ) (b : length bytes ≡ 256) (w : length wide ≡ 512) (bytes′ wide′ : List ℕ)
-    (c : bytes′ ≡ byteCopy h links events bytes wide b w) (d : wide′ ≡ wordCopy h links events bytes wide b w) where
-  pub copies-number : listsRefusal h (length links) (length events / 4) bytes′ wide′ ≡ listsNumber h links events
-  copies-number = rw (c, d) (copies-refused h links events bytes wide b w)
-
-  pub taken : listsNumber h links events ≡ 0 → Taken h links events bytes′ wide′
-  taken z =
-      let same : listsRefusal h (length links) (length events / 4) bytes′ wide′ ≡ 0 = copies-number ∙ z in
-      record {
-        denoted = rw (c, d) (copies-denote h links events bytes wide b w z);
-        valid = lists-denote h (length links) (length events / 4) links events z;
-        held = lists-held h (length links) (length events / 4) bytes′ wide′ same;
-        some-node = lists-counted h (length links) (length events / 4) links events z .some;
-        limited = limit-most h (length links) (length events / 4) links events z;
-      }
+-- accepted lists were taken by copies of their first 256 bytes and 512 words
+pub taken : (h : Header) (links events bytes wide : List ℕ) → length bytes ≡ 256 → length wide ≡ 512 → (bytes′ wide′ : List ℕ)
+    → bytes′ ≡ byteCopy links bytes → wide′ ≡ wordCopy events wide → listsNumber (inWords h links events) ≡ 0
+    → Taken h links events bytes′ wide′
+taken h links events bytes wide b w bytes′ wide′ c d z =
+    let same : planOfLists h bytes′ wide′ ≡ planOfLists h links events = rw (c, d) (copies-denote h links events bytes wide b w z) in
+    let good = lists-denote (inWords h links events) z in
+    let held′ : planRefusal (planOfLists h bytes′ wide′) ≡ 0 = ap planRefusal same ∙ good in
+    record {
+      denoted = same;
+      valid = good;
+      held = plan-held h bytes′ wide′ held′;
+      some-node = plan-counted h links events good .some;
+      limited = plan-limited h links events good;
+    }

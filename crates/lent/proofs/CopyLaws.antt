@@ -1,18 +1,14 @@
--- Copies of lent lists: what is refused of them, and the plan that they denote, go by the entries up to the counts only.
+-- Copies of lent lists: the plan that they denote goes by the entries up to the counts only.
 -- Assumes nothing.
 use mathlib.Core.Path.{_≡_, refl, sym, ap, _∙_}
-use mathlib.Core.List.{List, [], _∷_, _++_}
+use mathlib.Core.List.{List, [], _∷_}
 use Prim.Native.Nat.{ℕ, zero, suc, _*_, _/_, _≤_, min}
 use native.Mathlib.Omega.{arith}
 use lib.ListN.{length, take}
 use lib.Seq.{sets, sets-eq, take-take, take-append-le, length-take-le}
-use Rattle.mass.specs.Refusal.{first}
 use Rattle.mass.proofs.RefusalLaws.{first-none}
-use Rattle.mass.specs.Split.{certain}
-use Rattle.plan.specs.Plan.{Plan}
 use Rattle.plan.specs.Lists.{linksOf, eventsOf}
-use Rattle.refusals.specs.Tests.{countsTest, thresholdTest, limitTest, roomTest}
-use Rattle.plan.specs.LentLists.{linkListRefusal, eventListRefusal, planOfLists, listsRefusal}
+use Rattle.plan.specs.LentLists.{Lent, planOfLists, inWords, listsNumber}
 use Rattle.plan.specs.declared.Header.{Header}
 use Rattle.refusals.proofs.TestLaws.{Ranges, counts-none, room-none}
 
@@ -58,58 +54,30 @@ copied from to count used h l u =
     let n : length (take count from) ≡ count = length-take-le count from h in
     rw (sets-eq (take count from) to 0 (omega arith)) (take-append-le used (take count from) _ (omega arith) ∙ take-take used count from u)
 
--- later tests matter only where no earlier one refuses
-first-later : (tests a b : List ℕ) → (first tests ≡ 0 → a ≡ b) → first (tests ++ a) ≡ first (tests ++ b)
-unfolding first
-first-later [] a b same = ap first (same refl)
-first-later (zero ∷ tests) a b same = first-later tests a b same
-first-later (suc number ∷ tests) a b same = refl
-
--- the first tests refuse nothing where none does
-first-front : (tests later : List ℕ) → first (tests ++ later) ≡ 0 → first tests ≡ 0
-unfolding first
-first-front [] later e = refl
-first-front (zero ∷ tests) later e = first-front tests later e
-first-front (suc number ∷ tests) later e = e
-
 -- copies of the first 256 bytes and 512 words
-module _ (h : Header) (links words bytes wide : List ℕ) (b : length bytes ≡ 256) (w : length wide ≡ 512) where
-  abbrev pub byteCopy : List ℕ
-  byteCopy = sets bytes 0 (take (min (length links) 256) links)
+abbrev pub byteCopy : List ℕ → List ℕ → List ℕ
+byteCopy links bytes = sets bytes 0 (take (min (length links) 256) links)
 
-  abbrev pub wordCopy : List ℕ
-  wordCopy = sets wide 0 (take (min (length words) 512) words)
+abbrev pub wordCopy : List ℕ → List ℕ → List ℕ
+wordCopy words wide = sets wide 0 (take (min (length words) 512) words)
 
-  -- the tests that come before those of the lists' entries
-  abbrev countsAndRooms : List ℕ
-  countsAndRooms =
-      countsTest (h .nodes) (h .links) (h .events)
-      ∷ thresholdTest (h .threshold)
-      ∷ limitTest (h .limit)
-      ∷ roomTest (length links) (2 * h .links)
-      ∷ roomTest (length words / 4) (h .events)
-      ∷ []
+-- accepted lists have counts in range, and room for them
+pub lists-fit : (l : Lent) → listsNumber l ≡ 0
+    → Ranges (l .header .nodes) (l .header .links) (l .header .events) × ((2 * l .header .links ≤ length (l .links)) × (l .header .events ≤ l .room))
+unfolding listsNumber
+lists-fit l z =
+    let one = first-none _ _ z in
+    let four′ = first-none _ _ (first-none _ _ (first-none _ _ (one .1) .1) .1) in
+    (counts-none _ _ _ (one .0), (room-none _ _ (four′ .0), room-none _ _ (first-none _ _ (four′ .1) .0)))
 
-  same-lists : first countsAndRooms ≡ 0 → planOfLists h byteCopy wordCopy ≡ planOfLists h links words
-  same-lists z =
-      let one = first-none _ _ z in
-      let four′ = first-none _ _ (first-none _ _ (first-none _ _ (one .1) .1) .1) in
-      let fit : Ranges (h .nodes) (h .links) (h .events) = counts-none _ _ _ (one .0) in
-      let l : 2 * h .links ≤ length links = room-none _ _ (four′ .0) in
-      let v : h .events ≤ length words / 4 = room-none _ _ (first-none _ _ (four′ .1) .0) in
-      same-plan h _ _ _ _
-      (copied links bytes (min (length links) 256) (2 * h .links) (omega arith) (omega arith) (omega arith))
-      (copied words wide (min (length words) 512) (4 * h .events) (omega arith) (omega arith) (omega arith))
-
-  -- they are refused as the lists are
-  pub copies-refused : listsRefusal h (length links) (length words / 4) byteCopy wordCopy ≡ listsRefusal h (length links) (length words / 4) links words
-  unfolding listsRefusal planOfLists
-  copies-refused =
-      first-later countsAndRooms _ _
-      (λ z.
-      ap (λ (p : Plan). linkListRefusal (h .nodes) (p .links) ∷ eventListRefusal (h .nodes) (h .links) certain (p .events) ∷ []) (same-lists z))
-
-  -- and denote the same plan where they are accepted
-  pub copies-denote : listsRefusal h (length links) (length words / 4) links words ≡ 0 → planOfLists h byteCopy wordCopy ≡ planOfLists h links words
-  unfolding listsRefusal
-  copies-denote e = same-lists (first-front countsAndRooms _ e)
+-- they denote the same plan where the lists are accepted
+pub copies-denote : (h : Header) (links words bytes wide : List ℕ) → length bytes ≡ 256 → length wide ≡ 512
+    → listsNumber (inWords h links words) ≡ 0 → planOfLists h (byteCopy links bytes) (wordCopy words wide) ≡ planOfLists h links words
+copies-denote h links words bytes wide b w z =
+    let f = lists-fit (inWords h links words) z in
+    let fit : Ranges (h .nodes) (h .links) (h .events) = f .0 in
+    let l : 2 * h .links ≤ length links = f .1 .0 in
+    let v : h .events ≤ length words / 4 = f .1 .1 in
+    same-plan h _ _ _ _
+    (copied links bytes (min (length links) 256) (2 * h .links) (omega arith) (omega arith) (omega arith))
+    (copied words wide (min (length words) 512) (4 * h .events) (omega arith) (omega arith) (omega arith))

@@ -15,6 +15,7 @@ use Rattle.sets.specs.Sets.{joined}
 use Rattle.plan.specs.Plan.{Link, Event}
 use Rattle.plan.specs.Lists.{linksOf, eventsOf}
 use Rattle.refusals.specs.Tests.{endsTest, orderTest, setsTest}
+use Rattle.refusals.proofs.OrderLaws.{stop, skip, last, first-run}
 use Rattle.plan.specs.LentLists.{linkListRefusal, eventListRefusal}
 
 -- storing a, then b after it
@@ -76,46 +77,44 @@ module _ (nodes : ℕ) (bytes : List ℕ) (at left : ℕ) (some : 0 < left) wher
   pub link-decides : (r : ℕ) → r ≡ endsTest nodes (getD bytes at 0) (getD bytes (at + 1) 0) → (r ≡ 0 → ⊥)
       → r ≡ linkListRefusal nodes (linksOf left (drop at bytes))
   unfolding linkListRefusal
-  link-decides r e n = rw (links-next bytes at left some) (decides r _ _ e n)
+  link-decides r e n = rw (links-next bytes at left some) (stop _ e n)
 
   pub link-passes : endsTest nodes (getD bytes at 0) (getD bytes (at + 1) 0) ≡ 0
       → linkListRefusal nodes (linksOf (left - 1) (drop (at + 2) bytes)) ≡ linkListRefusal nodes (linksOf left (drop at bytes))
   unfolding linkListRefusal
-  link-passes e = rw (links-next bytes at left some) (sym (first-skip _ _ e ∙ first-last _))
+  link-passes e = rw (links-next bytes at left some) (sym (first-skip _ _ e))
 
 -- no link is left, and none is refused
 pub links-end : (nodes left : ℕ) (bytes : List ℕ) → left ≤ 0 → 0 ≡ linkListRefusal nodes (linksOf left bytes)
-unfolding linkListRefusal linksOf
+unfolding linkListRefusal linksOf first
 links-end nodes zero bytes h = refl
 links-end nodes (suc left) bytes h = absurd (omega arith)
 
--- the next event decides by one of its tests, or leaves it to the others
+-- the tests 8, 9 and 10 of the event at a position
+abbrev pub eventTests : ℕ → ℕ → ℕ → List ℕ → ℕ → List ℕ
+eventTests nodes links before words at =
+    probabilityTest (getD words at 0)
+    ∷ orderTest before (getD words at 0)
+    ∷ setsTest nodes links (eventAt words at .nodes) (eventAt words at .links)
+    ∷ []
+
+-- the next event decides by its tests, or leaves it to the others
 module _ (nodes links before : ℕ) (words : List ℕ) (at left : ℕ) (some : 0 < left) where
-  pub probability-decides : (r : ℕ) → r ≡ probabilityTest (getD words at 0) → (r ≡ 0 → ⊥)
-      → r ≡ eventListRefusal nodes links before (eventsOf left (drop at words))
+  abbrev tests : List ℕ
+  tests = eventTests nodes links before words at
+
+  event-run : first (first tests ∷ eventListRefusal nodes links (getD words at 0) (eventsOf (left - 1) (drop (at + 4) words)) ∷ [])
+      ≡ eventListRefusal nodes links before (eventsOf left (drop at words))
   unfolding eventListRefusal
-  probability-decides r e n = rw (events-next words at left some) (decides r _ _ e n)
+  event-run = rw (events-next words at left some) (first-run tests _)
 
-  module _ (fair : probabilityTest (getD words at 0) ≡ 0) where
-    pub order-decides : (r : ℕ) → r ≡ orderTest before (getD words at 0) → (r ≡ 0 → ⊥)
-        → r ≡ eventListRefusal nodes links before (eventsOf left (drop at words))
-    unfolding eventListRefusal
-    order-decides r e n = rw (events-next words at left some, first-skip _ _ fair) (decides r _ _ e n)
+  pub event-decides : (r : ℕ) → r ≡ first tests → (r ≡ 0 → ⊥) → r ≡ eventListRefusal nodes links before (eventsOf left (drop at words))
+  event-decides r e n = stop _ e n ∙ event-run
 
-    module _ (falls : orderTest before (getD words at 0) ≡ 0) where
-      pub sets-decide : (r : ℕ) → r ≡ setsTest nodes links (eventAt words at .nodes) (eventAt words at .links) → (r ≡ 0 → ⊥)
-          → r ≡ eventListRefusal nodes links before (eventsOf left (drop at words))
-      unfolding eventListRefusal
-      sets-decide r e n =
-          rw (events-next words at left some, first-skip _ _ fair, first-skip _ _ falls) (decides r _ _ e n)
-
-      pub event-passes : setsTest nodes links (eventAt words at .nodes) (eventAt words at .links) ≡ 0
-          → eventListRefusal nodes links (getD words at 0) (eventsOf (left - 1) (drop (at + 4) words))
-          ≡ eventListRefusal nodes links before (eventsOf left (drop at words))
-      unfolding eventListRefusal
-      event-passes e =
-          rw (events-next words at left some)
-          (sym (first-skip _ _ fair ∙ first-skip _ _ falls ∙ first-skip _ _ e ∙ first-last _))
+  pub event-passes : first tests ≡ 0
+      → eventListRefusal nodes links (getD words at 0) (eventsOf (left - 1) (drop (at + 4) words))
+      ≡ eventListRefusal nodes links before (eventsOf left (drop at words))
+  event-passes e = skip _ refl e (last refl) ∙ event-run
 
 -- no event is left, and none is refused
 pub events-end : (nodes links before left : ℕ) (words : List ℕ) → left ≤ 0 → 0 ≡ eventListRefusal nodes links before (eventsOf left words)

@@ -9,7 +9,7 @@ ghost use lib.ListN.{length, take};
 ghost use lib.Seq.{sets};
 ghost use Rattle.mass.specs.Split.{certain};
 ghost use Rattle.plan.specs.Lists.{linksOf, eventsOf};
-ghost use Rattle.plan.specs.LentLists.{linkListRefusal, eventListRefusal, listsRefusal, listsNumber};
+ghost use Rattle.plan.specs.LentLists.{linkListRefusal, eventListRefusal, inWords, listsNumber};
 ghost use Rattle.lent.specs.Taken.{Taken};
 
 // Lays the first `count` bytes of a list down from a position on.
@@ -99,17 +99,14 @@ fn event_list_refusal(words: &[u64], count: u64, nodes: u64, links: u64) -> u32
     // Each turn takes one of the `left` events.
     while 0 < left {
         let q = words[at];
-        let above = mass::probability_test(q);
-        if above != 0 {
-            return above;
-        }
-        let order = refusals::order_test(before, q);
-        if order != 0 {
-            return order;
-        }
-        let sets = refusals::sets_test(nodes, links, words[at + 1], words[at + 2], words[at + 3]);
-        if sets != 0 {
-            return sets;
+        let tests = [
+            mass::probability_test(q),
+            refusals::order_test(before, q),
+            refusals::sets_test(nodes, links, words[at + 1], words[at + 2], words[at + 3]),
+        ];
+        let number = refusals::first_of(&tests);
+        if number != 0 {
+            return number;
         }
         before = q;
         at += 4;
@@ -118,42 +115,32 @@ fn event_list_refusal(words: &[u64], count: u64, nodes: u64, links: u64) -> u32
     0
 }
 
-// The number with which a header and lent lists are refused: 4 to 6, 12 for the two lists, 7, then 8, 9, 10. The lists stand in the
-// arrays; they had room for `link_room` bytes and `event_room` whole events.
-pub fn lists_refusal(
-    h: Header,
-    link_room: usize,
-    event_room: usize,
-    links: &[u8; 256],
-    words: &[u64; 512],
-) -> u32
-    ensures { λ r. ⌜ r ≡ listsRefusal h «link_room» «event_room» (now (links .entry)) (now (words .entry)) ⌝ }
+// The number with which a header and lent lists are refused: 4 to 6, 12 for the two lists, 7, then 8, 9, 10.
+pub fn lists_refusal(h: Header, links: &[u8], events: &[u64]) -> u32
+    ensures { λ r. ⌜ r ≡ listsNumber (inWords h (now (links .entry)) (now (events .entry))) ⌝ }
 {
-    let counts = refusals::counts_test(h.nodes, h.links, h.events);
-    if counts != 0 {
-        return counts;
+    let numbers = [
+        refusals::counts_test(h.nodes, h.links, h.events),
+        refusals::threshold_test(h.threshold),
+        refusals::limit_test(h.limit),
+    ];
+    let header = refusals::first_of(&numbers);
+    if header != 0 {
+        return header;
     }
-    let threshold = refusals::threshold_test(h.threshold);
-    if threshold != 0 {
-        return threshold;
-    }
-    let limit = refusals::limit_test(h.limit);
-    if limit != 0 {
-        return limit;
-    }
-    let link_list = refusals::room_test(link_room, 2 * (h.links as usize));
-    if link_list != 0 {
-        return link_list;
-    }
-    let event_list = refusals::room_test(event_room, h.events as usize);
-    if event_list != 0 {
-        return event_list;
+    let rooms = [
+        refusals::room_test(links.len(), 2 * (h.links as usize)),
+        refusals::room_test(events.len() / 4, h.events as usize),
+    ];
+    let short = refusals::first_of(&rooms);
+    if short != 0 {
+        return short;
     }
     let ends = link_list_refusal(links, h.links, h.nodes);
     if ends != 0 {
         return ends;
     }
-    event_list_refusal(words, h.events, h.nodes, h.links)
+    event_list_refusal(events, h.events, h.nodes, h.links)
 }
 
 // Takes a header and lent lists into the arrays, and answers the number with which they are refused.
@@ -164,7 +151,7 @@ pub fn accept(
     bytes: &mut [u8; 256],
     words: &mut [u64; 512],
 ) -> u32
-    ensures number { λ r. ⌜ r ≡ listsNumber h (now (links .entry)) (now (events .entry)) ⌝ }
+    ensures number { λ r. ⌜ r ≡ listsNumber (inWords h (now (links .entry)) (now (events .entry))) ⌝ }
     ensures taken { λ r. ⌜ (r ≡ 0 → Taken h (now (links .entry)) (now (events .entry)) (now (bytes .exit)) (now (words .exit))) ⌝ }
     ensures bytes { λ r. ⌜ now (bytes .exit) ≡ sets (now (bytes .entry)) 0
         (take (min (length (now (links .entry))) 256) (now (links .entry))) ⌝ }
@@ -172,5 +159,5 @@ pub fn accept(
         (take (min (length (now (events .entry))) 512) (now (events .entry))) ⌝ }
 {
     load(links, events, bytes, words);
-    lists_refusal(h, links.len(), events.len() / 4, bytes, words)
+    lists_refusal(h, links, events)
 }

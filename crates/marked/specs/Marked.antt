@@ -1,5 +1,4 @@
 -- The twelve marked plans of document 01, section "Marked plans", in one list. The theorem about them stands in `proofs/Theorems.antt`.
--- `out` is what is out before the first event (document 02, request U7).
 -- Assumes nothing.
 use mathlib.Core.Path.{_≡_}
 use mathlib.Core.Bool.{Bool, true, false}

@@ -1,11 +1,9 @@
 -- Units and the splitting of mass: document 01, section "Units and the splitting of mass".
 -- Assumes nothing.
-use mathlib.Core.Path.{_≡_, refl}
 use mathlib.Core.List.{[], _∷_}
-use Prim.Native.Nat.{ℕ, zero, suc, _+_, _-_, _*_, _/_, _≤_}
-use native.Mathlib.Omega.{arith}
+use Prim.Native.Nat.{ℕ, _-_, _*_, _/_}
 use lib.Dec.{ltb}
-use Rattle.mass.specs.Refusal.{refuse, first}
+use Rattle.mass.specs.Refusal.{refuse, first, answered}
 use Rattle.mass.specs.declared.Mass.{Mass}
 use Rattle.mass.specs.declared.BothParts.{BothParts}
 use Rattle.mass.specs.declared.Parts.{Parts}
@@ -47,11 +45,10 @@ units m = record { units = m }
 abbrev pub bothParts : ℕ → ℕ → BothParts
 bothParts m q = record { fails = units (failing m q); works = units (working m q) }
 
--- the case of the answer that a number and the two parts stand for: `Refused` with a number that is not 0, else the parts
-abbrev pub partsAnswer : ℕ → ℕ → ℕ → Parts
-partsAnswer zero fails works = Split (units fails) (units works)
-partsAnswer (suc number) fails works = Refused (suc number)
+-- the answer of a split
+abbrev pub partsAnswer : ℕ → BothParts → Parts
+partsAnswer number parts = answered Refused (Split (parts .fails) (parts .works)) number
 
 -- what splitting the mass m at an event of probability q answers
 unfoldable pub splitOf : ℕ → ℕ → Parts
-splitOf m q = partsAnswer (splitRefusal m q) (failing m q) (working m q)
+splitOf m q = partsAnswer (splitRefusal m q) (bothParts m q)

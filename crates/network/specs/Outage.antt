@@ -8,7 +8,8 @@ use lib.ListN.{getD}
 use Rattle.sets.specs.Sets.{bit}
 use Rattle.plan.specs.Plan.{Event}
 
--- the failed nodes and the failed links
+-- the failed nodes and the failed links. `out` beside a plan is everywhere what is out before the first event (document 02, request U7);
+-- where nothing is, it is `intact`
 pub record Outage : Type 0 where
   pub nodes : ℕ
   pub links : ℕ

@@ -47,5 +47,5 @@ pub fn held(n: usize, links: &[u8; 256], count: usize) -> bool
         threshold: 1,
         limit: 1,
     };
-    lent::lists_refusal(h, 256, 128, links, &words) == 0
+    lent::lists_refusal(h, links, &words) == 0
 }

@@ -1,6 +1,6 @@
 -- Links are refused as those of a plan without events, and what the call answers.
 -- Assumes nothing.
-use mathlib.Core.Path.{_≡_, refl, sym, ap, _∙_}
+use mathlib.Core.Path.{_≡_, refl, ap, _∙_}
 use mathlib.Core.List.{List, [], _∷_}
 use mathlib.Core.Bool.{Bool}
 use Prim.Native.Nat.{ℕ, zero, suc, _*_, _/_, _<_}
@@ -10,9 +10,8 @@ use lib.ListN.{length}
 use Rattle.mass.specs.Refusal.{refuse, first}
 use Rattle.mass.proofs.RefusalLaws.{refuse-none}
 use Rattle.refusals.specs.Tests.{countsTest, roomTest}
-use Rattle.refusals.proofs.OrderLaws.{stop, skip, last}
 use Rattle.plan.specs.Lists.{linksOf, eventsOf}
-use Rattle.plan.specs.LentLists.{linkListRefusal, eventListRefusal, planOfLists, listsRefusal, listsNumber}
+use Rattle.plan.specs.LentLists.{linkListRefusal, eventListRefusal, planOfLists, inWords, listsNumber}
 use Rattle.plan.specs.Plan.{Plan}
 use Rattle.plan.specs.declared.Header.{Header}
 use Rattle.lent.specs.Taken.{Taken}
@@ -21,7 +20,7 @@ use Rattle.network.specs.Topology.{networkOf}
 use Rattle.network.specs.declared.Failed.{Failed}
 use Rattle.topology.specs.Rounds.{reachOf}
 use Rattle.topology.specs.declared.Reach.{Reach}
-use Rattle.node_reach.specs.NodeReach.{linksNumber, nodeTest, reachNumber, reachIn, reachValues, LinksTaken}
+use Rattle.node_reach.specs.NodeReach.{linksNumber, nodeTest, reachIn, reachValues, LinksTaken}
 
 -- a header without events
 abbrev pub plain : ℕ → ℕ → Header
@@ -35,8 +34,8 @@ left-out zero (suc room) ends = refl
 left-out zero zero (suc ends) = refl
 left-out zero zero zero = refl
 
-pub without-events : (nodes count : ℕ) (links words : List ℕ) → listsNumber (plain nodes count) links words ≡ linksNumber nodes count links
-unfolding listsRefusal linksNumber eventListRefusal eventsOf
+pub without-events : (nodes count : ℕ) (links words : List ℕ) → listsNumber (inWords (plain nodes count) links words) ≡ linksNumber nodes count links
+unfolding listsNumber linksNumber eventListRefusal eventsOf
 without-events nodes count links words =
     ap (λ (room : ℕ). first (countsTest nodes count 0 ∷ 0 ∷ 0 ∷ roomTest (length links) (2 * count) ∷ room ∷ linkListRefusal nodes (linksOf count links) ∷ 0 ∷ [])) none
     ∙ left-out (countsTest nodes count 0) (roomTest (length links) (2 * count)) (linkListRefusal nodes (linksOf count links))
@@ -61,17 +60,3 @@ node-inside nodes v e = leb-false nodes v (refuse-none (leb nodes v) 12 e)
 pub same-links : (nodes count : ℕ) (links bytes : List ℕ) (failed : Failed) (v : ℕ) → LinksTaken nodes count links bytes
     → reachIn nodes count bytes failed v ≡ reachIn nodes count links failed v
 same-links nodes count links bytes failed v t = ap (λ ls. reachOf (networkOf nodes ls (outage failed)) v) (t .same)
-
-module _ (nodes count : ℕ) (links : List ℕ) (v lists : ℕ) (is : lists ≡ linksNumber nodes count links) where
-  pub links-refuse : (lists ≡ 0 → ⊥) → lists ≡ reachNumber nodes count links v
-  unfolding reachNumber
-  links-refuse some = stop _ is some
-
-  module _ (accepted : lists ≡ 0) (node : ℕ) (node-is : node ≡ nodeTest nodes v) where
-    pub node-refused : (node ≡ 0 → ⊥) → node ≡ reachNumber nodes count links v
-    unfolding reachNumber
-    node-refused some = skip _ is accepted (stop _ node-is some)
-
-    pub none-refuses : node ≡ 0 → 0 ≡ reachNumber nodes count links v
-    unfolding reachNumber
-    none-refuses z = skip _ is accepted (sym z ∙ last node-is)

@@ -50,15 +50,14 @@ fn give_reach(
         (reachValues r (reachIn nodes count (now (links .entry)) failed v)) (now (result .entry)) ⌝ }
 {
     let mut bytes = [0u8; 256];
-    let lists = accept_links(nodes, count, links, &mut bytes);
-    if lists != 0 {
+    let tests = [
+        accept_links(nodes, count, links, &mut bytes),
+        node_test(nodes, v),
+    ];
+    let number = refusals::first_of(&tests);
+    if number != 0 {
         give_two(result, 0, 0);
-        return lists;
-    }
-    let wrong = node_test(nodes, v);
-    if wrong != 0 {
-        give_two(result, 0, 0);
-        return wrong;
+        return number;
     }
     let n = nodes as usize;
     let k = count as usize;

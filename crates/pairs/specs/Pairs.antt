@@ -7,17 +7,17 @@ use lib.Dec.{leb}
 use Rattle.mass.specs.Refusal.{refuse}
 
 -- the values of f at the pairs (v, w), (v, w + 1), .., `count` of them
-unfoldable pub row : (ℕ → ℕ → ℕ) → ℕ → ℕ → ℕ → List ℕ
+unfoldable pub row : {A : Type 0} → (ℕ → ℕ → A) → ℕ → ℕ → ℕ → List A
 row f v w zero = []
 row f v w (suc count) = f v w ∷ row f v (suc w) count
 
 -- the rows of `count` nodes from v on, of n nodes: node v is paired with each node after it
-unfoldable pub rows : (ℕ → ℕ → ℕ) → ℕ → ℕ → ℕ → List ℕ
+unfoldable pub rows : {A : Type 0} → (ℕ → ℕ → A) → ℕ → ℕ → ℕ → List A
 rows f n v zero = []
 rows f n v (suc count) = row f v (suc v) (n - suc v) ++ rows f n (suc v) count
 
 -- the values of f at all pairs of n nodes, in order
-unfoldable pub table : (ℕ → ℕ → ℕ) → ℕ → List ℕ
+unfoldable pub table : {A : Type 0} → (ℕ → ℕ → A) → ℕ → List A
 table f n = rows f n 0 n
 
 -- the place of the first pair of node v in the order: node u comes first in n − u − 1 pairs

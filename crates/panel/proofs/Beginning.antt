@@ -23,7 +23,7 @@ use Rattle.walk_state.specs.declared.Walk.{Walk}
 abbrev zeros : ℕ → List ℕ
 zeros n = replicate n 0
 
-module _ (h : Header) (links events bytes words : List ℕ) (at : ℕ) (stack : List ℕ) (b : Begun 0 whole 0 0 at (zeros 512) stack) where
+module _ (h : Header) (links events bytes words : List ℕ) (at : ℕ) (stack : List ℕ) (b : Begun at (zeros 512) stack) where
   -- the walk as it was made
   abbrev made : Walk
   made =
@@ -38,7 +38,7 @@ module _ (h : Header) (links events bytes words : List ℕ) (at : ℕ) (stack : 
       λ i. record { header = h; links = c i; events = d i; stack = laid i; sums = zeros 2016; at = place i; reached = 0; count = 0; mass = 0 }
 
   alone : Alone 0 whole 0 0 at stack
-  alone = begun-alone 0 whole 0 0 at (zeros 512) stack refl b
+  alone = begun-alone at (zeros 512) stack refl b
 
   pub begun : Taken h links events bytes words → WalkAt intact (planOfLists h links events) 0 made
   unfolding planOfLists

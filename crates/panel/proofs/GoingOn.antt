@@ -11,7 +11,7 @@ use Rattle.sets.specs.Sets.{digit}
 use Rattle.plan.specs.Plan.{Plan}
 use Rattle.plan.specs.Held.{Held}
 use Rattle.plan.specs.LentLists.{planOfLists}
-use Rattle.lent.proofs.Accepted.{lists-held, limit-most}
+use Rattle.lent.proofs.Accepted.{plan-held, plan-limited}
 use Rattle.network.specs.Outage.{intact}
 use Rattle.walk.specs.Scenario.{Scenario}
 use Rattle.walk.specs.Ends.{End, sumEnds}
@@ -21,7 +21,7 @@ use Rattle.walk.proofs.EndsLaws.{sumEnds-append, count-sum}
 use Rattle.walk.proofs.PendingMass.{pending-covers}
 use Rattle.walk.proofs.Valid.{held-probable}
 use Rattle.bounds.specs.Bounds.{cuts}
-use Rattle.bounds.specs.Tallied.{Ready, Tallied, reached}
+use Rattle.bounds.specs.Tallied.{walkedPlan, runState, Ready, Tallied}
 use Rattle.bounds.specs.Summed.{Summed}
 use Rattle.bounds.specs.declared.Tally.{Tally}
 use Rattle.panel.specs.Walks.{capped, walkPlan, endsToCome, WalkAt}
@@ -38,10 +38,10 @@ tallyOf w allowed = record { at = w .at; left = allowed; number = w .count; mass
 
 module _ (w : Walk) (s : SoundWalk w) where
   pub held : Held (w .header) (w .links) (w .events)
-  held = lists-held (w .header) 256 128 (w .links) (w .events) (s .accepted)
+  held = plan-held (w .header) (w .links) (w .events) (s .valid)
 
   pub limited : w .header .limit < 4294967296
-  limited = limit-most (w .header) 256 128 (w .links) (w .events) (s .accepted)
+  limited = plan-limited (w .header) (w .links) (w .events) (s .valid)
 
   module _ (stack-size : length (w .stack) ≡ 512) where
     pub sound-stack : Stack (w .header .events) (w .at) (w .stack)
@@ -54,7 +54,7 @@ module _ (w : Walk) (s : SoundWalk w) where
         }
 
     pub ready : (allowed : ℕ) → allowed + w .reached ≤ w .header .limit → length (w .sums) ≡ 2016
-        → Ready (w .header) (w .links) (w .events) (w .stack) (w .sums) (tallyOf w allowed)
+        → Ready (w .header) (w .links) (w .events) (runState (w .stack) (w .sums) (tallyOf w allowed))
     ready allowed fits size =
         record {
           held = held;
@@ -104,7 +104,8 @@ module _ (n k : ℕ) (list : List End) where
 -- ---- what the loop promises
 
 module _ (w : Walk) (allowed : ℕ) (stack′ sums′ : List ℕ) (r : Tally)
-    (t : Tallied intact (w .header) (w .links) (w .events) (w .stack) (w .sums) (tallyOf w allowed) stack′ sums′ r) where
+    (t :
+    Tallied (walkedPlan intact (w .header) (w .links) (w .events)) (runState (w .stack) (w .sums) (tallyOf w allowed)) (runState stack′ sums′ r)) where
   -- the walk after so many ends more
   abbrev walkOn : ℕ → Walk
   walkOn got =

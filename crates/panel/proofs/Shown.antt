@@ -13,8 +13,7 @@ use Rattle.sets.specs.Sets.{digit}
 use Rattle.sets.proofs.Bools.{and-left, and-right}
 use Rattle.plan.specs.Plan.{Plan}
 use Rattle.plan.specs.LentLists.{planOfLists}
-use Rattle.lent.proofs.Accepted.{lists-held}
-use Rattle.layout.proofs.Theorems.{lists-accepted}
+use Rattle.lent.proofs.Accepted.{plan-held}
 use Rattle.network.specs.Outage.{intact}
 use Rattle.walk.specs.Walk.{complete}
 use Rattle.walk.proofs.Resume.{complete-at}
@@ -85,7 +84,7 @@ module _ (w : Walk) (n : ℕ) (at : WalkAt intact (walkPlan w) n w) (v x : ℕ) 
   p = walkPlan w
 
   few : w .header .nodes ≤ 64
-  few = lists-held (w .header) 256 128 (w .links) (w .events) (lists-accepted (w .header) (w .links) (w .events) (at .valid)) .links-held .nodes-fit
+  few = plan-held (w .header) (w .links) (w .events) (at .valid) .links-held .nodes-fit
 
   own-pair : v < x → x < w .header .nodes → lookPairOf w v x ≡ boundsOf intact (capped p n) v x
   unfolding planOfLists

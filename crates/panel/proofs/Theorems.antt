@@ -17,7 +17,6 @@ use Rattle.refusals.proofs.TestLaws.{or-none}
 use Rattle.plan.specs.Plan.{Plan}
 use Rattle.plan.specs.LentLists.{planRefusal, planOfLists}
 use Rattle.layout.proofs.LayoutFile.{valid-none, valid-pass}
-use Rattle.layout.proofs.Theorems.{lists-accepted}
 use Rattle.network.specs.Outage.{intact}
 use Rattle.walk.specs.Ends.{End, dropped, relevant, sumEnds, scenarios, weighed}
 use Rattle.walk.specs.Walk.{planEnds, firstEnds, count, complete}
@@ -53,7 +52,7 @@ own-sound w n at =
     let p = walkPlan w in
     let few : count (capped p n) ≤ n = omega (arith, count-sum (capped p n), examined-few (take n (planEnds p)), length-take n (planEnds p)) in
     record {
-      accepted = lists-accepted (w .header) (w .links) (w .events) (at .valid);
+      valid = at .valid;
       few = omega (arith, at .counts, at .reached, few);
       under-cap = omega (arith, at .reached, at .under-cap);
       fours = at .stacked .fours;

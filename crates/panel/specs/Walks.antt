@@ -1,5 +1,4 @@
 -- A walk in steps: document 02, request U4. What it means that a walk has reached so many ends of a plan.
--- `out` is what is out before the first event (document 02, request U7).
 -- Assumes nothing.
 use mathlib.Core.Path.{_≡_}
 use mathlib.Core.List.{List, [], _∷_}

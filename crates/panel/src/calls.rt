@@ -10,7 +10,7 @@ use walk_state::no_walk;
 ghost use mathlib.Core.Path.{_≡_};
 ghost use mathlib.Core.Bool.{true};
 ghost use Prim.Native.Nat.{_+_, _≤_, min};
-ghost use Rattle.plan.specs.LentLists.{planOfLists, listsNumber};
+ghost use Rattle.plan.specs.LentLists.{planOfLists, inWords, listsNumber};
 ghost use Rattle.network.specs.Outage.{intact};
 ghost use Rattle.walk_state.specs.Sound.{sound};
 ghost use Rattle.walk_state.specs.States.{walkAnswer};
@@ -20,9 +20,9 @@ ghost use Rattle.panel.specs.Steps.{openEnds, WalkedOn};
 
 // Begins the walk of a plan in lent lists.
 pub fn begin(h: Header, links: &[u8], events: &[u64]) -> WalkAnswer
-    ensures answer { λ r. ⌜ r ≡ walkAnswer (listsNumber h (now (links .entry)) (now (events .entry)))
+    ensures answer { λ r. ⌜ r ≡ walkAnswer (listsNumber (inWords h (now (links .entry)) (now (events .entry))))
         (rootWalk h (now (links .entry)) (now (events .entry))) ⌝ }
-    ensures begun { λ r. ⌜ (listsNumber h (now (links .entry)) (now (events .entry)) ≡ 0
+    ensures begun { λ r. ⌜ (listsNumber (inWords h (now (links .entry)) (now (events .entry))) ≡ 0
         → WalkAt intact (planOfLists h (now (links .entry)) (now (events .entry))) 0 (r .walk)) ⌝ }
 {
     let mut bytes = [0u8; 256];
@@ -35,7 +35,7 @@ pub fn begin(h: Header, links: &[u8], events: &[u64]) -> WalkAnswer
         };
     }
     let mut stack = [0u64; 512];
-    let at = walk::begin(&mut stack, 0, mass::Mass::WHOLE.units, 0, 0);
+    let at = walk::begin(&mut stack);
     let walk = Walk {
         header: h,
         links: bytes,

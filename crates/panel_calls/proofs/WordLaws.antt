@@ -11,7 +11,7 @@ use Rattle.refusals.specs.Tests.{roomTest}
 use Rattle.refusals.proofs.OrderLaws.{stop, skip, last}
 use Rattle.refusals.proofs.TestLaws.{room-pass}
 use Rattle.plan.specs.declared.Header.{Header}
-use Rattle.plan.specs.LentLists.{listsNumber}
+use Rattle.plan.specs.LentLists.{inWords, listsNumber}
 use Rattle.pairs.specs.Pairs.{pairTest}
 use Rattle.bounds.specs.Calls.{ranAnswer, pairAnswer}
 use Rattle.bounds.specs.declared.Totals.{Totals}
@@ -38,12 +38,12 @@ module _ (number : ℕ) (walk : Walk) where
   pub answer-walk : number ≡ 0 → walkAnswer number walk .walk ≡ walk
   answer-walk e = rw e
 
-module _ (h : Header) (links events state : List ℕ) (lists : ℕ) (is : lists ≡ listsNumber h links events) where
-  pub lists-refuse : (lists ≡ 0 → ⊥) → lists ≡ beginNumber h links events state
+module _ (h : Header) (links events state : List ℕ) (lists : ℕ) (is : lists ≡ listsNumber (inWords h links events)) where
+  pub lists-refuse : (lists ≡ 0 → ⊥) → lists ≡ beginNumber (inWords h links events) (length state)
   unfolding beginNumber
   lists-refuse some = stop _ is some
 
-  pub room-decides : lists ≡ 0 → {r : ℕ} → r ≡ roomTest (length state) walkLength → r ≡ beginNumber h links events state
+  pub room-decides : lists ≡ 0 → {r : ℕ} → r ≡ roomTest (length state) walkLength → r ≡ beginNumber (inWords h links events) (length state)
   unfolding beginNumber
   room-decides none e = skip _ is none (last e)
 

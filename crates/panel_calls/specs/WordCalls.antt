@@ -7,8 +7,7 @@ use lib.ListN.{length, getD}
 use lib.Seq.{sets}
 use Rattle.mass.specs.Refusal.{first}
 use Rattle.refusals.specs.Tests.{roomTest}
-use Rattle.plan.specs.declared.Header.{Header}
-use Rattle.plan.specs.LentLists.{listsNumber}
+use Rattle.plan.specs.LentLists.{Lent, listsNumber}
 use Rattle.pairs.specs.Pairs.{pairTest}
 use Rattle.panel.specs.Calls.{WentOn}
 use Rattle.walk_state.specs.declared.Walk.{Walk}
@@ -18,8 +17,8 @@ use Rattle.walk_words.specs.WalkWords.{walkLength, walkWords, walkOf}
 use Rattle.answers.specs.Laid.{laid}
 
 -- a begin is refused as the lists are, then with 12 where the state is too short for a walk
-unfoldable pub beginNumber : Header → List ℕ → List ℕ → List ℕ → ℕ
-beginNumber h links events state = first (listsNumber h links events ∷ roomTest (length state) walkLength ∷ [])
+unfoldable pub beginNumber : Lent → ℕ → ℕ
+beginNumber l room = first (listsNumber l ∷ roomTest room walkLength ∷ [])
 
 -- the quota that a list holds: its first word, and 0 where it is empty
 abbrev pub quotaIn : List ℕ → Quota

@@ -16,7 +16,7 @@ use walk_words::walk_of;
 ghost use mathlib.Core.Path.{_≡_};
 ghost use Prim.Native.Nat.{_≤_, _<_};
 ghost use lib.ListN.{length, getD};
-ghost use Rattle.plan.specs.LentLists.{planOfLists};
+ghost use Rattle.plan.specs.LentLists.{planOfLists, inWords};
 ghost use Rattle.plan.specs.Calls.{filled};
 ghost use Rattle.network.specs.Outage.{intact};
 ghost use Rattle.bounds.specs.Calls.{ranAnswer, pairAnswer};
@@ -30,7 +30,7 @@ ghost use Rattle.panel_calls.specs.WordCalls.{beginNumber, movedWords, S
 // Begins the walk of a plan in lent lists, and lays it down in the state. Refused as the lists are, then with 12 where the state is too
 // short for a walk.
 pub fn begin(h: Header, links: &[u8], events: &[u64], state: &mut [u64]) -> u32
-    ensures number { λ r. ⌜ r ≡ beginNumber h (now (links .entry)) (now (events .entry)) (now (state .entry)) ⌝ }
+    ensures number { λ r. ⌜ r ≡ beginNumber (inWords h (now (links .entry)) (now (events .entry))) (length (now (state .entry))) ⌝ }
     ensures state { λ r. ⌜ now (state .exit) ≡ filled r (walkWords
         (rootWalk h (now (links .entry)) (now (events .entry)))) (now (state .entry)) ⌝ }
     ensures begun { λ r. ⌜ (r ≡ 0

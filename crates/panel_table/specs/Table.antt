@@ -3,7 +3,7 @@
 use mathlib.Core.Path.{_≡_}
 use mathlib.Core.List.{List, [], _∷_}
 use Prim.Native.Nat.{ℕ}
-use Rattle.plan.specs.LentLists.{listsNumber}
+use Rattle.plan.specs.LentLists.{inWords, listsNumber}
 use Rattle.plan.specs.declared.Header.{Header}
 use Rattle.walk_state.specs.States.{walkAnswer}
 use Rattle.walk_state.specs.declared.Walk.{Walk}
@@ -27,7 +27,7 @@ tableEvents =
 -- what a begin of this plan with a cap answers: the walk at its root, or the number and a walk of zeros
 abbrev pub begunWith : ℕ → WalkAnswer
 begunWith limit =
-    walkAnswer (listsNumber (tableHeader limit) tableLinks tableEvents) (rootWalk (tableHeader limit) tableLinks tableEvents)
+    walkAnswer (listsNumber (inWords (tableHeader limit) tableLinks tableEvents)) (rootWalk (tableHeader limit) tableLinks tableEvents)
 
 -- the walk that a go-on for at most k ends leaves
 pub record LeftBy (w : Walk) (quota : Quota) (k : ℕ) (r : Walk) : Type 0 where

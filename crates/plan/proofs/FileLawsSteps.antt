@@ -7,10 +7,11 @@ use native.Mathlib.Nat.{add-zero, not-suc-le-zero}
 use lib.ListN.{length, getD, drop}
 use lib.Seq.{drop-drop, getD-drop}
 use Rattle.mass.specs.Refusal.{first}
+use Rattle.mass.proofs.RefusalLaws.{refuses, answered-number}
 use Rattle.mass.specs.Split.{probabilityTest}
 use Rattle.refusals.specs.Tests.{shortTest, endsTest, orderTest, memberTest, rank, leftTest}
 use Rattle.plan.specs.File.{linksRefusal, memberRefusal, membersRefusal, eventRefusal, eventsRefusal, eventSize, probabilityIn}
-use Rattle.plan.specs.Calls.{elementOf, stepOf, stepAnswer, stepNumber}
+use Rattle.plan.specs.Calls.{elementOf, stepOf, stepNumber}
 use Rattle.plan.specs.declared.Element.{Element}
 use Rattle.plan.specs.declared.Element.the-variants.{Link}
 use Rattle.plan.specs.declared.Step.the-variants as step
@@ -25,20 +26,12 @@ element-link (suc kind) number h = refl
 -- the number of a member's answer
 pub step-number : (nodes links least : ℕ) (b : List ℕ) → stepNumber (stepOf nodes links least b) ≡ memberRefusal nodes links least b
 unfolding stepOf
-step-number nodes links least b = go (memberRefusal nodes links least b)
-  where
-    go : (number : ℕ) → stepNumber (stepAnswer number (elementOf (getD b 0 0) (getD b 1 0))) ≡ number
-    go zero = refl
-    go (suc number) = refl
+step-number nodes links least b = answered-number step.Refused _ stepNumber refl (λ n. refl) (memberRefusal nodes links least b)
 
 -- the answer of a member that is refused
-step-refused : (number : ℕ) (element : Element) → (number ≡ 0 → ⊥) → step.Refused number ≡ stepAnswer number element
-step-refused zero element h = absurd (h refl)
-step-refused (suc number) element h = refl
-
 pub step-stop : (nodes links least : ℕ) (b : List ℕ) {r : ℕ} → r ≡ memberRefusal nodes links least b → (r ≡ 0 → ⊥) → step.Refused r ≡ stepOf nodes links least b
 unfolding stepOf
-step-stop nodes links least b {r} e h = rw (← e) (step-refused r _ h)
+step-stop nodes links least b e h = refuses step.Refused _ e h
 
 -- and of one that is not
 pub step-go : (nodes links least at : ℕ) (s : List ℕ) {element : Element}

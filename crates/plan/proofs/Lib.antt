@@ -4,3 +4,4 @@ pub mod FileLawsSteps
 pub mod FileLawsAccepted
 pub mod HeldLaws
 pub mod FilledLaws
+pub mod AnswerLaws

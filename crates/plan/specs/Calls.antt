@@ -2,14 +2,14 @@
 -- For each case of an answer, `readAnswer`, `writeAnswer` and `stepAnswer` say which number and values it stands for.
 -- Assumes nothing.
 use mathlib.Core.List.{List, [], _∷_}
-use Prim.Native.Nat.{ℕ, zero, suc, _*_, _/_}
+use Prim.Native.Nat.{ℕ, zero, suc, _*_}
 use lib.ListN.{length, getD}
 use lib.Seq.{sets}
-use Rattle.mass.specs.Refusal.{first}
+use Rattle.mass.specs.Refusal.{first, answered}
 use Rattle.refusals.specs.Tests.{roomTest}
 use Rattle.plan.specs.Layout.{layout}
 use Rattle.plan.specs.File.{refusal, memberRefusal, nodesIn, linksIn, eventsIn, thresholdIn, limitIn}
-use Rattle.plan.specs.LentLists.{listsRefusal, planOfLists}
+use Rattle.plan.specs.LentLists.{Lent, listsNumber, planLent}
 use Rattle.plan.specs.declared.Header.{Header}
 use Rattle.plan.specs.declared.Element.{Element}
 use Rattle.plan.specs.declared.Element.the-variants.{Node, Link}
@@ -32,8 +32,7 @@ elementOf (suc kind) number = Link number
 
 -- reading a member: the number of the refusal, or the member
 abbrev pub stepAnswer : ℕ → Element → Step
-stepAnswer zero element = step.Member element
-stepAnswer (suc number) element = step.Refused (suc number)
+stepAnswer number element = answered step.Refused (step.Member element) number
 
 unfoldable pub stepOf : ℕ → ℕ → ℕ → List ℕ → Step
 stepOf nodes links least b = stepAnswer (memberRefusal nodes links least b) (elementOf (getD b 0 0) (getD b 1 0))
@@ -55,16 +54,17 @@ headerOf b =
     }
 
 -- reading a plan: 1 to 11, then 12 where a lent list has no room; the lists have room for `linkRoom` bytes and `eventRoom` whole events
-unfoldable pub readRefusal : ℕ → ℕ → List ℕ → ℕ
-readRefusal linkRoom eventRoom b = first (refusal b ∷ roomTest linkRoom (2 * linksIn b) ∷ roomTest eventRoom (eventsIn b) ∷ [])
+unfoldable pub readNumber : ℕ → ℕ → List ℕ → ℕ
+readNumber linkRoom eventRoom b = first (refusal b ∷ roomTest linkRoom (2 * linksIn b) ∷ roomTest eventRoom (eventsIn b) ∷ [])
 
--- the number with which reading into lent lists is refused: an event takes four words
-abbrev pub readNumber : List ℕ → List ℕ → List ℕ → ℕ
-readNumber s links events = readRefusal (length links) (length events / 4) s
-
+-- the answer of a reading
 abbrev pub readAnswer : ℕ → Header → Reading
-readAnswer zero header = reading.Accepted header
-readAnswer (suc number) header = reading.Refused (suc number)
+readAnswer number header = answered reading.Refused (reading.Accepted header) number
+
+-- the number of a reading's answer
+abbrev pub readingNumber : Reading → ℕ
+readingNumber (reading.Refused number) = number
+readingNumber (reading.Accepted header) = 0
 
 -- the header of an answer: all numbers are 0 where it refuses
 abbrev pub headerIn : Reading → Header
@@ -72,17 +72,14 @@ headerIn (reading.Refused number) = record { nodes = 0; links = 0; events = 0; t
 headerIn (reading.Accepted header) = header
 
 -- writing a plan: the tests of the lists, then 12 where the output has no room
-unfoldable pub writeRefusal : Header → ℕ → ℕ → List ℕ → List ℕ → ℕ → ℕ
-writeRefusal h linkRoom eventRoom links words room =
-    first
-    (listsRefusal h linkRoom eventRoom links words
-    ∷ roomTest room (length (layout (planOfLists h links words)))
-    ∷ [])
+unfoldable pub writeNumber : Lent → ℕ → ℕ
+writeNumber l room = first (listsNumber l ∷ roomTest room (length (layout (planLent l))) ∷ [])
 
--- the number with which writing from lent lists is refused
-abbrev pub writeNumber : Header → List ℕ → List ℕ → List ℕ → ℕ
-writeNumber h links events out = writeRefusal h (length links) (length events / 4) links events (length out)
-
+-- the answer of a writing
 abbrev pub writeAnswer : ℕ → ℕ → Writing
-writeAnswer zero count = writing.Written count
-writeAnswer (suc number) count = writing.Refused (suc number)
+writeAnswer number count = answered writing.Refused (writing.Written count) number
+
+-- the number of a writing's answer
+abbrev pub writtenNumber : Writing → ℕ
+writtenNumber (writing.Refused number) = number
+writtenNumber (writing.Written count) = 0

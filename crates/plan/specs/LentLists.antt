@@ -3,7 +3,7 @@
 use mathlib.Core.List.{List, [], _∷_}
 use Prim.Native.Nat.{ℕ, _*_, _/_}
 use lib.ListN.{length}
-use Rattle.mass.specs.Refusal.{first}
+use Rattle.mass.specs.Refusal.{first, each}
 use Rattle.mass.specs.Split.{certain, probabilityTest}
 use Rattle.plan.specs.Plan.{Plan, Link, Event}
 use Rattle.plan.specs.Lists.{linksOf, eventsOf}
@@ -12,8 +12,7 @@ use Rattle.plan.specs.declared.Header.{Header}
 
 -- "each link, 7"
 unfoldable pub linkListRefusal : ℕ → List Link → ℕ
-linkListRefusal nodes [] = 0
-linkListRefusal nodes (l ∷ ls) = first (endsTest nodes (l .low) (l .high) ∷ linkListRefusal nodes ls ∷ [])
+linkListRefusal nodes list = each (λ l. endsTest nodes (l .low) (l .high)) list
 
 -- "each event, 8, 9, 10"; `before` is the probability of the event before, or 10^9
 unfoldable pub eventListRefusal : ℕ → ℕ → ℕ → List Event → ℕ
@@ -48,20 +47,31 @@ planOfLists h links words =
       limit = h .limit;
     }
 
--- "The writer tests 4 to 6; then 12 for a link list shorter than twice its count or an event list shorter than its count; each link, 7;
--- each event, 8, 9, 10." The lists have room for `linkRoom` bytes and for `eventRoom` whole events.
-unfoldable pub listsRefusal : Header → ℕ → ℕ → List ℕ → List ℕ → ℕ
-listsRefusal h linkRoom eventRoom links words =
-    first
-    (countsTest (h .nodes) (h .links) (h .events)
-    ∷ thresholdTest (h .threshold)
-    ∷ limitTest (h .limit)
-    ∷ roomTest linkRoom (2 * h .links)
-    ∷ roomTest eventRoom (h .events)
-    ∷ linkListRefusal (h .nodes) (linksOf (h .links) links)
-    ∷ eventListRefusal (h .nodes) (h .links) certain (eventsOf (h .events) words)
-    ∷ [])
+-- what is lent to a call: the header, the bytes of the links, the words of the events, and how many whole events there is room for
+pub record Lent : Type 0 where
+  pub header : Header
+  pub links : List ℕ
+  pub words : List ℕ
+  pub room : ℕ
 
--- the number with which a header and lent lists are refused; 0 where they are accepted
-abbrev pub listsNumber : Header → List ℕ → List ℕ → ℕ
-listsNumber h links events = listsRefusal h (length links) (length events / 4) links events
+-- events that are lent as words, four for each event
+abbrev pub inWords : Header → List ℕ → List ℕ → Lent
+inWords h links words = record { header = h; links = links; words = words; room = length words / 4 }
+
+-- the plan that is lent
+abbrev pub planLent : Lent → Plan
+planLent l = planOfLists (l .header) (l .links) (l .words)
+
+-- "The writer tests 4 to 6; then 12 for a link list shorter than twice its count or an event list shorter than its count; each link, 7;
+-- each event, 8, 9, 10": the number with which what is lent is refused; 0 where it is accepted
+unfoldable pub listsNumber : Lent → ℕ
+listsNumber l =
+    first
+    (countsTest (l .header .nodes) (l .header .links) (l .header .events)
+    ∷ thresholdTest (l .header .threshold)
+    ∷ limitTest (l .header .limit)
+    ∷ roomTest (length (l .links)) (2 * l .header .links)
+    ∷ roomTest (l .room) (l .header .events)
+    ∷ linkListRefusal (l .header .nodes) (linksOf (l .header .links) (l .links))
+    ∷ eventListRefusal (l .header .nodes) (l .header .links) certain (eventsOf (l .header .events) (l .words))
+    ∷ [])

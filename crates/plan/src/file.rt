@@ -21,23 +21,14 @@ pub fn header_refusal(s: &[u8]) -> u32
     if short != 0 {
         return short;
     }
-    let mark = refusals::mark_test(82, 83, 71, byte_at(s, 0), byte_at(s, 1), byte_at(s, 2));
-    if mark != 0 {
-        return mark;
-    }
-    let version = refusals::version_test(number_at(s, 3, 2));
-    if version != 0 {
-        return version;
-    }
-    let counts = refusals::counts_test(byte_at(s, 5), byte_at(s, 6), byte_at(s, 7));
-    if counts != 0 {
-        return counts;
-    }
-    let threshold = refusals::threshold_test(number_at(s, 8, 8));
-    if threshold != 0 {
-        return threshold;
-    }
-    refusals::limit_test(number_at(s, 16, 4))
+    let tests = [
+        refusals::mark_test(82, 83, 71, byte_at(s, 0), byte_at(s, 1), byte_at(s, 2)),
+        refusals::version_test(number_at(s, 3, 2)),
+        refusals::counts_test(byte_at(s, 5), byte_at(s, 6), byte_at(s, 7)),
+        refusals::threshold_test(number_at(s, 8, 8)),
+        refusals::limit_test(number_at(s, 16, 4)),
+    ];
+    refusals::first_of(&tests)
 }
 
 // The numbers of the header.
@@ -151,15 +142,12 @@ pub fn event_refusal(s: &[u8], at: usize, nodes: u64, links: u64, before: u64) -
         return short;
     }
     let q = number_at(s, at, 4);
-    let above = mass::probability_test(q);
-    if above != 0 {
-        return above;
-    }
-    let order = refusals::order_test(before, q);
-    if order != 0 {
-        return order;
-    }
-    members_refusal(s, at + 5, byte_at(s, at + 4), nodes, links)
+    let tests = [
+        mass::probability_test(q),
+        refusals::order_test(before, q),
+        members_refusal(s, at + 5, byte_at(s, at + 4), nodes, links),
+    ];
+    refusals::first_of(&tests)
 }
 
 // How many bytes an event takes.
@@ -201,9 +189,9 @@ pub fn check(s: &[u8]) -> u32
     }
     let nodes = byte_at(s, 5);
     let count = byte_at(s, 6);
-    let links = links_refusal(s, 20, count, nodes);
-    if links != 0 {
-        return links;
-    }
-    events_refusal(s, 20 + 2 * (count as usize), byte_at(s, 7), nodes, count)
+    let tests = [
+        links_refusal(s, 20, count, nodes),
+        events_refusal(s, 20 + 2 * (count as usize), byte_at(s, 7), nodes, count),
+    ];
+    refusals::first_of(&tests)
 }

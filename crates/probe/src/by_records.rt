@@ -6,7 +6,7 @@ ghost use Rattle.plan.specs.Calls.{filled, writeAnswer};
 ghost use Rattle.network.specs.Outage.{intact};
 ghost use Rattle.bounds.specs.Bounds.{lowerList, upperList};
 ghost use Rattle.bounds.specs.Calls.{totalsOf, ranAnswer};
-ghost use Rattle.copying.specs.Copying.{copyRefusal};
+ghost use Rattle.copying.specs.Copying.{copyNumber};
 ghost use Rattle.record_runs.specs.Running.{fileNumber};
 ghost use Rattle.answers.specs.Laid.{laid};
 ghost use Rattle.answers.specs.Answers.{sizeValues, totalsValues};
@@ -18,7 +18,7 @@ pub extern "C" fn probe_run_plan(
     upper: &mut [u64],
     result: &mut [u64],
 ) -> u32
-    ensures number { λ r. ⌜ r ≡ fileNumber (now (plan .entry)) (now (lower .entry)) (now (upper .entry)) ⌝ }
+    ensures number { λ r. ⌜ r ≡ fileNumber (now (plan .entry)) (length (now (lower .entry))) (length (now (upper .entry))) ⌝ }
     ensures lowers { λ r. ⌜ now (lower .exit) ≡ filled r (lowerList intact (planOf (now (plan .entry)))) (now (lower .entry)) ⌝ }
     ensures uppers { λ r. ⌜ now (upper .exit) ≡ filled r (upperList intact (planOf (now (plan .entry)))) (now (upper .entry)) ⌝ }
     ensures result { λ r. ⌜ now (result .exit) ≡ laid
@@ -29,7 +29,7 @@ pub extern "C" fn probe_run_plan(
 
 #[no_mangle]
 pub extern "C" fn probe_copy_plan(plan: &[u8], out: &mut [u8], size: &mut [u64]) -> u32
-    ensures number { λ r. ⌜ r ≡ copyRefusal (now (plan .entry)) (length (now (out .entry))) ⌝ }
+    ensures number { λ r. ⌜ r ≡ copyNumber (now (plan .entry)) (length (now (out .entry))) ⌝ }
     ensures out { λ r. ⌜ now (out .exit) ≡ filled r (now (plan .entry)) (now (out .entry)) ⌝ }
     ensures size { λ r. ⌜ now (size .exit) ≡ laid (sizeValues (writeAnswer r (length (now (plan .entry))))) (now (size .entry)) ⌝ }
 {

@@ -1,7 +1,7 @@
 // Exports of the further readings. A figure is handed out as 1 and the bits of its two floats.
 use crate::header;
 ghost use mathlib.Core.Path.{_≡_};
-ghost use Rattle.plan.specs.LentLists.{planOfLists};
+ghost use Rattle.plan.specs.LentLists.{planOfLists, inWords};
 ghost use Rattle.network.specs.Outage.{intact};
 ghost use Rattle.bounds.specs.Calls.{pairNumber};
 ghost use Rattle.readings.specs.Figure.{figureOf};
@@ -26,8 +26,8 @@ pub extern "C" fn probe_figure(
     w: u64,
     bits: &mut [u64],
 ) -> u32
-    ensures number { λ r. ⌜ r ≡ pairNumber (headerWith nodes «links_count» «events_count» threshold limit)
-        (now (links .entry)) (now (events .entry)) v w ⌝ }
+    ensures number { λ r. ⌜ r ≡ pairNumber (inWords (headerWith nodes «links_count» «events_count» threshold limit)
+        (now (links .entry)) (now (events .entry))) v w ⌝ }
     ensures bits { λ r. ⌜ now (bits .exit) ≡ laid (figureValues (figureOf intact r
         (planOfLists (headerWith nodes «links_count» «events_count» threshold limit) (now (links .entry)) (now (events .entry))) v w))
         (now (bits .entry)) ⌝ }
@@ -49,10 +49,10 @@ pub extern "C" fn probe_witness(
     w: u64,
     result: &mut [u64],
 ) -> u32
-    ensures number { λ r. ⌜ r ≡ witnessNumber intact (headerWith nodes «links_count» «events_count» threshold limit)
-        (now (links .entry)) (now (events .entry)) v w ⌝ }
+    ensures number { λ r. ⌜ r ≡ witnessNumber intact (inWords (headerWith nodes «links_count» «events_count» threshold limit)
+        (now (links .entry)) (now (events .entry))) v w ⌝ }
     ensures result { λ r. ⌜ now (result .exit) ≡ laid (failingValues (witnessOf intact
-        (headerWith nodes «links_count» «events_count» threshold limit) (now (links .entry)) (now (events .entry)) v w))
+        (inWords (headerWith nodes «links_count» «events_count» threshold limit) (now (links .entry)) (now (events .entry))) v w))
         (now (result .entry)) ⌝ }
 {
     let h = header(nodes, links_count, events_count, threshold, limit);
@@ -84,10 +84,10 @@ pub extern "C" fn probe_credit(
     rate: u64,
     result: &mut [u64],
 ) -> u32
-    ensures number { λ r. ⌜ r ≡ creditNumber (headerWith nodes «links_count» «events_count» threshold limit)
-        (now (links .entry)) (now (events .entry)) v w fee «limit_seconds» rate ⌝ }
+    ensures number { λ r. ⌜ r ≡ creditNumber (inWords (headerWith nodes «links_count» «events_count» threshold limit)
+        (now (links .entry)) (now (events .entry))) v w fee «limit_seconds» rate ⌝ }
     ensures result { λ r. ⌜ now (result .exit) ≡ laid (creditsValues (creditOf intact
-        (headerWith nodes «links_count» «events_count» threshold limit) (now (links .entry)) (now (events .entry)) v w
+        (inWords (headerWith nodes «links_count» «events_count» threshold limit) (now (links .entry)) (now (events .entry))) v w
         fee «limit_seconds» rate)) (now (result .entry)) ⌝ }
 {
     let h = header(nodes, links_count, events_count, threshold, limit);

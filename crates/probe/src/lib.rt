@@ -18,8 +18,8 @@ ghost use lib.ListN.{length};
 ghost use Rattle.plan.specs.File.{refusal, planOf};
 ghost use Rattle.plan.specs.Layout.{layout};
 ghost use Rattle.plan.specs.Lists.{linkBytes, eventWords};
-ghost use Rattle.plan.specs.LentLists.{planOfLists};
-ghost use Rattle.plan.specs.Calls.{filled, headerOf, readRefusal, readAnswer, writeRefusal, writeAnswer};
+ghost use Rattle.plan.specs.LentLists.{planOfLists, inWords};
+ghost use Rattle.plan.specs.Calls.{filled, headerOf, readNumber, readAnswer, writeNumber, writeAnswer};
 ghost use Rattle.network.specs.Outage.{intact};
 ghost use Rattle.bounds.specs.Bounds.{lowerList, upperList};
 ghost use Rattle.bounds.specs.Calls.{totalsOf, ranAnswer, runNumber, boundsOf, pairAnswer, pairNumber};
@@ -40,7 +40,7 @@ pub extern "C" fn probe_read(
     links: &mut [u8],
     events: &mut [u64],
 ) -> u32
-    ensures number { λ r. ⌜ r ≡ readRefusal
+    ensures number { λ r. ⌜ r ≡ readNumber
         (length (now (links .entry))) (length (now (events .entry)) / 4) (now (plan .entry)) ⌝ }
     ensures numbers { λ r. ⌜ now (numbers .exit) ≡ laid
         (headerValues (readAnswer r (headerOf (now (plan .entry))))) (now (numbers .entry)) ⌝ }
@@ -74,9 +74,8 @@ pub extern "C" fn probe_write(
     out: &mut [u8],
     size: &mut [u64],
 ) -> u32
-    ensures number { λ r. ⌜ r ≡ writeRefusal (headerWith nodes «links_count» «events_count» threshold limit)
-        (length (now (links .entry))) (length (now (events .entry)) / 4) (now (links .entry)) (now (events .entry))
-        (length (now (out .entry))) ⌝ }
+    ensures number { λ r. ⌜ r ≡ writeNumber (inWords (headerWith nodes «links_count» «events_count» threshold limit)
+        (now (links .entry)) (now (events .entry))) (length (now (out .entry))) ⌝ }
     ensures out { λ r. ⌜ now (out .exit) ≡ filled r (layout
         (planOfLists (headerWith nodes «links_count» «events_count» threshold limit) (now (links .entry)) (now (events .entry))))
         (now (out .entry)) ⌝ }
@@ -101,8 +100,8 @@ pub extern "C" fn probe_run(
     upper: &mut [u64],
     result: &mut [u64],
 ) -> u32
-    ensures number { λ r. ⌜ r ≡ runNumber (headerWith nodes «links_count» «events_count» threshold limit)
-        (now (links .entry)) (now (events .entry)) (now (lower .entry)) (now (upper .entry)) ⌝ }
+    ensures number { λ r. ⌜ r ≡ runNumber (inWords (headerWith nodes «links_count» «events_count» threshold limit)
+        (now (links .entry)) (now (events .entry))) (length (now (lower .entry))) (length (now (upper .entry))) ⌝ }
     ensures lowers { λ r. ⌜ now (lower .exit) ≡ filled r (lowerList intact
         (planOfLists (headerWith nodes «links_count» «events_count» threshold limit) (now (links .entry)) (now (events .entry))))
         (now (lower .entry)) ⌝ }
@@ -130,8 +129,8 @@ pub extern "C" fn probe_pair(
     w: u64,
     result: &mut [u64],
 ) -> u32
-    ensures number { λ r. ⌜ r ≡ pairNumber (headerWith nodes «links_count» «events_count» threshold limit)
-        (now (links .entry)) (now (events .entry)) v w ⌝ }
+    ensures number { λ r. ⌜ r ≡ pairNumber (inWords (headerWith nodes «links_count» «events_count» threshold limit)
+        (now (links .entry)) (now (events .entry))) v w ⌝ }
     ensures result { λ r. ⌜ now (result .exit) ≡ laid (boundsValues (pairAnswer r (boundsOf intact
         (planOfLists (headerWith nodes «links_count» «events_count» threshold limit) (now (links .entry)) (now (events .entry))) v w)))
         (now (result .entry)) ⌝ }

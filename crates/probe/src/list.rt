@@ -1,6 +1,7 @@
 // The topology list, for the tests in Rust.
 use crate::header;
 ghost use mathlib.Core.Path.{_≡_};
+ghost use Rattle.plan.specs.LentLists.{inWords};
 ghost use Prim.Native.Nat.{_/_};
 ghost use lib.ListN.{length};
 ghost use Rattle.topology_list.specs.Calls.{topologyListIn, topologiesNumber, listedAnswer, listAfter};
@@ -21,13 +22,13 @@ pub extern "C" fn probe_topologies(
     list: &mut [u64],
     result: &mut [u64],
 ) -> u32
-    ensures number { λ r. ⌜ r ≡ topologiesNumber intact (headerWith nodes «links_count» «events_count» threshold limit)
-        (now (links .entry)) (now (events .entry)) (now (list .entry)) ⌝ }
-    ensures list { λ r. ⌜ now (list .exit) ≡ listAfter intact (headerWith nodes «links_count» «events_count» threshold limit)
-        (length (now (links .entry))) (length (now (events .entry)) / 4) (now (links .entry)) (now (events .entry)) (now (list .entry)) ⌝ }
+    ensures number { λ r. ⌜ r ≡ topologiesNumber intact (inWords (headerWith nodes «links_count» «events_count» threshold limit)
+        (now (links .entry)) (now (events .entry))) (now (list .entry)) ⌝ }
+    ensures list { λ r. ⌜ now (list .exit) ≡ listAfter intact (inWords (headerWith nodes «links_count» «events_count» threshold limit)
+        (now (links .entry)) (now (events .entry))) (now (list .entry)) ⌝ }
     ensures result { λ r. ⌜ now (result .exit) ≡ laid (entriesValues (listedAnswer r (length (topologyListIn intact
-        (headerWith nodes «links_count» «events_count» threshold limit)
-        (now (links .entry)) (now (events .entry)) (now (list .entry)) .entries)))) (now (result .entry)) ⌝ }
+        (inWords (headerWith nodes «links_count» «events_count» threshold limit) (now (links .entry)) (now (events .entry)))
+        (now (list .entry)) .entries)))) (now (result .entry)) ⌝ }
 {
     let h = header(nodes, links_count, events_count, threshold, limit);
     further_answers::give_entries(topology_list::topologies(h, links, events, list), result)

@@ -1,10 +1,11 @@
 // Several thresholds in one walk, for the tests in Rust and `planner`.
 use thresholds::CommonHeader;
 ghost use mathlib.Core.Path.{_≡_};
+ghost use lib.ListN.{length};
 ghost use Rattle.plan.specs.Calls.{filled};
 ghost use Rattle.network.specs.Outage.{intact};
 ghost use Rattle.bounds.specs.Bounds.{lowerList, upperList};
-ghost use Rattle.thresholds.specs.Thresholds.{planAt, thresholdsNumber, thresholdsAnswer, blocks};
+ghost use Rattle.thresholds.specs.Thresholds.{lentAt, planAt, thresholdsNumber, thresholdsAnswer, blocks};
 ghost use Rattle.answers.specs.Laid.{laid};
 ghost use Rattle.threshold_answers.specs.ThresholdAnswers.{commonWith, placesValues};
 
@@ -21,8 +22,9 @@ pub extern "C" fn probe_thresholds(
     upper: &mut [u64],
     result: &mut [u64],
 ) -> u32
-    ensures number { λ r. ⌜ r ≡ thresholdsNumber (commonWith nodes «links_count» «events_count» limit)
-        (now (links .entry)) (now (events .entry)) (now (thresholds .entry)) (now (lower .entry)) (now (upper .entry)) ⌝ }
+    ensures number { λ r. ⌜ r ≡ thresholdsNumber
+        (lentAt (commonWith nodes «links_count» «events_count» limit) (now (links .entry)) (now (events .entry)) 1)
+        (now (thresholds .entry)) (length (now (lower .entry))) (length (now (upper .entry))) ⌝ }
     ensures lowers { λ r. ⌜ now (lower .exit) ≡ filled r (blocks
         (λ t. lowerList intact (planAt (commonWith nodes «links_count» «events_count» limit) (now (links .entry)) (now (events .entry)) t))
         (now (thresholds .entry))) (now (lower .entry)) ⌝ }

@@ -3,7 +3,7 @@ use crate::header;
 ghost use mathlib.Core.Path.{_≡_};
 ghost use Prim.Native.Nat.{_≤_, _<_};
 ghost use lib.ListN.{length};
-ghost use Rattle.plan.specs.LentLists.{planOfLists};
+ghost use Rattle.plan.specs.LentLists.{planOfLists, inWords};
 ghost use Rattle.plan.specs.Calls.{filled};
 ghost use Rattle.network.specs.Outage.{intact};
 ghost use Rattle.bounds.specs.Calls.{ranAnswer, pairAnswer};
@@ -32,8 +32,8 @@ pub extern "C" fn probe_begin(
     events: &[u64],
     state: &mut [u64],
 ) -> u32
-    ensures number { λ r. ⌜ r ≡ beginNumber (headerWith nodes «links_count» «events_count» threshold limit)
-        (now (links .entry)) (now (events .entry)) (now (state .entry)) ⌝ }
+    ensures number { λ r. ⌜ r ≡ beginNumber (inWords (headerWith nodes «links_count» «events_count» threshold limit)
+        (now (links .entry)) (now (events .entry))) (length (now (state .entry))) ⌝ }
     ensures state { λ r. ⌜ now (state .exit) ≡ filled r (walkWords (rootWalk
         (headerWith nodes «links_count» «events_count» threshold limit) (now (links .entry)) (now (events .entry))))
         (now (state .entry)) ⌝ }

@@ -1,7 +1,8 @@
 // The run with windows of planned work, for the tests in Rust and `planner`.
 use crate::header;
 ghost use mathlib.Core.Path.{_≡_};
-ghost use Rattle.plan.specs.LentLists.{planOfLists};
+ghost use lib.ListN.{length};
+ghost use Rattle.plan.specs.LentLists.{planOfLists, inWords};
 ghost use Rattle.plan.specs.Calls.{filled};
 ghost use Rattle.windows.specs.Windows.{takenOut};
 ghost use Rattle.bounds.specs.Bounds.{lowerList, upperList};
@@ -24,8 +25,9 @@ pub extern "C" fn probe_run_at(
     upper: &mut [u64],
     result: &mut [u64],
 ) -> u32
-    ensures number { λ r. ⌜ r ≡ runAtNumber (headerWith nodes «links_count» «events_count» threshold limit)
-        (now (links .entry)) (now (events .entry)) (now (windows .entry)) minute (now (lower .entry)) (now (upper .entry)) ⌝ }
+    ensures number { λ r. ⌜ r ≡ runAtNumber (inWords (headerWith nodes «links_count» «events_count» threshold limit)
+        (now (links .entry)) (now (events .entry)))
+        (length (now (lower .entry))) (length (now (upper .entry))) (now (windows .entry)) minute ⌝ }
     ensures lowers { λ r. ⌜ now (lower .exit) ≡ filled r (lowerList (takenOut (now (windows .entry)) minute)
         (planOfLists (headerWith nodes «links_count» «events_count» threshold limit) (now (links .entry)) (now (events .entry))))
         (now (lower .entry)) ⌝ }

@@ -9,7 +9,7 @@ use lib.Seq.{sets, sets-eq}
 use Rattle.plan.specs.Plan as plan
 use Rattle.plan.specs.Lists.{eventWords}
 use Rattle.plan.specs.File.{planOf, eventsAt, eventsIn}
-use Rattle.plan.specs.Calls.{filled, headerOf, headerIn, readRefusal, readAnswer}
+use Rattle.plan.specs.Calls.{filled, headerOf, headerIn, readNumber, readAnswer}
 use Rattle.files.proofs.ReaderLawsAnswer.{header-bounds}
 use Rattle.records.specs.Events.{wordsOf, recordsOf}
 use Rattle.records.specs.declared.Event.{Event}
@@ -53,22 +53,22 @@ length-events zero b = refl
 length-events (suc count) b = ap suc (length-events count _)
 
 -- `count` is how many events the answer hands over
-module _ (linkRoom eventRoom : ℕ) (b : List ℕ) (count : ℕ) (p : count ≡ (headerIn (readAnswer (readRefusal linkRoom eventRoom b) (headerOf b))) .events) where
+module _ (linkRoom eventRoom : ℕ) (b : List ℕ) (count : ℕ) (p : count ≡ (headerIn (readAnswer (readNumber linkRoom eventRoom b) (headerOf b))) .events) where
   pub count-bounds : (count ≤ 128) × (count ≤ eventRoom)
   count-bounds =
       let h = header-bounds linkRoom eventRoom b _ refl in (rw p (h .3), rw p (h .1))
 
   pub read-list : (room : List ℕ) (list : List Event) → length room ≡ 512
-      → sets list 0 (recordsOf count (filled (readRefusal linkRoom eventRoom b) (eventWords ((planOf b) .events)) room))
-      ≡ filledRecords (readRefusal linkRoom eventRoom b) (eventRecords ((planOf b) .events)) list
+      → sets list 0 (recordsOf count (filled (readNumber linkRoom eventRoom b) (eventWords ((planOf b) .events)) room))
+      ≡ filledRecords (readNumber linkRoom eventRoom b) (eventRecords ((planOf b) .events)) list
   unfolding planOf headerOf
   read-list room list long =
-      records-filled (readRefusal linkRoom eventRoom b) count ((planOf b) .events) room list
+      records-filled (readNumber linkRoom eventRoom b) count ((planOf b) .events) room list
       (λ e.
       let n : count ≡ eventsIn b = p ∙ ap (λ (k : ℕ). (headerIn (readAnswer k (headerOf b))) .events) e in
       let l : length ((planOf b) .events) ≡ eventsIn b = length-events (eventsIn b) _ in
       (n ∙ sym l, omega (arith, l, n, count-bounds .0)))
-      (λ z. p ∙ stop (readRefusal linkRoom eventRoom b) z)
+      (λ z. p ∙ stop (readNumber linkRoom eventRoom b) z)
     where
       stop : (k : ℕ) → (k ≡ 0 → ⊥) → (headerIn (readAnswer k (headerOf b))) .events ≡ 0
       stop zero z = absurd (z refl)

@@ -1,27 +1,21 @@
 -- A plan that is read into two lists with room for every plan, one of bytes and one of records: the lists denote the plan, and they pass the tests of
 -- lent lists. For the callers that read into arrays of their own.
 -- Assumes nothing.
-use mathlib.Core.Path.{_≡_, refl, sym, _∙_, ap, subst}
+use mathlib.Core.Path.{_≡_, refl, sym, _∙_, ap}
 use mathlib.Core.List.{List, [], _∷_, _++_}
-use Prim.Native.Nat.{ℕ, zero, suc, _+_, _*_, _≤_}
+use Prim.Native.Nat.{ℕ, suc, _+_, _*_, _≤_}
 use native.Mathlib.Omega.{arith}
-use borrow.Author.Tests.{le-ltb}
 use lib.ListN.{length, drop, replicate}
 use lib.Seq.{sets, sets-eq, length-sets}
-use Rattle.mass.specs.Refusal.{first, refuse}
-use Rattle.mass.specs.Split.{certain}
-use Rattle.plan.specs.Lists.{linkBytes, eventsOf}
+use Rattle.plan.specs.Lists.{linkBytes}
 use Rattle.plan.specs.Layout.{Bytes}
-use Rattle.refusals.specs.Tests.{roomTest}
-use Rattle.plan.specs.File.{refusal, planOf, nodesIn, linksIn, eventsIn}
-use Rattle.plan.specs.LentLists.{planOfLists, listsRefusal, planRefusal, eventListRefusal}
-use Rattle.plan.specs.Calls.{headerOf, readRefusal}
+use Rattle.plan.specs.File.{refusal, planOf, linksIn, eventsIn}
+use Rattle.plan.specs.LentLists.{planOfLists, listsNumber, planRefusal}
+use Rattle.plan.specs.Calls.{headerOf}
 use Rattle.plan.proofs.FileLawsAccepted.{accepted-counts}
-use Rattle.layout.proofs.LayoutFile.{file-none, valid-none}
-use Rattle.layout.proofs.ListLaws.{length-links-of}
-use Rattle.layout.proofs.Theorems.{read-denotes, read-writes-again}
+use Rattle.layout.proofs.Theorems.{lists-accepted, read-denotes, read-writes-again}
 use Rattle.files.proofs.ReaderLawsAnswer.{length-links}
-use Rattle.records.specs.Events.{wordsOf}
+use Rattle.records.specs.Events.{wordsOf, inRecords}
 use Rattle.reader.specs.Filled.{eventRecords}
 use Rattle.records.specs.declared.Event.{Event}
 use Rattle.records.proofs.EventLaws.{length-words, words-append, drop-words}
@@ -34,20 +28,6 @@ no-links = replicate 256 0
 
 abbrev pub no-events : List Event
 no-events = replicate 128 no-event
-
-room-none : (room need : ℕ) → need ≤ room → roomTest room need ≡ 0
-room-none room need h = ap (λ (t : _). refuse t 12) (le-ltb room need h)
-
--- with room for 128 links and 128 events, a reading refuses what the check refuses
-pub full-rooms : (b : List ℕ) → readRefusal 256 128 b ≡ refusal b
-unfolding readRefusal first
-full-rooms b = go (refusal b) refl
-  where
-    go : (n : ℕ) → refusal b ≡ n → readRefusal 256 128 b ≡ refusal b
-    go zero e =
-        let c = accepted-counts b e in
-        rw (e, room-none 256 (2 * linksIn b) (omega (arith, c .1)), room-none 128 (eventsIn b) (omega (arith, c .2)))
-    go (suc n) e = rw e
 
 -- the words of a list of records whose start was laid down
 words-sets : (es news : List Event) → length news ≤ length es → wordsOf (sets es 0 news) ≡ sets (wordsOf es) 0 (wordsOf news)
@@ -89,20 +69,9 @@ module _ (b : List ℕ) (bytes : Bytes b) (e : refusal b ≡ 0) where
       (words-sets no-events (eventRecords es) (omega (arith, length-records-of es, count-events, c .2)) ∙ ap (sets (wordsOf no-events) 0) (words-event-records es))
       ∙ read-denotes b no-links (wordsOf no-events) (omega (arith, count-links, c .1)) (omega (arith, length-event-words es, count-events, c .2, length-words no-events))
 
-  pub lists-pass : listsRefusal (headerOf b) (length (read-links b)) (length (read-events b)) (read-links b) (wordsOf (read-events b)) ≡ 0
-  unfolding listsRefusal first planOfLists headerOf
+  pub lists-pass : listsNumber (inRecords (headerOf b) (read-links b) (read-events b)) ≡ 0
   lists-pass =
-      let c = accepted-counts b e in
-      let a = file-none b e .header in
-      let v = valid-none (planOfLists (headerOf b) (read-links b) (wordsOf (read-events b))) (ap planRefusal same-plan ∙ read-writes-again b bytes e .0) in
-      let events : eventListRefusal (nodesIn b) (linksIn b) certain (eventsOf (eventsIn b) (wordsOf (read-events b))) ≡ 0
-      = subst (λ (n : ℕ). eventListRefusal (nodesIn b) n certain (eventsOf (eventsIn b) (wordsOf (read-events b))) ≡ 0) (length-links-of (linksIn b) (read-links b)) (v .events) in
-      rw (
-        a .counts,
-        a .threshold,
-        a .limit,
-        room-none (length (read-links b)) (2 * linksIn b) (omega (arith, c .1, length-sets no-links 0 (linkBytes ((planOf b) .links)))),
-        room-none (length (read-events b)) (eventsIn b) (omega (arith, c .2, length-sets no-events 0 (eventRecords ((planOf b) .events)))),
-        v .links,
-        events,
-      )
+      lists-accepted (inRecords (headerOf b) (read-links b) (read-events b))
+      (omega (arith, length-sets no-links 0 (linkBytes ((planOf b) .links))))
+      (omega (arith, length-sets no-events 0 (eventRecords ((planOf b) .events))))
+      (ap planRefusal same-plan ∙ read-writes-again b bytes e .0)

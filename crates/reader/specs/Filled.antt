@@ -5,7 +5,7 @@ use Prim.Native.Nat.{ℕ, zero, suc, _/_, _%_, _^_}
 use lib.ListN.{length}
 use lib.Seq.{sets}
 use Rattle.plan.specs.Plan as plan
-use Rattle.plan.specs.Calls.{readRefusal}
+use Rattle.plan.specs.Calls.{readNumber}
 use Rattle.records.specs.declared.Event.{Event}
 
 -- the record of an event of a plan, and those of a list of events
@@ -24,7 +24,7 @@ eventRecords (e ∷ es) = recordOf e ∷ eventRecords es
 
 -- the number with which reading into a lent list of records is refused: a record holds an event
 abbrev pub recordsNumber : List ℕ → List ℕ → List Event → ℕ
-recordsNumber s links events = readRefusal (length links) (length events) s
+recordsNumber s links events = readNumber (length links) (length events) s
 
 -- what a call leaves in a lent list of records: with number 0 the records laid down from the start, else the list as it was
 abbrev pub filledRecords : ℕ → List Event → List Event → List Event

@@ -4,7 +4,7 @@ ghost use mathlib.Core.Path.{_≡_};
 ghost use lib.ListN.{length, drop};
 ghost use Rattle.plan.specs.Lists.{linkBytes, eventWords};
 ghost use Rattle.plan.specs.File.{planOf};
-ghost use Rattle.plan.specs.Calls.{filled, headerOf, headerIn, readRefusal, readAnswer};
+ghost use Rattle.plan.specs.Calls.{filled, headerOf, headerIn, readNumber, readAnswer};
 
 // Reads the plan that begins at a position into a lent list of bytes and an array of words, where the lent list of events has room for
 // `event_room` of them.
@@ -15,11 +15,11 @@ pub fn read_words_at(
     event_room: usize,
     words: &mut [u64; 512],
 ) -> Reading
-    ensures answer { λ r. ⌜ r ≡ readAnswer (readRefusal (length (now (links .entry))) «event_room» (drop at (now (s .entry))))
+    ensures answer { λ r. ⌜ r ≡ readAnswer (readNumber (length (now (links .entry))) «event_room» (drop at (now (s .entry))))
         (headerOf (drop at (now (s .entry)))) ⌝ }
-    ensures links { λ r. ⌜ now (links .exit) ≡ filled (readRefusal (length (now (links .entry))) «event_room» (drop at (now (s .entry))))
+    ensures links { λ r. ⌜ now (links .exit) ≡ filled (readNumber (length (now (links .entry))) «event_room» (drop at (now (s .entry))))
         (linkBytes ((planOf (drop at (now (s .entry)))) .links)) (now (links .entry)) ⌝ }
-    ensures words { λ r. ⌜ now (words .exit) ≡ filled (readRefusal (length (now (links .entry))) «event_room» (drop at (now (s .entry))))
+    ensures words { λ r. ⌜ now (words .exit) ≡ filled (readNumber (length (now (links .entry))) «event_room» (drop at (now (s .entry))))
         (eventWords ((planOf (drop at (now (s .entry)))) .events)) (now (words .entry)) ⌝ }
 {
     let mut bytes = [0u8; 256];

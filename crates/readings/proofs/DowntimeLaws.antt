@@ -5,7 +5,6 @@ use Prim.Native.Nat.{ℕ, _*_, _≤_}
 use native.Mathlib.Nat.{mul-le-mul-right}
 use native.Mathlib.Omega.{arith}
 use borrow.Author.Tests.{le-ltb}
-use lib.Dec.{ltb}
 use Rattle.mass.specs.Refusal.{refuse, first}
 use Rattle.mass.specs.Split.{whole, massTest}
 use Rattle.mass.proofs.RefusalLaws.{first-skip}
@@ -28,7 +27,7 @@ above-step m s S d h e = omega (arith, mul-le-mul-right S h)
 fits : (m : ℕ) → m ≤ whole → massTest m ≡ 0
 fits m h = ap (λ b. refuse b 16) (le-ltb whole m h)
 
-pub none-refused : (lower upper : ℕ) → massTest lower ≡ 0 → massTest upper ≡ 0 → downtimeRefusal lower upper ≡ 0
+none-refused : (lower upper : ℕ) → massTest lower ≡ 0 → massTest upper ≡ 0 → downtimeRefusal lower upper ≡ 0
 unfolding first
 none-refused lower upper e f = rw (first-skip (massTest lower) _ e, first-skip (massTest upper) _ f)
 

@@ -1,7 +1,6 @@
 -- The conditional figure: from the code's floats to those of the definition, and from the bounds of a pair to E.
 -- Assumes nothing.
 use mathlib.Core.Path.{_≡_, refl, sym, ap, subst, _∙_}
-use mathlib.Core.List.{List}
 use Prim.Native.Nat.{ℕ, zero, suc, _+_, _-_, _/_, _%_, _^_, _≤_}
 use native.Mathlib.Omega.{arith}
 use lib.Dec.{T, le→leb}
@@ -9,8 +8,7 @@ use lib.IntN.{pos}
 use lib.Ieee.{Float, binary64, add, mul, div, ofInt, ofBits, inFloat}
 use Rattle.mass.specs.Split.{certain, whole}
 use Rattle.plan.specs.Plan.{Plan}
-use Rattle.plan.specs.LentLists.{planOfLists}
-use Rattle.plan.specs.declared.Header.{Header}
+use Rattle.plan.specs.LentLists.{Lent, planLent}
 use Rattle.network.specs.Outage.{intact}
 use Rattle.walk.specs.Walk.{massExamined}
 use Rattle.bounds.specs.Bounds.{lowerOf}
@@ -73,22 +71,21 @@ figure-refuses : (number n examined : ℕ) (s : Shares) → n ≡ number → (n 
 figure-refuses number zero examined s e k = absurd (k refl)
 figure-refuses number (suc n) examined s e k = ap (λ (x : ℕ). figureAnswer x examined s) e
 
-module _ (h : Header) (links events : List ℕ) (v w : ℕ) (r : Paired)
-    (told : r ≡ pairAnswer (pairNumber h links events v w) (boundsOf intact (planOfLists h links events) v w)) where
+module _ (l : Lent) (v w : ℕ) (r : Paired) (told : r ≡ pairAnswer (pairNumber l v w) (boundsOf intact (planLent l) v w)) where
   abbrev p : Plan
-  p = planOfLists h links events
+  p = planLent l
 
   abbrev number : ℕ
-  number = pairNumber h links events v w
+  number = pairNumber l v w
 
   pub refused-told : (n : ℕ) → r ≡ paired.Refused n → (figured.Refused n ≡ figureOf intact number p v w) × Numbers (floatsIn (figured.Refused n))
   refused-told n e =
-      let k = pair-told.refused-told h links events v w r told n e in
+      let k = pair-told.refused-told l v w r told n e in
       (figure-refuses number n (massExamined p) _ (k .0) (k .1), (float-number 0, (float-number 0, tt)))
 
   module _ (b : PairBounds) (e : r ≡ paired.Done b) where
-    known : Accepted h links events v w b
-    known = pair-told.done-told h links events v w r told b e
+    known : Accepted l v w b
+    known = pair-told.done-told l v w r told b e
 
     -- upper + E = lower + 10^18
     pub examined-is : b .lower + (whole - b .upper) ≡ massExamined p
@@ -100,11 +97,11 @@ module _ (h : Header) (links events : List ℕ) (v w : ℕ) (r : Paired)
 
     pub given-told : (f : Figured) (lower examined : ℕ) → lower ≡ b .lower → examined ≡ b .lower + (whole - b .upper)
         → f ≡ figureAnswer 0 examined (sharesOf lower examined) → (f ≡ figureOf intact number p v w) × Numbers (floatsIn f)
-    given-told f lower examined l m a =
+    given-told f lower examined low m a =
         let is : f ≡ figureOf intact number p v w =
         a
         ∙ ap (λ (x : ℕ). figureAnswer 0 x (sharesOf lower x)) (m ∙ examined-is)
-        ∙ ap (λ (x : ℕ). figureAnswer 0 (massExamined p) (sharesOf x (massExamined p))) (l ∙ known .lower-is)
+        ∙ ap (λ (x : ℕ). figureAnswer 0 (massExamined p) (sharesOf x (massExamined p))) (low ∙ known .lower-is)
         ∙ ap (λ (x : ℕ). figureAnswer x (massExamined p) (sharesOf (lowerOf intact p v w) (massExamined p))) (sym (known .none)) in (
           is,
           subst (λ (x : Figured). Numbers (floatsIn x)) (sym is)

@@ -1,5 +1,5 @@
 -- Laws that the proofs of the crate `readings` share.
-pub mod Refusing
+pub mod NumberLaws
 pub mod Seek
 pub mod WitnessPromise
 pub mod PairTold

@@ -2,43 +2,40 @@
 -- and what the bounds are.
 -- Assumes nothing.
 use mathlib.Core.Path.{_≡_, sym, ap, _∙_}
-use mathlib.Core.List.{List}
-use Prim.Native.Nat.{ℕ, _/_, _≤_, _<_}
+use Prim.Native.Nat.{ℕ, _≤_, _<_}
 use native.Mathlib.Omega.{arith}
-use lib.ListN.{length}
 use Rattle.mass.specs.Split.{whole}
 use Rattle.mass.proofs.RefusalLaws.{first-none}
 use Rattle.plan.specs.Plan.{Plan}
-use Rattle.plan.specs.LentLists.{planOfLists, planRefusal}
-use Rattle.plan.specs.declared.Header.{Header}
+use Rattle.plan.specs.LentLists.{Lent, planLent, planOfLists, planRefusal}
 use Rattle.layout.proofs.Theorems.{lists-denote}
 use Rattle.network.specs.Outage.{intact}
 use Rattle.walk.proofs.Valid.{plan-probable}
 use Rattle.sums.proofs.BoundsLaws.{lower-upper, upper-le}
 use Rattle.bounds.specs.Bounds.{lowerOf, upperOf, cuts}
-use Rattle.bounds.specs.Calls.{pairRefusal, pairNumber, pairAnswer, boundsOf}
+use Rattle.bounds.specs.Calls.{pairNumber, pairAnswer, boundsOf}
 use Rattle.bounds.specs.declared.PairBounds.{PairBounds}
 use Rattle.bounds.specs.declared.Paired.{Paired}
 use Rattle.bounds.specs.declared.Paired.the-variants as paired
 use Rattle.bounds.proofs.Answers.{pair-none, pair-inside, pair-refused-is, pair-done-is}
 
 -- the bounds of a pair of an accepted plan
-pub record Accepted (h : Header) (links events : List ℕ) (v w : ℕ) (b : PairBounds) : Type 0 where
-  pub none : pairNumber h links events v w ≡ 0
-  pub valid : planRefusal (planOfLists h links events) ≡ 0
-  pub inside : (v < w) × (w < planOfLists h links events .nodes)
-  pub lower-is : b .lower ≡ lowerOf intact (planOfLists h links events) v w
-  pub upper-is : b .upper ≡ upperOf intact (planOfLists h links events) v w
+pub record Accepted (l : Lent) (v w : ℕ) (b : PairBounds) : Type 0 where
+  pub none : pairNumber l v w ≡ 0
+  pub valid : planRefusal (planLent l) ≡ 0
+  pub inside : (v < w) × (w < planLent l .nodes)
+  pub lower-is : b .lower ≡ lowerOf intact (planLent l) v w
+  pub upper-is : b .upper ≡ upperOf intact (planLent l) v w
   pub lower-fits : b .lower ≤ whole
   pub upper-fits : b .upper ≤ whole
 
-module _ (h : Header) (links events : List ℕ) (v w : ℕ) (r : Paired)
-    (told : r ≡ pairAnswer (pairNumber h links events v w) (boundsOf intact (planOfLists h links events) v w)) where
+module _ (l : Lent) (v w : ℕ) (r : Paired)
+    (told : r ≡ pairAnswer (pairNumber l v w) (boundsOf intact (planLent l) v w)) where
   abbrev p : Plan
-  p = planOfLists h links events
+  p = planLent l
 
   abbrev number : ℕ
-  number = pairNumber h links events v w
+  number = pairNumber l v w
 
   pub refused-told : (n : ℕ) → r ≡ paired.Refused n → (n ≡ number) × (n ≡ 0 → ⊥)
   refused-told n e =
@@ -46,15 +43,13 @@ module _ (h : Header) (links events : List ℕ) (v w : ℕ) (r : Paired)
       (k .0, λ z. k .1 (sym (k .0) ∙ z))
 
   plan-valid : number ≡ 0 → planRefusal p ≡ 0
-  plan-valid z =
-      lists-denote h (length links) (length events / 4) links events
-      (pair-none h (length links) (length events / 4) links events v w z)
+  plan-valid z = lists-denote l (pair-none l v w z)
 
   pair-within : number ≡ 0 → (v < w) × (w < p .nodes)
-  unfolding pairRefusal planOfLists
-  pair-within z = pair-inside (h .nodes) v w (first-none _ _ (first-none _ _ z .1) .0)
+  unfolding pairNumber planOfLists
+  pair-within z = pair-inside (l .header .nodes) v w (first-none _ _ (first-none _ _ z .1) .0)
 
-  pub done-told : (b : PairBounds) → r ≡ paired.Done b → Accepted h links events v w b
+  pub done-told : (b : PairBounds) → r ≡ paired.Done b → Accepted l v w b
   done-told b e =
       let k = pair-done-is number b (boundsOf intact p v w) (sym e ∙ told) in
       let lower : b .lower ≡ lowerOf intact p v w = ap (λ (x : PairBounds). x .lower) (k .1) in

@@ -12,8 +12,7 @@ use lib.ListN.{length}
 use Rattle.mass.specs.Split.{whole}
 use Rattle.mass.proofs.RefusalLaws.{first-none, refuse-none}
 use Rattle.plan.specs.Plan.{Plan}
-use Rattle.plan.specs.LentLists.{planOfLists}
-use Rattle.plan.specs.declared.Header.{Header}
+use Rattle.plan.specs.LentLists.{Lent, planLent}
 use Rattle.network.specs.Outage.{intact}
 use Rattle.walk.specs.Scenario.{Scenario, number}
 use Rattle.walk.specs.Walk.{examined, isExamined}
@@ -26,7 +25,7 @@ use Rattle.readings.specs.Downtime.{year, lowerSeconds, upperSeconds, se
 use Rattle.readings.proofs.DowntimeLaws.{below-step, above-step}
 use Rattle.readings.proofs.FirstLaws.{some-member, first-found, none-earlier}
 use Rattle.bounds.specs.Bounds.{cuts}
-use Rattle.readings.specs.Witness.{some, noneTest, witnessRefusal, witnessNumber, firstCut, failingOf}
+use Rattle.readings.specs.Witness.{some, noneTest, witnessNumber, firstCut, failingOf}
 use Rattle.readings.specs.Witness.{witnessAnswer, failingIn, witnessOf}
 use Rattle.readings.specs.First.{First, Shows}
 use Rattle.readings.specs.declared.Witnessed.{Witnessed}
@@ -80,16 +79,16 @@ pub none-cuts : (p : Plan) (v w : ℕ) (list : List Scenario) → noneTest intac
 none-cuts p v w list e s m h = let z : _≡_ {A = ℕ} 0 14 = rw (some-member (cuts intact p v w) s list m h) at e in omega arith
 
 -- the witness of every call that is not refused: document 02, request U5
-module _ (h : Header) (links events : List ℕ) (v w : ℕ) (accepted : witnessNumber intact h links events v w ≡ 0) where
+module _ (l : Lent) (v w : ℕ) (accepted : witnessNumber intact l v w ≡ 0) where
   abbrev p : Plan
-  p = planOfLists h links events
+  p = planLent l
 
   found-some : some (cuts intact p v w) (examined p) ≡ true
-  unfolding witnessRefusal
-  found-some = not-false _ (refuse-none _ 13 (first-none _ _ (first-none _ _ (first-none _ _ accepted .1) .1) .0))
+  unfolding witnessNumber
+  found-some = not-false _ (refuse-none _ 13 (first-none _ _ (first-none _ _ accepted .1) .0))
 
   -- the answer is the set of failing events of the first examined scenario that disconnects the pair
-  pub witness-found : witnessOf intact h links events v w ≡ witnessed.Found (failingOf (firstCut intact p v w))
+  pub witness-found : witnessOf intact l v w ≡ witnessed.Found (failingOf (firstCut intact p v w))
   witness-found = ap (λ (n : ℕ). witnessAnswer n (failingOf (firstCut intact p v w))) accepted
 
   pub witness-first : First (cuts intact p v w) (examined p) (firstCut intact p v w)
@@ -101,7 +100,7 @@ module _ (h : Header) (links events : List ℕ) (v w : ℕ) (accepted : witnessN
       none-earlier (cuts intact p v w) (examined p) (firstCut intact p v w) (examined-ordered p) witness-first s (among-member s (examined p) x)
 
   -- it is examined and disconnects the pair, as document 01 asks
-  pub witness-shows : Shows intact p v w (examined p) (failingIn (witnessOf intact h links events v w))
+  pub witness-shows : Shows intact p v w (examined p) (failingIn (witnessOf intact l v w))
   witness-shows =
       subst (λ (r : Witnessed). Shows intact p v w (examined p) (failingIn r)) (sym witness-found)
       (record {

@@ -1,29 +1,27 @@
 -- The answer of a witness: from the root of the walk, through the tests.
 -- Assumes nothing.
-use mathlib.Core.Path.{_≡_, refl, sym, ap, _∙_}
+use mathlib.Core.Path.{_≡_, refl, ap, _∙_}
 use mathlib.Core.List.{List}
 use Prim.Native.Nat.{ℕ, _<_}
 use native.Mathlib.Omega.{arith}
 use lib.ListN.{take}
-use Rattle.mass.proofs.RefusalLaws.{first-skip}
+use Rattle.mass.proofs.RefusalLaws.{refuses}
 use Rattle.mass.specs.Split.{whole}
 use Rattle.plan.specs.Plan.{Plan}
-use Rattle.plan.specs.LentLists.{planOfLists, listsNumber}
+use Rattle.plan.specs.LentLists.{Lent, planOfLists, planLent, inWords}
 use Rattle.plan.specs.declared.Header.{Header}
 use Rattle.lent.specs.Taken.{Taken}
-use Rattle.lent.proofs.ListLaws.{first-last}
-use Rattle.refusals.proofs.OrderLaws.{stop, skip}
+use Rattle.refusals.proofs.OrderLaws.{stop, skip, last}
 use Rattle.walk.specs.Ends.{End, scenarios}
 use Rattle.walk.specs.Walk.{examined}
 use Rattle.walk.proofs.Resume.{Alone, begun-stack, begun-whole, root-entry}
-use Rattle.pairs.specs.Pairs.{pairTest}
+use Rattle.bounds.specs.Calls.{pairNumber}
 use Rattle.plan.specs.Held.{Held}
 use Rattle.network.specs.Outage.{intact}
-use Rattle.readings.specs.Witness.{noneTest, witnessRefusal, witnessNumber, firstCut, failingOf, witnessAnswer, witnessOf}
+use Rattle.readings.specs.Witness.{witnessNumber, firstCut, failingOf, witnessAnswer, witnessOf}
 use Rattle.readings.specs.Search.{reached, searched, Seeking}
 use Rattle.readings.specs.declared.Witnessed.{Witnessed}
 use Rattle.readings.specs.declared.Witnessed.the-variants as witnessed
-use Rattle.readings.proofs.Refusing.{refuses}
 
 -- ---- from the root of the walk
 
@@ -43,31 +41,20 @@ module _ (h : Header) (links words : List ℕ) (at : ℕ) (stack : List ℕ) (v 
 -- ---- through the tests
 
 module _ (h : Header) (links events : List ℕ) (v w : ℕ) where
-  abbrev p : Plan
-  p = planOfLists h links events
+  abbrev lent : Lent
+  lent = inWords h links events
 
-  abbrev number : ℕ
-  number = witnessNumber intact h links events v w
-
-  refused : (n : ℕ) → n ≡ number → (n ≡ 0 → ⊥) → witnessed.Refused n ≡ witnessOf intact h links events v w
-  refused n e some = refuses witnessAnswer witnessed.Refused (λ k x. refl) n number _ e some
-
-  pub lists-refused : (n : ℕ) → n ≡ listsNumber h links events → (n ≡ 0 → ⊥) → witnessed.Refused n ≡ witnessOf intact h links events v w
-  unfolding witnessRefusal
-  lists-refused n e some = refused n (stop _ e some) some
-
-  pub pair-refused : (lists n : ℕ) → lists ≡ listsNumber h links events → lists ≡ 0 → n ≡ pairTest (h .nodes) v w → (n ≡ 0 → ⊥)
-      → witnessed.Refused n ≡ witnessOf intact h links events v w
-  unfolding witnessRefusal
-  pair-refused lists n e z f some = refused n (skip _ e z (stop _ f some)) some
+  -- the tests of the pair's bounds refuse
+  pub tests-refuse : (n : ℕ) → n ≡ pairNumber lent v w → (n ≡ 0 → ⊥) → witnessed.Refused n ≡ witnessOf intact lent v w
+  unfolding witnessNumber
+  tests-refuse n e some = refuses witnessed.Refused _ (stop _ e some) some
 
   -- the search in the arrays that accepted lists were taken into
-  pub searched-all : (bytes words : List ℕ) → Taken h links events bytes words → listsNumber h links events ≡ 0 → pairTest (h .nodes) v w ≡ 0
+  pub searched-all : (bytes words : List ℕ) → Taken h links events bytes words → pairNumber lent v w ≡ 0
       → (r : Witnessed) → r ≡ searched intact (planOfLists h bytes words) v w (examined (planOfLists h bytes words))
-      → r ≡ witnessOf intact h links events v w
-  unfolding witnessRefusal
-  searched-all bytes words t e f r a =
-      let is : number ≡ noneTest intact p v w (examined p) = first-skip _ _ e ∙ first-skip _ _ f ∙ first-last _ in
+      → r ≡ witnessOf intact lent v w
+  unfolding witnessNumber
+  searched-all bytes words t z r a =
       a
       ∙ ap (λ (q : Plan). searched intact q v w (examined q)) (t .denoted)
-      ∙ ap (λ (n : ℕ). witnessAnswer n (failingOf (firstCut intact p v w))) (sym is)
+      ∙ ap (λ (n : ℕ). witnessAnswer n (failingOf (firstCut intact (planLent lent) v w))) (skip _ refl z (last refl))

@@ -1,11 +1,10 @@
 -- Downtime: document 01, section "Further readings of a plan", with the rounding of document 02, request U1.
--- `out` is what is out before the first event (document 02, request U7).
 -- Assumes nothing.
 use mathlib.Core.Path.{_≡_, refl}
 use mathlib.Core.List.{[], _∷_}
-use Prim.Native.Nat.{ℕ, zero, suc, _+_, _-_, _*_, _/_, _≤_, _<_}
+use Prim.Native.Nat.{ℕ, _+_, _-_, _*_, _/_, _≤_, _<_}
 use lib.ListN.{length}
-use Rattle.mass.specs.Refusal.{first}
+use Rattle.mass.specs.Refusal.{first, answered}
 use Rattle.mass.specs.Split.{whole, massTest}
 use Rattle.plan.specs.Plan.{Plan}
 use Rattle.plan.specs.LentLists.{planRefusal}
@@ -36,10 +35,14 @@ downtimeRefusal lower upper = first (massTest lower ∷ massTest upper ∷ [])
 abbrev pub secondsOf : ℕ → ℕ → Seconds
 secondsOf lower upper = record { lower = lowerSeconds lower; upper = upperSeconds upper }
 
--- the case of the answer that a number and the seconds stand for: `Refused` with a number that is not 0, else the seconds
+-- the answer of a downtime
 abbrev pub downtimeAnswer : ℕ → Seconds → Timed
-downtimeAnswer zero seconds = timed.Given seconds
-downtimeAnswer (suc number) seconds = timed.Refused (suc number)
+downtimeAnswer number seconds = answered timed.Refused (timed.Given seconds) number
+
+-- the number of a downtime's answer
+abbrev pub timedNumber : Timed → ℕ
+timedNumber (timed.Refused number) = number
+timedNumber (timed.Given seconds) = 0
 
 -- the seconds in an answer: both are 0 where it refuses
 abbrev pub secondsIn : Timed → Seconds

@@ -1,7 +1,6 @@
 -- Conditional figure: document 01, section "Further readings of a plan" (document 001, equation 6). It is no bound: the scenarios that
 -- were not examined are left out of it. Floats are those of the logic's account of IEEE 754: a value of binary64 is one bit pattern, but
 -- for NaN.
--- `out` is what is out before the first event (document 02, request U7).
 -- Assumes nothing.
 use mathlib.Core.Bool.{not}
 use mathlib.Core.List.{List, [], _∷_}
@@ -39,6 +38,12 @@ abbrev pub figureAnswer : ℕ → ℕ → Shares → Figured
 figureAnswer (suc number) examined shares = figured.Refused (suc number)
 figureAnswer zero zero shares = figured.NoFigure
 figureAnswer zero (suc examined) shares = figured.Given shares
+
+-- the number of a figure's answer
+abbrev pub figuredNumber : Figured → ℕ
+figuredNumber (figured.Refused number) = number
+figuredNumber figured.NoFigure = 0
+figuredNumber (figured.Given shares) = 0
 
 -- the floats in an answer: both are 0 where it refuses, and there are none where there is no figure
 abbrev pub floatsIn : Figured → List Float

@@ -1,6 +1,5 @@
 -- What the theorems of the witness say: it is examined and disconnects the pair (document 01, section "Further readings of a plan"), and it
 -- is the first in the order of the walk (document 02, request U5).
--- `out` is what is out before the first event (document 02, request U7).
 -- Assumes nothing.
 use mathlib.Core.Path.{_≡_}
 use mathlib.Core.Bool.{Bool, true, false}

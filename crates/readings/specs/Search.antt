@@ -1,5 +1,4 @@
 -- The search for a witness: what its loop asks and promises, from any state.
--- `out` is what is out before the first event (document 02, request U7).
 -- Assumes nothing.
 use mathlib.Core.List.{List}
 use Prim.Native.Nat.{ℕ, _<_}

@@ -1,20 +1,17 @@
 -- Witness: document 01, section "Further readings of a plan", as document 02, request U5, has it: the first one.
--- `out` is what is out before the first event (document 02, request U7).
 -- Assumes nothing.
 use mathlib.Core.Bool.{Bool, true, false, not, _||_}
 use mathlib.Core.List.{List, [], _∷_}
-use Prim.Native.Nat.{ℕ, zero, suc, _/_, _%_, _^_}
-use lib.ListN.{length}
-use Rattle.mass.specs.Refusal.{refuse, first}
+use Prim.Native.Nat.{ℕ, _/_, _%_, _^_}
+use Rattle.mass.specs.Refusal.{refuse, first, answered}
 use Rattle.plan.specs.Plan.{Plan}
-use Rattle.plan.specs.LentLists.{listsRefusal, planOfLists}
-use Rattle.plan.specs.declared.Header.{Header}
+use Rattle.plan.specs.LentLists.{Lent, planLent}
 use Rattle.network.specs.Outage.{Outage}
 use Rattle.walk.specs.Scenario.{Scenario, number}
 use Rattle.walk.specs.Walk.{examined}
 use Rattle.walk.specs.declared.Failing.{Failing}
 use Rattle.bounds.specs.Bounds.{cuts}
-use Rattle.pairs.specs.Pairs.{pairTest}
+use Rattle.bounds.specs.Calls.{pairNumber}
 use Rattle.readings.specs.declared.Witnessed.{Witnessed}
 use Rattle.readings.specs.declared.Witnessed.the-variants as witnessed
 
@@ -32,18 +29,9 @@ firstWhere test (s ∷ list) = elim (test s) [ true ↦ s | false ↦ firstWhere
 abbrev pub noneTest : Outage → Plan → ℕ → ℕ → List Scenario → ℕ
 noneTest out p v w list = refuse (not (some (cuts out p v w) list)) 14
 
--- the witness of a pair: the lists' tests, then 13, then 14 where no examined scenario disconnects the pair
-unfoldable pub witnessRefusal : Outage → Header → ℕ → ℕ → List ℕ → List ℕ → ℕ → ℕ → ℕ
-witnessRefusal out h linkRoom eventRoom links words v w =
-    first
-    (listsRefusal h linkRoom eventRoom links words
-    ∷ pairTest (h .nodes) v w
-    ∷ noneTest out (planOfLists h links words) v w (examined (planOfLists h links words))
-    ∷ [])
-
--- the number with which a witness on lent lists is refused
-abbrev pub witnessNumber : Outage → Header → List ℕ → List ℕ → ℕ → ℕ → ℕ
-witnessNumber out h links events v w = witnessRefusal out h (length links) (length events / 4) links events v w
+-- the witness of a pair: the tests of the pair's bounds, then 14 where no examined scenario disconnects the pair
+unfoldable pub witnessNumber : Outage → Lent → ℕ → ℕ → ℕ
+witnessNumber out l v w = first (pairNumber l v w ∷ noneTest out (planLent l) v w (examined (planLent l)) ∷ [])
 
 -- "the first examined scenario, in walk order, that disconnects the pair" (v, w)
 abbrev pub firstCut : Outage → Plan → ℕ → ℕ → Scenario
@@ -53,10 +41,14 @@ firstCut out p v w = firstWhere (cuts out p v w) (examined p)
 abbrev pub failingOf : Scenario → Failing
 failingOf s = record { low = number s % 2 ^ 64; high = number s / 2 ^ 64 }
 
--- the case of the answer that a number and a set of failing events stand for: `Refused` with a number that is not 0, else the set
+-- the answer of a witness
 abbrev pub witnessAnswer : ℕ → Failing → Witnessed
-witnessAnswer zero set = witnessed.Found set
-witnessAnswer (suc number) set = witnessed.Refused (suc number)
+witnessAnswer number set = answered witnessed.Refused (witnessed.Found set) number
+
+-- the number of a witness's answer
+abbrev pub witnessedNumber : Witnessed → ℕ
+witnessedNumber (witnessed.Refused number) = number
+witnessedNumber (witnessed.Found set) = 0
 
 -- the set of failing events in an answer: both words are 0 where it refuses
 abbrev pub failingIn : Witnessed → Failing
@@ -65,6 +57,5 @@ failingIn (witnessed.Found set) = set
 
 -- THE WITNESS of the pair (v, w) on lent lists, the whole answer: the number of the first refusal met, or the failing events of the first
 -- examined scenario that disconnects the pair
-abbrev pub witnessOf : Outage → Header → List ℕ → List ℕ → ℕ → ℕ → Witnessed
-witnessOf out h links events v w =
-    witnessAnswer (witnessNumber out h links events v w) (failingOf (firstCut out (planOfLists h links events) v w))
+abbrev pub witnessOf : Outage → Lent → ℕ → ℕ → Witnessed
+witnessOf out l v w = witnessAnswer (witnessNumber out l v w) (failingOf (firstCut out (planLent l) v w))

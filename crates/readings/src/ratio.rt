@@ -6,7 +6,7 @@ use plan::Header;
 ghost use mathlib.Core.Path.{_≡_};
 ghost use Prim.Native.Nat.{_≤_};
 ghost use Rattle.mass.specs.Split.{whole};
-ghost use Rattle.plan.specs.LentLists.{planOfLists};
+ghost use Rattle.plan.specs.LentLists.{planOfLists, inWords};
 ghost use Rattle.network.specs.Outage.{intact};
 ghost use Rattle.bounds.specs.Calls.{pairNumber};
 ghost use Rattle.readings.specs.Figure.{floatOf, sharesOf, figureAnswer, figureOf, floatsIn, Numbers};
@@ -45,7 +45,7 @@ fn figure_of(lower: u64, examined: u64) -> Figured
 // The conditional figure of a pair: no figure if E = 0, else F(lower) ÷ F(E) and F(E) ÷ 10^18. It is no bound.
 pub fn figure(h: Header, links: &[u8], events: &[u64], v: u64, w: u64) -> Figured
     ensures answer { λ r. ⌜ r ≡ figureOf intact
-        (pairNumber h (now (links .entry)) (now (events .entry)) v w)
+        (pairNumber (inWords h (now (links .entry)) (now (events .entry))) v w)
         (planOfLists h (now (links .entry)) (now (events .entry))) v w ⌝ }
     ensures numbers { λ r. ⌜ Numbers (floatsIn r) ⌝ }
 {

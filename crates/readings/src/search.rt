@@ -6,7 +6,7 @@ use walk::Failing;
 ghost use mathlib.Core.Path.{_≡_};
 ghost use Prim.Native.Nat.{_^_, _<_};
 ghost use Rattle.sets.specs.Sets.{joined};
-ghost use Rattle.plan.specs.LentLists.{planOfLists};
+ghost use Rattle.plan.specs.LentLists.{planOfLists, inWords};
 ghost use Rattle.walk.specs.Scenario.{scenarioOf};
 ghost use Rattle.walk.specs.Walk.{examined};
 ghost use Rattle.network.specs.Table.{LinksAt};
@@ -22,17 +22,23 @@ fn cut_by(
     links: &[u8; 256],
     words: &[u64; 512],
     table: &[u64; 128],
-    low: u64,
-    high: u64,
+    failing: Failing,
     v: usize,
     w: usize,
 ) -> bool
     requires { ⌜ Held h (now links) (now words) ⌝ }
     requires { ⌜ LinksAt (now links) (h .links) (now table) ⌝ }
-    requires { ⌜ (joined low high < 2 ^ (h .events)) × (v < 64) × (w < 64) ⌝ }
-    ensures { λ r. ⌜ r ≡ cuts intact (planOfLists h (now (links .entry)) (now (words .entry))) v w (scenarioOf (h .events) (joined low high)) ⌝ }
+    requires { ⌜ (joined (failing .low) (failing .high) < 2 ^ (h .events)) × (v < 64) × (w < 64) ⌝ }
+    ensures { λ r. ⌜ r ≡ cuts intact (planOfLists h (now (links .entry)) (now (words .entry))) v w
+        (scenarioOf (h .events) (joined (failing .low) (failing .high))) ⌝ }
 {
-    let failed = network::failed_by(words, h.events as usize, low, high, Failed::NONE);
+    let failed = network::failed_by(
+        words,
+        h.events as usize,
+        failing.low,
+        failing.high,
+        Failed::NONE,
+    );
     topology::is_disconnected(
         h.nodes as usize,
         failed,
@@ -70,11 +76,12 @@ fn search_on(
         if !r.found {
             return Witnessed::Refused(14);
         }
-        if cut_by(h, links, words, table, r.low, r.high, v, w) {
-            return Witnessed::Found(Failing {
-                low: r.low,
-                high: r.high,
-            });
+        let failing = Failing {
+            low: r.low,
+            high: r.high,
+        };
+        if cut_by(h, links, words, table, failing, v, w) {
+            return Witnessed::Found(failing);
         }
         at = r.at;
         left = r.left;
@@ -90,24 +97,20 @@ fn search_all(h: Header, links: &[u8; 256], words: &[u64; 512], v: usize, w: usi
 {
     let table = network::links_at(h.nodes as usize, links, h.links as usize);
     let mut stack = [0u64; 512];
-    let at = walk::begin(&mut stack, 0, mass::Mass::WHOLE.units, 0, 0);
+    let at = walk::begin(&mut stack);
     search_on(h, links, words, &table, &mut stack, at, v, w, h.limit)
 }
 
 // The witness: the first examined scenario, in the walk's order, that disconnects the pair, as the set of its failing events; 14 where there
 // is none.
 pub fn witness(h: Header, links: &[u8], events: &[u64], v: u64, w: u64) -> Witnessed
-    ensures answer { λ r. ⌜ r ≡ witnessOf intact h (now (links .entry)) (now (events .entry)) v w ⌝ }
+    ensures answer { λ r. ⌜ r ≡ witnessOf intact (inWords h (now (links .entry)) (now (events .entry))) v w ⌝ }
 {
     let mut bytes = [0u8; 256];
     let mut words = [0u64; 512];
-    let lists = lent::accept(h, links, events, &mut bytes, &mut words);
-    if lists != 0 {
-        return Witnessed::Refused(lists);
-    }
-    let wrong = pairs::pair_test(h.nodes, v, w);
-    if wrong != 0 {
-        return Witnessed::Refused(wrong);
+    let number = bounds::accept_pair(h, links, events, v, w, &mut bytes, &mut words);
+    if number != 0 {
+        return Witnessed::Refused(number);
     }
     search_all(h, &bytes, &words, v as usize, w as usize)
 }

@@ -35,13 +35,10 @@ pub fn downtime(lower: u64, upper: u64) -> Timed
     ensures answer { λ r. ⌜ r ≡ downtimeAnswer (downtimeRefusal lower upper) (secondsOf lower upper) ⌝ }
     ensures enclosed { λ r. ⌜ EnclosesDowntime lower upper (secondsIn r) ⌝ }
 {
-    let low = mass::mass_test(lower);
-    if low != 0 {
-        return Timed::Refused(low);
-    }
-    let high = mass::mass_test(upper);
-    if high != 0 {
-        return Timed::Refused(high);
+    let tests = [mass::mass_test(lower), mass::mass_test(upper)];
+    let number = refusals::first_of(&tests);
+    if number != 0 {
+        return Timed::Refused(number);
     }
     Timed::Given(seconds_of(lower, upper))
 }

@@ -1,65 +1,74 @@
 -- The run uses no record past the first 128.
 -- Assumes nothing.
-use mathlib.Core.Path.{_≡_, refl, ap, _∙_}
+use mathlib.Core.Path.{_≡_, refl, sym, ap, _∙_}
 use mathlib.Core.List.{List, [], _∷_}
-use Prim.Native.Nat.{ℕ, _/_}
-use native.Mathlib.Omega.{arith}
+use Prim.Native.Nat.{ℕ, zero, suc}
 use lib.ListN.{length, take}
 use Rattle.mass.specs.Refusal.{first}
 use Rattle.mass.proofs.RefusalLaws.{first-none}
 use Rattle.refusals.specs.Tests.{roomTest}
-use Rattle.plan.specs.LentLists.{planOfLists, listsNumber}
+use Rattle.plan.specs.Plan.{Plan}
+use Rattle.plan.specs.LentLists.{Lent, planLent, inWords, listsNumber}
 use Rattle.plan.specs.Calls.{filled}
 use Rattle.plan.specs.declared.Header.{Header}
 use Rattle.network.specs.Outage.{intact}
 use Rattle.pairs.specs.Pairs.{pairCount}
 use Rattle.bounds.specs.Bounds.{lowerList, upperList, EnclosesAll}
-use Rattle.bounds.specs.Calls.{runRefusal, runNumber, ranAnswer, totalsOf, totalsIn}
+use Rattle.bounds.specs.Calls.{runNumber, ranAnswer, ranNumber, totalsOf, totalsIn}
 use Rattle.bounds.specs.declared.Ran.{Ran}
-use Rattle.records.specs.Events.{wordsOf}
+use Rattle.bounds.proofs.Answers.{ran-number}
+use Rattle.records.specs.Events.{wordsOf, inRecords}
 use Rattle.records.specs.declared.Event.{Event}
-use Rattle.records.proofs.EventLaws.{length-words}
-use Rattle.records.proofs.PlanLaws.{lists-same, plan-same, told-all}
+use Rattle.records.proofs.PlanLaws.{plan-same, told-all}
 
--- an answer of the run on words, with what it leaves in the lists of bounds
-abbrev pub Outcome : Header → List ℕ → List ℕ → List ℕ → List ℕ → Ran → List ℕ → List ℕ → Type 0
-Outcome h ks lo up ws r lo′ up′ =
-    (r ≡ ranAnswer (runNumber h ks ws lo up) (totalsOf (planOfLists h ks ws)))
-    × ((lo′ ≡ filled (runNumber h ks ws lo up) (lowerList intact (planOfLists h ks ws)) lo)
-    × ((up′ ≡ filled (runNumber h ks ws lo up) (upperList intact (planOfLists h ks ws)) up)
-    × (runNumber h ks ws lo up ≡ 0 → EnclosesAll intact (planOfLists h ks ws) lo′ up′ (totalsIn r .count))))
+-- an answer of a run that is refused with number n, or done on plan p, with what it leaves in the lists of bounds
+abbrev pub Promised : ℕ → Plan → List ℕ → List ℕ → Ran → List ℕ → List ℕ → Type 0
+Promised n p lo up r lo′ up′ =
+    (r ≡ ranAnswer n (totalsOf p))
+    × ((lo′ ≡ filled (ranNumber r) (lowerList intact p) lo)
+    × ((up′ ≡ filled (ranNumber r) (upperList intact p) up)
+    × (ranNumber r ≡ 0 → EnclosesAll intact p lo′ up′ (totalsIn r .count))))
+
+-- that of the run on what is lent
+abbrev pub Outcome : Lent → List ℕ → List ℕ → Ran → List ℕ → List ℕ → Type 0
+Outcome l lo up = Promised (runNumber l (length lo) (length up)) (planLent l) lo up
 
 module _ (h : Header) (ks : List ℕ) (es : List Event) (lo up : List ℕ) where
-  abbrev few : List ℕ
-  few = wordsOf (take 128 es)
+  abbrev few : Lent
+  few = inWords h ks (wordsOf (take 128 es))
 
-  abbrev all : List ℕ
-  all = wordsOf es
+  abbrev all : Lent
+  all = inRecords h ks es
 
   -- the tests of the run, from the number of the lists'
   abbrev after : ℕ → ℕ
   after n = first (n ∷ roomTest (length lo) (pairCount (h .nodes)) ∷ roomTest (length up) (pairCount (h .nodes)) ∷ [])
 
-  room : length all / 4 ≡ length es
-  room = omega (arith, length-words es)
-
-  run-same : runNumber h ks few lo up ≡ runNumber h ks all lo up
-  unfolding runRefusal
-  run-same = ap after (lists-same h ks es (length all / 4) room)
-
-  lists-fine : runNumber h ks all lo up ≡ 0 → listsNumber h ks all ≡ 0
-  unfolding runRefusal
+  lists-fine : runNumber all (length lo) (length up) ≡ 0 → listsNumber all ≡ 0
+  unfolding runNumber
   lists-fine z = first-none _ _ z .0
 
-  pub run-concluded : (r : Ran) (lo′ up′ : List ℕ) → Outcome h ks lo up few r lo′ up′ → Outcome h ks lo up all r lo′ up′
-  unfolding runRefusal first
-  run-concluded r lo′ up′ (a, (l, (u, d))) = (
-    a ∙ told-all h ks es (length all / 4) room (λ n p. ranAnswer (after n) (totalsOf p)) (λ n p q. refl),
-    (
-      l ∙ told-all h ks es (length all / 4) room (λ n p. filled (after n) (lowerList intact p) lo) (λ n p q. refl),
+  module _ (r : Ran) (lo′ up′ : List ℕ) (o : Outcome few lo up r lo′ up′) where
+    answer : r ≡ ranAnswer (runNumber all (length lo) (length up)) (totalsOf (planLent all))
+    unfolding runNumber first
+    answer = o .0 ∙ told-all h ks es (λ n p. ranAnswer (after n) (totalsOf p)) (λ n p q. refl)
+
+    number : ranNumber r ≡ runNumber all (length lo) (length up)
+    number = ap ranNumber answer ∙ ran-number _ _
+
+    -- what is left in a list, which bounds of a plan fill
+    left : (bounds : Plan → List ℕ) (list : List ℕ) → filled (ranNumber r) (bounds (planLent few)) list ≡ filled (ranNumber r) (bounds (planLent all)) list
+    left bounds list = go (ranNumber r) refl
+      where
+        go : (n : ℕ) → ranNumber r ≡ n → filled n (bounds (planLent few)) list ≡ filled n (bounds (planLent all)) list
+        go zero e = ap (λ (p : Plan). filled 0 (bounds p) list) (plan-same h ks es (lists-fine (sym number ∙ e)))
+        go (suc n) e = refl
+
+    pub run-concluded : Outcome all lo up r lo′ up′
+    run-concluded = (
+      answer,
       (
-        u ∙ told-all h ks es (length all / 4) room (λ n p. filled (after n) (upperList intact p) up) (λ n p q. refl),
-        λ z. rw (← plan-same h ks es (length all / 4) room (lists-fine z)) (d (run-same ∙ z)),
+        o .1 .0 ∙ left (lowerList intact) lo,
+        (o .1 .1 .0 ∙ left (upperList intact) up, λ z. rw (← plan-same h ks es (lists-fine (sym number ∙ z))) (o .1 .1 .1 z)),
       ),
-    ),
-  )
+    )

@@ -2,7 +2,6 @@
 -- Assumes nothing.
 use mathlib.Core.List.{List, [], _∷_}
 use Prim.Native.Nat.{ℕ}
-use lib.ListN.{length}
 use Rattle.mass.specs.Refusal.{first}
 use Rattle.refusals.specs.Tests.{roomTest}
 use Rattle.plan.specs.File.{refusal, nodesIn}
@@ -13,13 +12,9 @@ use Rattle.bounds.specs.declared.Ran.{Ran}
 use Rattle.bounds.specs.declared.Ran.the-variants as ran
 
 -- the number with which the file is refused, then 12 where a list of bounds is shorter than the pairs
-unfoldable pub fileRefusal : List ℕ → ℕ → ℕ → ℕ
-fileRefusal b lowerRoom upperRoom =
+unfoldable pub fileNumber : List ℕ → ℕ → ℕ → ℕ
+fileNumber b lowerRoom upperRoom =
     first (refusal b ∷ roomTest lowerRoom (pairCount (nodesIn b)) ∷ roomTest upperRoom (pairCount (nodesIn b)) ∷ [])
-
--- the number with which a run on a file, with lent lists of bounds, is refused
-abbrev pub fileNumber : List ℕ → List ℕ → List ℕ → ℕ
-fileNumber b lower upper = fileRefusal b (length lower) (length upper)
 
 -- the reader's number where it refuses, else what the run answers
 abbrev pub fileAnswer : Reading → Ran → Ran

@@ -11,12 +11,13 @@ use records::used_words;
 pub use running::run_plan;
 ghost use mathlib.Core.Path.{_≡_};
 ghost use Prim.Native.Nat.{_*_};
-ghost use Rattle.plan.specs.LentLists.{planOfLists};
+ghost use lib.ListN.{length};
+ghost use Rattle.plan.specs.LentLists.{planOfLists, inWords};
 ghost use Rattle.plan.specs.Calls.{filled};
 ghost use Rattle.network.specs.Outage.{intact};
 ghost use Rattle.bounds.specs.Bounds.{lowerList, upperList, EnclosesAll};
-ghost use Rattle.bounds.specs.Calls.{runNumber, ranAnswer, totalsOf, totalsIn};
-ghost use Rattle.records.specs.Events.{wordsOf, wordsUsed};
+ghost use Rattle.bounds.specs.Calls.{runNumber, ranAnswer, ranNumber, totalsOf, totalsIn};
+ghost use Rattle.records.specs.Events.{wordsOf, wordsUsed, inRecords};
 
 // The run on an array of words: the lent list of events has `count` of them, of which the first 128 stand in the array.
 pub fn run_words(
@@ -28,16 +29,13 @@ pub fn run_words(
     upper: &mut [u64],
 ) -> Ran
     ensures answer { λ r. ⌜ r ≡ ranAnswer
-        (runNumber h (now (links .entry)) (wordsUsed count (now (words .entry))) (now (lower .entry)) (now (upper .entry)))
+        (runNumber (inWords h (now (links .entry)) (wordsUsed count (now (words .entry)))) (length (now (lower .entry))) (length (now (upper .entry))))
         (totalsOf (planOfLists h (now (links .entry)) (wordsUsed count (now (words .entry))))) ⌝ }
-    ensures lowers { λ r. ⌜ now (lower .exit) ≡ filled
-        (runNumber h (now (links .entry)) (wordsUsed count (now (words .entry))) (now (lower .entry)) (now (upper .entry)))
+    ensures lowers { λ r. ⌜ now (lower .exit) ≡ filled (ranNumber r)
         (lowerList intact (planOfLists h (now (links .entry)) (wordsUsed count (now (words .entry))))) (now (lower .entry)) ⌝ }
-    ensures uppers { λ r. ⌜ now (upper .exit) ≡ filled
-        (runNumber h (now (links .entry)) (wordsUsed count (now (words .entry))) (now (lower .entry)) (now (upper .entry)))
+    ensures uppers { λ r. ⌜ now (upper .exit) ≡ filled (ranNumber r)
         (upperList intact (planOfLists h (now (links .entry)) (wordsUsed count (now (words .entry))))) (now (upper .entry)) ⌝ }
-    ensures demand3 { λ r. ⌜
-        (runNumber h (now (links .entry)) (wordsUsed count (now (words .entry))) (now (lower .entry)) (now (upper .entry)) ≡ 0
+    ensures demand3 { λ r. ⌜ (ranNumber r ≡ 0
         → EnclosesAll intact (planOfLists h (now (links .entry)) (wordsUsed count (now (words .entry))))
         (now (lower .exit)) (now (upper .exit)) (totalsIn r .count)) ⌝ }
 {
@@ -53,15 +51,13 @@ pub fn run_records(
     upper: &mut [u64],
 ) -> Ran
     ensures answer { λ r. ⌜ r ≡ ranAnswer
-        (runNumber h (now (links .entry)) (wordsOf (now (events .entry))) (now (lower .entry)) (now (upper .entry)))
+        (runNumber (inRecords h (now (links .entry)) (now (events .entry))) (length (now (lower .entry))) (length (now (upper .entry))))
         (totalsOf (planOfLists h (now (links .entry)) (wordsOf (now (events .entry))))) ⌝ }
-    ensures lowers { λ r. ⌜ now (lower .exit) ≡ filled
-        (runNumber h (now (links .entry)) (wordsOf (now (events .entry))) (now (lower .entry)) (now (upper .entry)))
+    ensures lowers { λ r. ⌜ now (lower .exit) ≡ filled (ranNumber r)
         (lowerList intact (planOfLists h (now (links .entry)) (wordsOf (now (events .entry))))) (now (lower .entry)) ⌝ }
-    ensures uppers { λ r. ⌜ now (upper .exit) ≡ filled
-        (runNumber h (now (links .entry)) (wordsOf (now (events .entry))) (now (lower .entry)) (now (upper .entry)))
+    ensures uppers { λ r. ⌜ now (upper .exit) ≡ filled (ranNumber r)
         (upperList intact (planOfLists h (now (links .entry)) (wordsOf (now (events .entry))))) (now (upper .entry)) ⌝ }
-    ensures demand3 { λ r. ⌜ (runNumber h (now (links .entry)) (wordsOf (now (events .entry))) (now (lower .entry)) (now (upper .entry)) ≡ 0
+    ensures demand3 { λ r. ⌜ (ranNumber r ≡ 0
         → EnclosesAll intact (planOfLists h (now (links .entry)) (wordsOf (now (events .entry))))
         (now (lower .exit)) (now (upper .exit)) (totalsIn r .count)) ⌝ }
 {

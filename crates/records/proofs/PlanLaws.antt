@@ -18,14 +18,15 @@ use Rattle.plan.specs.Plan.{Plan}
 use Rattle.plan.specs.Lists.{linksOf, eventsOf}
 use Rattle.plan.specs.Layout.{layout}
 use Rattle.refusals.specs.Tests.{roomTest}
-use Rattle.plan.specs.LentLists.{planOfLists, listsRefusal, linkListRefusal, eventListRefusal, listsNumber}
-use Rattle.plan.specs.Calls.{filled, writeRefusal, writeAnswer}
+use Rattle.plan.specs.LentLists.{Lent, planOfLists, planLent, linkListRefusal, eventListRefusal, inWords, listsNumber}
+use Rattle.plan.specs.Calls.{filled, writeNumber, writeAnswer, writtenNumber}
+use Rattle.plan.proofs.AnswerLaws.{written-number}
 use Rattle.plan.specs.declared.Header.{Header}
 use Rattle.plan.specs.declared.Writing.{Writing}
 use Rattle.refusals.proofs.TestLaws.{Ranges, counts-none, room-none}
 use Rattle.lent.proofs.CopyLaws.{same-plan}
 use Rattle.writer.proofs.WriterAnswer.{Outcome}
-use Rattle.records.specs.Events.{wordsOf, wordsUsed}
+use Rattle.records.specs.Events.{wordsOf, wordsUsed, inRecords}
 use Rattle.records.specs.declared.Event.{Event}
 use Rattle.records.proofs.EventLaws.{length-words, take-words}
 
@@ -51,26 +52,26 @@ used-words es room long =
     let m : length (take 128 es) ≡ min 128 (length es) = length-take 128 es in
     rw (sets-eq (wordsOf (take 128 es)) room 0 (omega (arith, n, m))) (take-at (wordsOf (take 128 es)) _ (4 * min (length es) 128) (omega (arith, n, m)))
 
--- the words of the first 128 records, and of all, where the list has room for `room` events
-module _ (h : Header) (ks : List ℕ) (es : List Event) (room : ℕ) (is : room ≡ length es) where
+-- the words of the first 128 records, and of all
+module _ (h : Header) (ks : List ℕ) (es : List Event) where
   abbrev few : List ℕ
   few = wordsOf (take 128 es)
 
   abbrev all : List ℕ
   all = wordsOf es
 
-  denote-same : h .events ≤ 128 → h .events ≤ room → planOfLists h ks few ≡ planOfLists h ks all
+  denote-same : h .events ≤ 128 → h .events ≤ length es → planOfLists h ks few ≡ planOfLists h ks all
   denote-same c r = same-plan h _ _ _ _ refl (take-words (h .events) (take 128 es) ∙ ap wordsOf (take-take (h .events) 128 es c) ∙ sym (take-words (h .events) es))
 
   -- they are refused with the same number
-  pub lists-same : listsNumber h ks few ≡ listsRefusal h (length ks) room ks all
-  unfolding listsRefusal planOfLists
+  pub lists-same : listsNumber (inWords h ks few) ≡ listsNumber (inRecords h ks es)
+  unfolding listsNumber planOfLists
   lists-same =
       first-same _ _ _ (λ c.
       let fit : Ranges (h .nodes) (h .links) (h .events) = counts-none _ _ _ c in
       first-same _ _ _ (λ _. first-same _ _ _ (λ _. first-same _ _ _ (λ _.
       ap (λ (t : ℕ). first (t ∷ linkListRefusal (h .nodes) (linksOf (h .links) ks) ∷ eventListRefusal (h .nodes) (h .links) certain (eventsOf (h .events) few) ∷ []))
-      (room-same (length few / 4) room (h .events) (λ l. omega (arith, n, m)) (λ l. omega (arith, n, m)))
+      (room-same (length few / 4) (length es) (h .events) (λ l. omega (arith, n, m)) (λ l. omega (arith, n, m)))
       ∙ first-same _ _ _ (λ z.
       ap (λ (v : List plan.Event). first (linkListRefusal (h .nodes) (linksOf (h .links) ks) ∷ eventListRefusal (h .nodes) (h .links) certain v ∷ []))
       (ap (λ (p : Plan). p .events) (denote-same (fit .events-fit) (room-none _ _ z))))))))
@@ -82,8 +83,8 @@ module _ (h : Header) (ks : List ℕ) (es : List Event) (room : ℕ) (is : room 
       m = length-take 128 es
 
   -- and denote the same plan where they are not refused
-  pub plan-same : listsRefusal h (length ks) room ks all ≡ 0 → planOfLists h ks few ≡ planOfLists h ks all
-  unfolding listsRefusal
+  pub plan-same : listsNumber (inRecords h ks es) ≡ 0 → planOfLists h ks few ≡ planOfLists h ks all
+  unfolding listsNumber
   plan-same e =
       let c = first-none _ _ e in
       let r = first-none _ _ (first-none _ _ (first-none _ _ (first-none _ _ (c .1) .1) .1) .1) in
@@ -92,8 +93,8 @@ module _ (h : Header) (ks : List ℕ) (es : List Event) (room : ℕ) (is : room 
 
   -- so the same is told of them, where a refusal tells nothing of the plan
   pub told-all : {B : Type 0} (f : ℕ → Plan → B) → ((n : ℕ) (p q : Plan) → f (suc n) p ≡ f (suc n) q)
-      → f (listsNumber h ks few) (planOfLists h ks few) ≡ f (listsRefusal h (length ks) room ks all) (planOfLists h ks all)
-  told-all {B} f silent = ap (λ (n : ℕ). f n (planOfLists h ks few)) lists-same ∙ go (listsRefusal h (length ks) room ks all) plan-same
+      → f (listsNumber (inWords h ks few)) (planOfLists h ks few) ≡ f (listsNumber (inRecords h ks es)) (planOfLists h ks all)
+  told-all {B} f silent = ap (λ (n : ℕ). f n (planOfLists h ks few)) lists-same ∙ go (listsNumber (inRecords h ks es)) plan-same
     where
       go : (n : ℕ) → (n ≡ 0 → planOfLists h ks few ≡ planOfLists h ks all) → f n (planOfLists h ks few) ≡ f n (planOfLists h ks all)
       go zero same = ap (f zero) (same refl)
@@ -102,25 +103,38 @@ module _ (h : Header) (ks : List ℕ) (es : List Event) (room : ℕ) (is : room 
 -- from records to a call on words: the used part of the words that `flatten` leaves is refused with the number that the records have, 12
 -- for a header with more events than records among them
 pub bridged : (h : Header) (links : List ℕ) (es : List Event) (room : List ℕ) → length room ≡ 512
-    → listsNumber h links (wordsUsed (length es) (sets room 0 (wordsOf (take 128 es)))) ≡ listsRefusal h (length links) (length es) links (wordsOf es)
-bridged h links es room long = ap (listsNumber h links) (used-words es room long) ∙ lists-same h links es (length es) refl
+    → listsNumber (inWords h links (wordsUsed (length es) (sets room 0 (wordsOf (take 128 es))))) ≡ listsNumber (inRecords h links es)
+bridged h links es room long = ap (λ (ws : List ℕ). listsNumber (inWords h links ws)) (used-words es room long) ∙ lists-same h links es
 
 -- computed: three records, all zeros, beside a header with five events. The used part of the words meets 12; all 512 of them would be accepted.
 abbrev five : Header
 five = record { nodes = 1; links = 0; events = 5; threshold = 1; limit = 1 }
 
-example-bridged : (listsNumber five [] (wordsUsed 3 (replicate 512 0)) ≡ 12) × (listsNumber five [] (replicate 512 0) ≡ 0)
-unfolding listsRefusal linkListRefusal eventListRefusal linksOf eventsOf first
+example-bridged : (listsNumber (inWords five [] (wordsUsed 3 (replicate 512 0))) ≡ 12) × (listsNumber (inWords five [] (replicate 512 0)) ≡ 0)
+unfolding listsNumber linkListRefusal eventListRefusal linksOf eventsOf first
 example-bridged = (refl, refl)
 
 -- a plan written from the words of the first 128 records is that of all of them
-pub written-list : (h : Header) (links out left : List ℕ) (es : List Event) (answer : Writing)
-    → Outcome h (length links) (length (wordsOf (take 128 es)) / 4) links (wordsOf (take 128 es)) out left answer
-    → Outcome h (length links) (length es) links (wordsOf es) out left answer
-unfolding writeRefusal first
-written-list h links out left es answer (a, l) = (
-  a ∙ told-all h links es (length es) refl
-      (λ n p. writeAnswer (first (n ∷ roomTest (length out) (length (layout p)) ∷ [])) (length (layout p))) (λ n p q. refl),
-  l ∙ told-all h links es (length es) refl
-      (λ n p. filled (first (n ∷ roomTest (length out) (length (layout p)) ∷ [])) (layout p) out) (λ n p q. refl),
-)
+module _ (h : Header) (links out left : List ℕ) (es : List Event) (r : Writing) (o : Outcome (inWords h links (wordsOf (take 128 es))) out left r) where
+  abbrev whole : Lent
+  whole = inRecords h links es
+
+  answer : r ≡ writeAnswer (writeNumber whole (length out)) (length (layout (planLent whole)))
+  unfolding writeNumber first
+  answer =
+      o .0
+      ∙ told-all h links es (λ n p. writeAnswer (first (n ∷ roomTest (length out) (length (layout p)) ∷ [])) (length (layout p))) (λ n p q. refl)
+
+  number : writtenNumber r ≡ writeNumber whole (length out)
+  number = ap writtenNumber answer ∙ written-number _ _
+
+  lists-fine : writeNumber whole (length out) ≡ 0 → listsNumber whole ≡ 0
+  unfolding writeNumber
+  lists-fine z = first-none _ _ z .0
+
+  pub written-list : Outcome whole out left r
+  written-list = (answer, o .1 ∙ go (writtenNumber r) refl)
+    where
+      go : (n : ℕ) → writtenNumber r ≡ n → filled n (layout (planOfLists h links (wordsOf (take 128 es)))) out ≡ filled n (layout (planLent whole)) out
+      go zero e = ap (λ (p : Plan). filled 0 (layout p) out) (plan-same h links es (lists-fine (sym number ∙ e)))
+      go (suc n) e = refl

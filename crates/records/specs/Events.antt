@@ -4,7 +4,7 @@
 use mathlib.Core.List.{List, [], _∷_}
 use Prim.Native.Nat.{ℕ, zero, suc, min, _*_}
 use lib.ListN.{length, getD, take, drop}
-use Rattle.plan.specs.Calls.{writeRefusal}
+use Rattle.plan.specs.LentLists.{Lent}
 use Rattle.plan.specs.declared.Header.{Header}
 use Rattle.records.specs.declared.Event.{Event}
 
@@ -13,9 +13,9 @@ unfoldable pub wordsOf : List Event → List ℕ
 wordsOf [] = []
 wordsOf (e ∷ es) = e .probability ∷ e .nodes ∷ e .«links_low» ∷ e .«links_high» ∷ wordsOf es
 
--- the number with which writing from a lent list of records is refused: a record holds an event
-abbrev pub writeRecordsNumber : Header → List ℕ → List Event → List ℕ → ℕ
-writeRecordsNumber h links events out = writeRefusal h (length links) (length events) links (wordsOf events) (length out)
+-- events that are lent as records, one for each event
+abbrev pub inRecords : Header → List ℕ → List Event → Lent
+inRecords h links events = record { header = h; links = links; words = wordsOf events; room = length events }
 
 -- the words of the first `count` events that stand in an array of 128
 abbrev pub wordsUsed : ℕ → List ℕ → List ℕ

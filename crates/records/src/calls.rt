@@ -5,12 +5,11 @@ use crate::lists::used_words;
 use plan::Header;
 use plan::Writing;
 ghost use mathlib.Core.Path.{_≡_};
-ghost use Prim.Native.Nat.{_*_};
 ghost use lib.ListN.{length};
 ghost use Rattle.plan.specs.Layout.{layout};
-ghost use Rattle.plan.specs.LentLists.{planOfLists};
-ghost use Rattle.plan.specs.Calls.{filled, writeNumber, writeAnswer};
-ghost use Rattle.records.specs.Events.{wordsOf, wordsUsed, writeRecordsNumber};
+ghost use Rattle.plan.specs.LentLists.{planOfLists, inWords};
+ghost use Rattle.plan.specs.Calls.{filled, writeNumber, writeAnswer, writtenNumber};
+ghost use Rattle.records.specs.Events.{wordsOf, wordsUsed, inRecords};
 
 // Writes a plan whose events stand in an array of words: the lent list of events has `count` of them, of which the first 128 stand in the
 // array.
@@ -22,10 +21,9 @@ pub fn write_words(
     out: &mut [u8],
 ) -> Writing
     ensures { λ r. ⌜ r ≡ writeAnswer
-        (writeNumber h (now (links .entry)) (wordsUsed count (now (words .entry))) (now (out .entry)))
+        (writeNumber (inWords h (now (links .entry)) (wordsUsed count (now (words .entry)))) (length (now (out .entry))))
         (length (layout (planOfLists h (now (links .entry)) (wordsUsed count (now (words .entry)))))) ⌝ }
-    ensures { λ r. ⌜ now (out .exit) ≡ filled
-        (writeNumber h (now (links .entry)) (wordsUsed count (now (words .entry))) (now (out .entry)))
+    ensures { λ r. ⌜ now (out .exit) ≡ filled (writtenNumber r)
         (layout (planOfLists h (now (links .entry)) (wordsUsed count (now (words .entry))))) (now (out .entry)) ⌝ }
 {
     writer::write(h, links, used_words(words, count), out)
@@ -34,10 +32,9 @@ pub fn write_words(
 // Writes a plan from lent lists: links two bytes each, events a record each.
 pub fn write_records(h: Header, links: &[u8], events: &[Event], out: &mut [u8]) -> Writing
     ensures { λ r. ⌜ r ≡ writeAnswer
-        (writeRecordsNumber h (now (links .entry)) (now (events .entry)) (now (out .entry)))
+        (writeNumber (inRecords h (now (links .entry)) (now (events .entry))) (length (now (out .entry))))
         (length (layout (planOfLists h (now (links .entry)) (wordsOf (now (events .entry)))))) ⌝ }
-    ensures { λ r. ⌜ now (out .exit) ≡ filled
-        (writeRecordsNumber h (now (links .entry)) (now (events .entry)) (now (out .entry)))
+    ensures { λ r. ⌜ now (out .exit) ≡ filled (writtenNumber r)
         (layout (planOfLists h (now (links .entry)) (wordsOf (now (events .entry))))) (now (out .entry)) ⌝ }
 {
     let mut words = [0u64; 512];

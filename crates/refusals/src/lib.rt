@@ -1,5 +1,8 @@
 // The tests of document 01's table "Refused": each gives its number, or 0. Number 8 and 16 are tests of the crate `mass`.
 // Assumes nothing.
+mod order;
+
+pub use order::first_of;
 ghost use mathlib.Core.Path.{_≡_};
 ghost use Prim.Native.Nat.{_^_, _≤_, _<_};
 ghost use lib.Dec.{leb};

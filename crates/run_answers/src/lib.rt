@@ -5,8 +5,9 @@ use answers::give_bounds;
 use answers::give_totals;
 use plan::Header;
 ghost use mathlib.Core.Path.{_≡_};
+ghost use lib.ListN.{length};
 ghost use Rattle.plan.specs.File.{refusal};
-ghost use Rattle.plan.specs.LentLists.{planOfLists};
+ghost use Rattle.plan.specs.LentLists.{planOfLists, inWords};
 ghost use Rattle.plan.specs.Calls.{filled};
 ghost use Rattle.network.specs.Outage.{intact};
 ghost use Rattle.windows.specs.Windows.{takenOut};
@@ -33,8 +34,8 @@ pub fn run_at(
     upper: &mut [u64],
     result: &mut [u64],
 ) -> u32
-    ensures number { λ r. ⌜ r ≡ runAtNumber h (now (links .entry)) (now (events .entry)) (now (windows .entry)) minute
-        (now (lower .entry)) (now (upper .entry)) ⌝ }
+    ensures number { λ r. ⌜ r ≡ runAtNumber (inWords h (now (links .entry)) (now (events .entry)))
+        (length (now (lower .entry))) (length (now (upper .entry))) (now (windows .entry)) minute ⌝ }
     ensures lowers { λ r. ⌜ now (lower .exit) ≡ filled r
         (lowerList (takenOut (now (windows .entry)) minute) (planOfLists h (now (links .entry)) (now (events .entry))))
         (now (lower .entry)) ⌝ }
@@ -53,7 +54,7 @@ pub fn run_at(
 
 // Gives the bounds of a pair, and lays down the lower and the upper one.
 pub fn pair(h: Header, links: &[u8], events: &[u64], v: u64, w: u64, result: &mut [u64]) -> u32
-    ensures number { λ r. ⌜ r ≡ pairNumber h (now (links .entry)) (now (events .entry)) v w ⌝ }
+    ensures number { λ r. ⌜ r ≡ pairNumber (inWords h (now (links .entry)) (now (events .entry))) v w ⌝ }
     ensures result { λ r. ⌜ now (result .exit) ≡ laid
         (boundsValues (pairAnswer r (boundsOf intact (planOfLists h (now (links .entry)) (now (events .entry))) v w)))
         (now (result .entry)) ⌝ }

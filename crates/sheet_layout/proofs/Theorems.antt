@@ -7,7 +7,7 @@ use Prim.Native.Nat.{ℕ, _*_, _/_, _^_, _<_, _≤_}
 use native.Mathlib.Omega.{arith}
 use borrow.Author.Tests.{le-ltb}
 use lib.ListN.{length, length-map}
-use lib.Seq.{sets}
+use lib.Seq.{sets, length-sets}
 use Rattle.mass.specs.Refusal.{first}
 use Rattle.mass.specs.Split.{certain}
 use Rattle.refusals.specs.Tests.{countsTest, thresholdTest, limitTest}
@@ -19,7 +19,7 @@ use Rattle.plan.specs.Plan.{Link, Event}
 use Rattle.plan.specs.Lists.{linksOf, eventsOf}
 use Rattle.plan.specs.Layout.{Bytes}
 use Rattle.plan.specs.File.{nodesIn, linksIn}
-use Rattle.plan.specs.LentLists.{linkListRefusal, eventListRefusal, planRefusal, listsRefusal}
+use Rattle.plan.specs.LentLists.{linkListRefusal, eventListRefusal, planRefusal, inWords, listsNumber}
 use Rattle.plan.specs.declared.Header.{Header}
 use Rattle.layout.proofs.LayoutEvents.{list-pass}
 use Rattle.layout.proofs.LayoutFile.{valid-pass}
@@ -145,15 +145,16 @@ pub lists-accepted : (b links words : List ℕ) (h : Header)
     → limitTest (h .limit) ≡ 0
     → 2 * h .links ≤ length links
     → linkListRefusal (h .nodes) (linksOf (h .links) links) ≡ 0
-    → listsRefusal h (length links) (length words / 4) links (sets words 0 (sheetWords b)) ≡ 0
-unfolding listsRefusal first sheetOf
+    → listsNumber (inWords h links (sets words 0 (sheetWords b))) ≡ 0
+unfolding listsNumber first sheetOf
 lists-accepted b links words h bytes e room n l c t m enough good =
     let v = read-valid b bytes (sheet-none b e) in
     let laid : eventsOf (h .events) (sets words 0 (sheetWords b)) ≡ sheetEvents (sheetOf b) =
     events-laid (h .events) (sheetEvents (sheetOf b)) words (length-sheet-events b ∙ sym c) (omega (arith, length-sheet-words b)) in
-    let few : h .events ≤ length words / 4 = omega arith in
+    let long : length (sets words 0 (sheetWords b)) ≡ length words = length-sets words 0 (sheetWords b) in
+    let few : h .events ≤ length (sets words 0 (sheetWords b)) / 4 = omega arith in
     let events : eventListRefusal (h .nodes) (h .links) certain (sheetEvents (sheetOf b)) ≡ 0 = rw (n, l) (events-accepted (sheetOf b) v) in
     let counts : countsTest (h .nodes) (h .links) (h .events) ≡ 0 =
     rw (n, l, c)
     (counts-pass (nodesIn b) (linksIn b) (linesIn b) (v .some-node) (v .nodes-fit) (v .links-fit) (sheet-none b e .lines-fit)) in
-    rw (counts, t, m, room-pass (length links) (2 * h .links) enough, room-pass (length words / 4) (h .events) few, good, laid, events)
+    rw (counts, t, m, room-pass (length links) (2 * h .links) enough, room-pass (length (sets words 0 (sheetWords b)) / 4) (h .events) few, good, laid, events)

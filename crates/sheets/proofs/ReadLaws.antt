@@ -7,7 +7,7 @@ use native.Mathlib.Nat.{not-suc-le-zero}
 use native.Mathlib.Omega.{arith}
 use lib.ListN.{length, getD, take, drop, length-map}
 use lib.Seq.{sets, drop-drop, getD-drop}
-use Rattle.mass.proofs.RefusalLaws.{first-none}
+use Rattle.mass.proofs.RefusalLaws.{first-none, answered-number}
 use Rattle.refusals.proofs.TestLaws.{room-none}
 use Rattle.plan.specs.Plan.{Event}
 use Rattle.plan.specs.File.{setOf}
@@ -18,7 +18,7 @@ use Rattle.order.specs.Order.{withElement, orderedWith}
 use Rattle.order.proofs.OrderLaws.{length-ordered}
 use Rattle.sheets.specs.Sheet.{eventOfLine, sheetEvents}
 use Rattle.sheets.specs.SheetFile.{linesIn, lineMembersIn, lineSize, sheetRefusal, lineIn, linesAt, sheetOf}
-use Rattle.sheets.specs.SheetCalls.{countsOf, readSheetRefusal, readSheetAnswer, countsIn, sheetWords}
+use Rattle.sheets.specs.SheetCalls.{countsOf, readSheetRefusal, readSheetAnswer, sheetNumber, countsIn, sheetWords}
 use Rattle.sheets.specs.declared.Counts.{Counts}
 use Rattle.sheets.specs.declared.SheetReading.the-variants as reading
 use Rattle.sheets.proofs.CheckLaws.{accepted-counts}
@@ -63,17 +63,10 @@ length-sheet-events b =
 pub length-sheet-words : (b : List ℕ) → length (sheetWords b) ≡ 4 * linesIn b
 length-sheet-words b = length-words (sheetEvents (sheetOf b)) ∙ ap (λ (n : ℕ). 4 * n) (length-sheet-events b)
 
--- ---- the answer, by the number
+-- ---- an answer has the number that it follows from
 
-pub reading-stop : {r number : ℕ} (c : Counts) → r ≡ number → (r ≡ 0 → ⊥) → reading.Refused r ≡ readSheetAnswer number c
-reading-stop {r} {number} c e n = go number e
-  where
-    go : (k : ℕ) → r ≡ k → reading.Refused r ≡ readSheetAnswer k c
-    go zero z = absurd (n z)
-    go (suc k) z = ap reading.Refused z
-
-pub reading-go : (number : ℕ) {x c : Counts} → number ≡ 0 → x ≡ c → reading.Accepted x ≡ readSheetAnswer number c
-reading-go number e p = rw e (ap reading.Accepted p)
+pub sheet-number : (number : ℕ) (c : Counts) → sheetNumber (readSheetAnswer number c) ≡ number
+sheet-number number c = answered-number reading.Refused (reading.Accepted c) sheetNumber refl (λ n. refl) number
 
 -- ---- an accepted reading: there is room
 

@@ -2,9 +2,9 @@
 -- for.
 -- Assumes nothing.
 use mathlib.Core.List.{List, [], _∷_}
-use Prim.Native.Nat.{ℕ, zero, suc, _/_}
+use Prim.Native.Nat.{ℕ, _/_}
 use lib.ListN.{length}
-use Rattle.mass.specs.Refusal.{first}
+use Rattle.mass.specs.Refusal.{first, answered}
 use Rattle.refusals.specs.Tests.{roomTest}
 use Rattle.plan.specs.File.{nodesIn, linksIn}
 use Rattle.plan.specs.Lists.{eventWords}
@@ -26,9 +26,9 @@ readSheetRefusal room b = first (sheetRefusal b ∷ roomTest room (linesIn b) �
 abbrev pub readSheetNumber : List ℕ → List ℕ → ℕ
 readSheetNumber s events = readSheetRefusal (length events / 4) s
 
+-- the answer of reading a sheet
 abbrev pub readSheetAnswer : ℕ → Counts → SheetReading
-readSheetAnswer zero counts = reading.Accepted counts
-readSheetAnswer (suc number) counts = reading.Refused (suc number)
+readSheetAnswer number counts = answered reading.Refused (reading.Accepted counts) number
 
 -- the number of an answer
 abbrev pub sheetNumber : SheetReading → ℕ

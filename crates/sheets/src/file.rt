@@ -56,15 +56,12 @@ fn header_refusal(s: &[u8]) -> u32
     if short != 0 {
         return short;
     }
-    let mark = refusals::mark_test(69, 81, 83, byte_at(s, 0), byte_at(s, 1), byte_at(s, 2));
-    if mark != 0 {
-        return mark;
-    }
-    let version = refusals::version_test(number_at(s, 3, 2));
-    if version != 0 {
-        return version;
-    }
-    refusals::counts_test(byte_at(s, 5), byte_at(s, 6), 0)
+    let tests = [
+        refusals::mark_test(69, 81, 83, byte_at(s, 0), byte_at(s, 1), byte_at(s, 2)),
+        refusals::version_test(number_at(s, 3, 2)),
+        refusals::counts_test(byte_at(s, 5), byte_at(s, 6), 0),
+    ];
+    refusals::first_of(&tests)
 }
 
 // A line: 1, then each member, then 17.
@@ -75,15 +72,15 @@ fn line_refusal(s: &[u8], at: usize, nodes: u64, links: u64) -> u32
     if short != 0 {
         return short;
     }
-    let members = plan::members_refusal(s, at + 13, byte_at(s, at + 12), nodes, links);
-    if members != 0 {
-        return members;
-    }
-    product_test(
-        number_at(s, at, 4),
-        number_at(s, at + 4, 4),
-        number_at(s, at + 8, 4),
-    )
+    let tests = [
+        plan::members_refusal(s, at + 13, byte_at(s, at + 12), nodes, links),
+        product_test(
+            number_at(s, at, 4),
+            number_at(s, at + 4, 4),
+            number_at(s, at + 8, 4),
+        ),
+    ];
+    refusals::first_of(&tests)
 }
 
 // How many bytes a line takes.
@@ -122,9 +119,9 @@ pub fn check(s: &[u8]) -> u32
         return header;
     }
     let count = byte_at(s, 7);
-    let lines = lines_refusal(s, 8, count, byte_at(s, 5), byte_at(s, 6));
-    if lines != 0 {
-        return lines;
-    }
-    lines_test(count)
+    let tests = [
+        lines_refusal(s, 8, count, byte_at(s, 5), byte_at(s, 6)),
+        lines_test(count),
+    ];
+    refusals::first_of(&tests)
 }

@@ -8,10 +8,10 @@ use native.Mathlib.Nat.{add-zero, zero-add}
 use native.Mathlib.Numerals.{add-one}
 use native.Mathlib.Omega.{arith}
 use lib.Dec.{eqb}
-use lib.ListN.{length, set, length-append}
+use lib.ListN.{length, length-append}
 use Rattle.lent.proofs.ListLaws.{less-one}
 use Rattle.sets.specs.Sets.{joined}
-use Rattle.plan.specs.Layout.{elements, memberBytes, members}
+use Rattle.plan.specs.Layout.{elements, memberBytes}
 
 -- the lowest element, if it is there, then the others
 pub elements-next : (count from s : ℕ) → elements (suc count) from s ≡ elements 1 from s ++ elements count (suc from) (s / 2)

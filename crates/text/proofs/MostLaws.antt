@@ -2,7 +2,7 @@
 -- Assumes nothing.
 use mathlib.Core.Path.{_≡_, sym, ap, _∙_}
 use mathlib.Core.Bool.{Bool, true, false, not, _||_, _&&_}
-use mathlib.Core.List.{List, [], _∷_}
+use mathlib.Core.List.{List, [], _∷_, flatten}
 use Prim.Native.Nat.{ℕ, zero, suc, _+_, _-_, _*_, _^_, _<_, _≤_}
 use native.Mathlib.Omega.{arith}
 use borrow.Author.Tests.{ltb-false}
@@ -25,12 +25,14 @@ use Rattle.walk.specs.Walk.{count, complete, massExamined, planEnds}
 use Rattle.walk.proofs.Theorems.{massExamined-le, count-le}
 use Rattle.walk.proofs.Valid.{plan-probable}
 use Rattle.sums.proofs.BoundsLaws.{upper-le, lower-upper}
-use Rattle.pairs.specs.Pairs.{start}
+use Rattle.pairs.specs.Pairs.{row, rows, table, start}
 use Rattle.pairs.proofs.PairLaws.{start-suc, start-zero, pairs-most}
 use Rattle.bounds.specs.Bounds.{cuts, lowerOf, upperOf}
 use Rattle.text.proofs.DecimalLaws.{decimal-most}
-use Rattle.text.specs.Listing.{field, line, rowText, rowsText, pairsText, pairLine, planText, answerText, listing}
+use Rattle.text.specs.Listing.{field, line, pairsText, pairLine, planText, answerText, listing}
+use Rattle.text.specs.Sums.{rowText, rowsText}
 use Rattle.text.proofs.FieldLaws.{field-long, line-long, head-long}
+use Rattle.text.proofs.RowLaws.{rows-step}
 
 -- ---- no file is refused with a number above 11
 
@@ -140,21 +142,21 @@ field-most k x end h = omega (arith, field-long x end, decimal-most k x h)
 
 module _ (f : ℕ → ℕ → List ℕ) (n : ℕ) (most : (v w : ℕ) → v < w → w < n → length (f v w) ≤ 46) where
   row-most : (v w some : ℕ) → v < w → w + some ≤ n → length (rowText f v w some) ≤ 46 * some
-  unfolding rowText
+  unfolding row flatten
   row-most v w zero h k = omega arith
   row-most v w (suc some) h k =
       rw (length-append (f v w) (rowText f v (suc w) some))
       (omega (arith, most v w h (omega arith), row-most v (suc w) some (omega arith) (omega arith)))
 
   rows-most : (v some : ℕ) → v + some ≡ n → 46 * start n v + length (rowsText f n v some) ≤ 46 * start n n
-  unfolding rowsText
+  unfolding rows flatten
   rows-most v zero e = let last : v ≡ n = omega arith in rw last (omega arith)
   rows-most v (suc some) e =
-      rw (length-append (rowText f v (suc v) (n - suc v)) (rowsText f n (suc v) some))
+      rw (rows-step f n v some, length-append (rowText f v (suc v) (n - suc v)) (rowsText f n (suc v) some))
       (omega (arith, row-most v (suc v) (n - suc v) (omega arith) (omega arith), rows-most (suc v) some (omega arith), start-suc n v))
 
   pub pairs-most-long : n ≤ 64 → length (pairsText f n) ≤ 92736
-  unfolding pairsText
+  unfolding table
   pairs-most-long few = omega (arith, rows-most 0 n (omega arith), start-zero n, pairs-most n few)
 
 times : (a t m : ℕ) → 1 ≤ t → a * t ≤ m → a ≤ m

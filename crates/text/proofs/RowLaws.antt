@@ -1,17 +1,17 @@
 -- The lines of the pairs, laid down one after the other.
 -- Assumes nothing.
 use mathlib.Core.Path.{_≡_, refl, sym, ap, subst, _∙_}
-use mathlib.Core.List.{List, [], _∷_, _++_}
+use mathlib.Core.List.{List, [], _∷_, _++_, flatten, append-assoc}
 use Prim.Native.Nat.{ℕ, suc, _+_, _-_, _<_, _≤_}
 use native.Mathlib.Numerals.{add-one}
 use native.Mathlib.Omega.{arith}
 use lib.ListN.{length, getD, length-append}
 use lib.Seq.{sets}
 use Rattle.lent.proofs.ListLaws.{sets-then}
-use Rattle.pairs.specs.Pairs.{place, start}
+use Rattle.pairs.specs.Pairs.{row, rows, table, place, start}
 use Rattle.pairs.proofs.PairLaws.{place-is, place-lt, pairs-most}
-use Rattle.text.specs.Listing.{line, rowText, rowsText, pairsText}
-use Rattle.text.specs.Sums.{sumLine}
+use Rattle.text.specs.Listing.{line, pairsText}
+use Rattle.text.specs.Sums.{sumLine, rowText, rowsText}
 use Rattle.text.proofs.FieldLaws.{TextLaid}
 
 -- ---- what is left of a text to be laid down
@@ -51,24 +51,33 @@ none : (n w : ℕ) → n ≤ w → n - w ≡ 0
 none n w h = omega arith
 
 pub row-end : (f : ℕ → ℕ → List ℕ) (n v w : ℕ) → n ≤ w → rowText f v w (n - w) ≡ []
-unfolding rowText
+unfolding row flatten
 row-end f n v w h = rw (none n w h)
 
 row-next : (f : ℕ → ℕ → List ℕ) (n v w : ℕ) → w < n → rowText f v w (n - w) ≡ f v w ++ rowText f v (w + 1) (n - (w + 1))
-unfolding rowText
+unfolding row flatten
 row-next f n v w h = rw (less n w h, add-one w)
 
+flatten-append : (a b : List (List ℕ)) → flatten (a ++ b) ≡ flatten a ++ flatten b
+unfolding flatten
+flatten-append [] b = refl
+flatten-append (x ∷ a) b = rw (flatten-append a b, append-assoc x (flatten a) (flatten b))
+
+-- the texts of the first row, then those of the others
+pub rows-step : (f : ℕ → ℕ → List ℕ) (n v some : ℕ) → rowsText f n v (suc some) ≡ rowText f v (suc v) (n - suc v) ++ rowsText f n (suc v) some
+unfolding rows
+rows-step f n v some = flatten-append (row f v (suc v) (n - suc v)) (rows f n (suc v) some)
+
 pub rows-end : (f : ℕ → ℕ → List ℕ) (n v : ℕ) → n ≤ v → rowsText f n v (n - v) ≡ []
-unfolding rowsText
+unfolding rows flatten
 rows-end f n v h = rw (none n v h)
 
 pub rows-next : (f : ℕ → ℕ → List ℕ) (n v : ℕ) → v < n
     → rowsText f n v (n - v) ≡ rowText f v (v + 1) (n - (v + 1)) ++ rowsText f n (v + 1) (n - (v + 1))
-unfolding rowsText
-rows-next f n v h = rw (less n v h, add-one v)
+rows-next f n v h = rw (less n v h, rows-step, add-one v)
 
 pub pairs-all : (f : ℕ → ℕ → List ℕ) (n : ℕ) → pairsText f n ≡ rowsText f n 0 (n - 0)
-unfolding pairsText
+unfolding table
 pairs-all f n = let e : n - 0 ≡ n = omega arith in rw e
 
 -- ---- the line of a pair, from the sums

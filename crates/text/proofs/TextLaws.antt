@@ -1,17 +1,18 @@
 -- The listing: from what the run gave to the listing of the plan, and from the plan to that of the file.
 -- Assumes nothing.
 use mathlib.Core.Path.{_≡_, refl, sym, ap, ap₂, subst, _∙_}
-use mathlib.Core.List.{List, [], _∷_, _++_}
+use mathlib.Core.List.{List, [], _∷_, _++_, flatten}
 use Prim.Native.Nat.{ℕ, zero, suc, _+_, _-_, _<_, _≤_}
 use native.Mathlib.Omega.{arith}
 use borrow.Author.Tests.{lt-ltb, le-ltb}
 use lib.ListN.{length, getD, take, length-append}
 use lib.Seq.{sets, length-sets}
 use Rattle.mass.specs.Split.{whole}
+use Rattle.mass.proofs.RefusalLaws.{refuses}
 use Rattle.plan.specs.Plan.{Plan}
 use Rattle.refusals.specs.Tests.{roomTest}
 use Rattle.plan.specs.File.{refusal, planOf}
-use Rattle.plan.specs.LentLists.{planRefusal, planOfLists, listsRefusal}
+use Rattle.plan.specs.LentLists.{planRefusal, planOfLists}
 use Rattle.plan.specs.Calls.{filled, headerOf, readAnswer}
 use Rattle.plan.specs.declared.Header.{Header}
 use Rattle.plan.specs.declared.Reading.the-variants as reading
@@ -19,7 +20,7 @@ use Rattle.layout.proofs.ListLaws.{length-links-of, length-events-of}
 use Rattle.files.proofs.ReaderLawsAnswer.{take-sets}
 use Rattle.network.specs.Outage.{intact}
 use Rattle.walk.specs.Walk.{count, complete, massExamined}
-use Rattle.pairs.specs.Pairs.{place}
+use Rattle.pairs.specs.Pairs.{row, rows, table, place}
 use Rattle.bounds.specs.Bounds.{lowerOf}
 use Rattle.pairs.specs.BoundsFit.{BoundsFit}
 use Rattle.bounds.specs.Calls.{totalsOf}
@@ -27,7 +28,8 @@ use Rattle.bounds.specs.Summed.{Summed}
 use Rattle.bounds.specs.declared.Totals.{Totals}
 use Rattle.bounds.proofs.Answers.{raised}
 use Rattle.input.specs.Loaded.{Loaded}
-use Rattle.text.specs.Listing.{line, rowText, rowsText, pairsText, pairLine, planText, refusedText, answerText, listing}
+use Rattle.input.proofs.LoadedLaws.{reading-refused, reading-accepted}
+use Rattle.text.specs.Listing.{line, pairsText, pairLine, planText, refusedText, answerText, listing}
 use Rattle.text.specs.Sums.{Listable, sumLine, headLine, sumsText}
 use Rattle.text.specs.Calls.{formattedAnswer}
 use Rattle.text.specs.declared.Formatted.the-variants as formatted
@@ -56,20 +58,20 @@ listable n mass sums g = record { few = g .few; sized = g .sized; fits = λ i. o
 -- ---- texts that are the same for each pair
 
 module _ (f g : ℕ → ℕ → List ℕ) (n : ℕ) (same : (v w : ℕ) → v < w → w < n → f v w ≡ g v w) where
-  row-same : (v w some : ℕ) → v < w → w + some ≤ n → rowText f v w some ≡ rowText g v w some
-  unfolding rowText
+  row-same : (v w some : ℕ) → v < w → w + some ≤ n → row f v w some ≡ row g v w some
+  unfolding row
   row-same v w zero h k = refl
-  row-same v w (suc some) h k = ap₂ (λ (a b : List ℕ). a ++ b) (same v w h (omega arith)) (row-same v (suc w) some (omega arith) (omega arith))
+  row-same v w (suc some) h k = ap₂ (λ (a : List ℕ) (b : List (List ℕ)). a ∷ b) (same v w h (omega arith)) (row-same v (suc w) some (omega arith) (omega arith))
 
-  rows-same : (v some : ℕ) → v + some ≡ n → rowsText f n v some ≡ rowsText g n v some
-  unfolding rowsText
+  rows-same : (v some : ℕ) → v + some ≡ n → rows f n v some ≡ rows g n v some
+  unfolding rows
   rows-same v zero e = refl
   rows-same v (suc some) e =
-      ap₂ (λ (a b : List ℕ). a ++ b) (row-same v (suc v) (n - suc v) (omega arith) (omega arith)) (rows-same (suc v) some (omega arith))
+      ap₂ (λ (a b : List (List ℕ)). a ++ b) (row-same v (suc v) (n - suc v) (omega arith) (omega arith)) (rows-same (suc v) some (omega arith))
 
   pub pairs-same : pairsText f n ≡ pairsText g n
-  unfolding pairsText
-  pairs-same = rows-same 0 n (omega arith)
+  unfolding table
+  pairs-same = ap flatten (rows-same 0 n (omega arith))
 
 -- ---- from the sums to the plan
 
@@ -105,33 +107,25 @@ sums-text h links words sums t valid e s =
 
 pub refused-listing : (b : List ℕ) (n : ℕ) (h : Header) → reading.Refused n ≡ readAnswer (refusal b) h → refusedText n ≡ listing intact b
 unfolding listing answerText
-refused-listing b n h e = go (refusal b) e
-  where
-    go : (k : ℕ) → reading.Refused n ≡ readAnswer k h → refusedText n ≡ answerText intact k (planOf b)
-    go zero z = absurd (let never : _≡_ {A = ℕ} 0 1 = cc in omega arith)
-    go (suc k) z = let is : n ≡ suc k = cc in ap refusedText is
-
-accepted-is : (number : ℕ) (x h : Header) → reading.Accepted x ≡ readAnswer number h → (number ≡ 0) × (x ≡ h)
-accepted-is zero x h e = (refl, cc)
-accepted-is (suc number) x h e = absurd (let never : _≡_ {A = ℕ} 0 1 = cc in omega arith)
+refused-listing b n h e = let r = reading-refused (refusal b) n h e in refuses refusedText _ (r .0) (r .1)
 
 module _ (b links words : List ℕ) (h : Header) (e : reading.Accepted h ≡ readAnswer (refusal b) (headerOf b))
     (l : refusal b ≡ 0 → Loaded b links words) where
   pub loaded-header : h ≡ headerOf b
-  loaded-header = accepted-is (refusal b) h (headerOf b) e .1
+  loaded-header = reading-accepted (refusal b) h (headerOf b) e .1
 
   pub loaded-lists : Loaded b links words
-  loaded-lists = l (accepted-is (refusal b) h (headerOf b) e .0)
+  loaded-lists = l (reading-accepted (refusal b) h (headerOf b) e .0)
 
-  pub loaded-accepted : listsRefusal h 256 128 links words ≡ 0
-  loaded-accepted = subst (λ (x : Header). listsRefusal x 256 128 links words ≡ 0) (sym loaded-header) (loaded-lists .accepted)
+  pub loaded-valid : planRefusal (planOfLists h links words) ≡ 0
+  loaded-valid = subst (λ (x : Header). planRefusal (planOfLists x links words) ≡ 0) (sym loaded-header) (loaded-lists .valid)
 
   pub accepted-listing : planText intact (planOfLists h links words) ≡ listing intact b
   unfolding listing answerText
   accepted-listing =
       ap (λ (x : Header). planText intact (planOfLists x links words)) loaded-header
       ∙ ap (planText intact) (loaded-lists .denoted)
-      ∙ ap (λ (k : ℕ). answerText intact k (planOf b)) (sym (accepted-is (refusal b) h (headerOf b) e .0))
+      ∙ ap (λ (k : ℕ). answerText intact k (planOf b)) (sym (reading-accepted (refusal b) h (headerOf b) e .0))
 
 -- ---- the answer
 

@@ -1,13 +1,14 @@
 -- The listing of a plan file: document 01, section "Listing", to the byte. 32 is a space, 10 a line feed.
--- `out` is what is out before the first event (document 02, request U7).
 -- Assumes nothing.
-use mathlib.Core.List.{List, [], _∷_, _++_}
-use Prim.Native.Nat.{ℕ, zero, suc, _-_}
+use mathlib.Core.List.{List, [], _∷_, _++_, flatten}
+use Prim.Native.Nat.{ℕ}
 use lib.ListN.{length}
+use Rattle.mass.specs.Refusal.{answered}
 use Rattle.plan.specs.Plan.{Plan}
 use Rattle.plan.specs.File.{refusal, planOf}
 use Rattle.network.specs.Outage.{Outage}
 use Rattle.walk.specs.Walk.{count, complete, massExamined}
+use Rattle.pairs.specs.Pairs.{table}
 use Rattle.bounds.specs.Bounds.{lowerOf, upperOf}
 use Rattle.text.specs.Decimal.{decimal}
 
@@ -21,19 +22,9 @@ line [] = 10 ∷ []
 line (x ∷ []) = field x 10
 line (x ∷ y ∷ fields) = field x 32 ++ line (y ∷ fields)
 
--- the texts of the pairs (v, w), (v, w + 1), .., `some` of them
-unfoldable pub rowText : (ℕ → ℕ → List ℕ) → ℕ → ℕ → ℕ → List ℕ
-rowText f v w zero = []
-rowText f v w (suc some) = f v w ++ rowText f v (suc w) some
-
--- the texts of the pairs of `some` nodes from v on, of n nodes
-unfoldable pub rowsText : (ℕ → ℕ → List ℕ) → ℕ → ℕ → ℕ → List ℕ
-rowsText f n v zero = []
-rowsText f n v (suc some) = rowText f v (suc v) (n - suc v) ++ rowsText f n (suc v) some
-
 -- the texts of all pairs of n nodes, "ordered by v, then w"
-unfoldable pub pairsText : (ℕ → ℕ → List ℕ) → ℕ → List ℕ
-pairsText f n = rowsText f n 0 n
+abbrev pub pairsText : (ℕ → ℕ → List ℕ) → ℕ → List ℕ
+pairsText f n = flatten (table f n)
 
 -- the line of a pair: "v, w, lower, upper"
 unfoldable pub pairLine : Outage → Plan → ℕ → ℕ → List ℕ
@@ -49,9 +40,9 @@ planText out p =
 unfoldable pub refusedText : ℕ → List ℕ
 refusedText number = 114 ∷ 101 ∷ 102 ∷ 117 ∷ 115 ∷ 101 ∷ 100 ∷ 32 ∷ line (number ∷ [])
 
+-- the text of the answer to a call that is refused with a number, 0 if it is not
 unfoldable pub answerText : Outage → ℕ → Plan → List ℕ
-answerText out zero p = planText out p
-answerText out (suc number) p = refusedText (suc number)
+answerText out number p = answered refusedText (planText out p) number
 
 -- the listing of a list of bytes
 unfoldable pub listing : Outage → List ℕ → List ℕ

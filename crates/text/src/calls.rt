@@ -9,7 +9,7 @@ ghost use Prim.Native.Nat.{_≤_};
 ghost use lib.ListN.{length};
 ghost use lib.Seq.{sets};
 ghost use Rattle.refusals.specs.Tests.{roomTest};
-ghost use Rattle.plan.specs.LentLists.{planOfLists, listsRefusal};
+ghost use Rattle.plan.specs.LentLists.{planRefusal, planOfLists};
 ghost use Rattle.plan.specs.Calls.{filled};
 ghost use Rattle.network.specs.Outage.{intact};
 ghost use Rattle.text.specs.Listing.{planText, listing};
@@ -17,7 +17,7 @@ ghost use Rattle.text.specs.Calls.{formattedAnswer, sizeIn};
 
 // The listing of a plan that stands in arrays and is accepted.
 fn put_accepted(out: &mut [u8], h: Header, links: &[u8; 256], words: &[u64; 512]) -> usize
-    requires { ⌜ listsRefusal h 256 128 (now links) (now words) ≡ 0 ⌝ }
+    requires { ⌜ planRefusal (planOfLists h (now links) (now words)) ≡ 0 ⌝ }
     requires { ⌜ length (planText intact (planOfLists h (now links) (now words))) ≤ length (now out) ⌝ }
     ensures { λ r. ⌜ (now (out .exit) ≡ sets (now (out .entry)) 0 (planText intact (planOfLists h (now (links .entry)) (now (words .entry)))))
         × (r ≡ length (planText intact (planOfLists h (now (links .entry)) (now (words .entry))))) ⌝ }

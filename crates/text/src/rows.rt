@@ -8,8 +8,8 @@ ghost use Prim.Native.Nat.{_+_, _-_, _≤_, _<_};
 ghost use lib.ListN.{length};
 ghost use lib.Seq.{sets};
 ghost use Rattle.pairs.specs.BoundsFit.{BoundsFit};
-ghost use Rattle.text.specs.Listing.{line, rowText, pairsText};
-ghost use Rattle.text.specs.Sums.{Listable, sumLine, headLine, sumsText};
+ghost use Rattle.text.specs.Listing.{line, pairsText};
+ghost use Rattle.text.specs.Sums.{Listable, sumLine, rowText, headLine, sumsText};
 
 // The lines of the pairs of node v with each node after it.
 pub fn put_row(

@@ -9,8 +9,6 @@ use native.Mathlib.Omega.{arith}
 use lib.ListN.{length, getD, take, set}
 use lib.Seq.{sets, length-sets, take-all}
 use Rattle.lent.proofs.ListLaws.{sets-append}
-use Rattle.thresholds.specs.Thresholds.{thresholdsAnswer}
-use Rattle.plan.specs.Plan.{Plan}
 use Rattle.threshold_answers.specs.ThresholdAnswers.{inTurn}
 
 -- three numbers laid down one by one
@@ -63,8 +61,3 @@ module _ (xs ys zs : List ℕ) (x-size : length xs ≡ 16) (y-size : length ys �
         take-all i ys (omega arith),
         take-all i zs (omega arith),
       )
-
--- an answer made of the number of a refusal, or 0, has that number
-pub thresholds-back : (n : ℕ) (plan : ℕ → Plan) (list : List ℕ) → thresholdsAnswer n plan list .number ≡ n
-thresholds-back zero plan list = refl
-thresholds-back (suc n) plan list = refl

@@ -5,13 +5,14 @@ use answers::put;
 use thresholds::Answered;
 use thresholds::CommonHeader;
 ghost use mathlib.Core.Path.{_≡_};
+ghost use lib.ListN.{length};
 ghost use mathlib.Core.List.{[], _∷_};
 ghost use Prim.Native.Nat.{_<_};
 ghost use lib.Seq.{sets};
 ghost use Rattle.plan.specs.Calls.{filled};
 ghost use Rattle.network.specs.Outage.{intact};
 ghost use Rattle.bounds.specs.Bounds.{lowerList, upperList};
-ghost use Rattle.thresholds.specs.Thresholds.{planAt, thresholdsNumber, thresholdsAnswer, blocks};
+ghost use Rattle.thresholds.specs.Thresholds.{lentAt, planAt, thresholdsNumber, thresholdsAnswer, blocks};
 ghost use Rattle.answers.specs.Laid.{laid};
 ghost use Rattle.threshold_answers.specs.ThresholdAnswers.{placesValues};
 
@@ -52,8 +53,8 @@ pub fn thresholds(
     upper: &mut [u64],
     result: &mut [u64],
 ) -> u32
-    ensures number { λ r. ⌜ r ≡ thresholdsNumber h (now (links .entry)) (now (events .entry)) (now (list .entry))
-        (now (lower .entry)) (now (upper .entry)) ⌝ }
+    ensures number { λ r. ⌜ r ≡ thresholdsNumber (lentAt h (now (links .entry)) (now (events .entry)) 1) (now (list .entry))
+        (length (now (lower .entry))) (length (now (upper .entry))) ⌝ }
     ensures lowers { λ r. ⌜ now (lower .exit) ≡ filled r
         (blocks (λ t. lowerList intact (planAt h (now (links .entry)) (now (events .entry)) t)) (now (list .entry))) (now (lower .entry)) ⌝ }
     ensures uppers { λ r. ⌜ now (upper .exit) ≡ filled r

@@ -11,15 +11,18 @@ use native.Mathlib.Omega.{arith}
 use borrow.Author.Tests.{eqb-true, eq-eqb, ne-eqb}
 use lib.Dec.{eqb, leb}
 use lib.ListN.{length, getD}
-use Rattle.sets.specs.Sets.{bit, digit}
+use Rattle.sets.specs.Sets.{bit, joined, digit}
 use Rattle.sets.proofs.Laws.{bit-none}
 use Rattle.sets.proofs.Bools.{and-right, or-either, not-so}
+use Rattle.plan.specs.LentLists.{planOfLists}
 use Rattle.plan.specs.declared.Header.{Header}
 use Rattle.network.specs.Outage.{intact}
+use Rattle.walk.specs.Scenario.{scenarioOf}
 use Rattle.pairs.specs.Pairs.{pairCount}
+use Rattle.bounds.specs.Bounds.{cuts}
 use Rattle.bounds.specs.Blocks.{BlocksFit, BlocksAdded}
 use Rattle.threshold_walk.specs.declared.WorksPath.{WorksPath}
-use Rattle.threshold_sums.specs.Walked.{FallingFirst, PathFits, WantedBlocks, PathAdded, examinedBy}
+use Rattle.threshold_sums.specs.Walked.{plansOf, FallingFirst, PathFits, WantedBlocks, PathAdded, examinedBy}
 
 -- the lowest of falling thresholds is met wherever one of them is
 pub lowest-least : (active : ℕ) (list : List ℕ) → FallingFirst active list → (i : ℕ) → i < active → getD list (active - 1) 0 ≤ getD list i 0
@@ -87,7 +90,7 @@ module _ (h : Header) (list rooms : List ℕ) (active : ℕ) (path : WorksPath) 
 
   module _ (links words : List ℕ) where
     -- where the set is empty, nothing is added
-    pub nothing-added : blocks ≡ 0 → PathAdded h links words list rooms active path lower lower
+    pub nothing-added : blocks ≡ 0 → PathAdded (plansOf h links words list) active path rooms lower lower
     nothing-added z =
         record {
           sized = refl;
@@ -100,8 +103,9 @@ module _ (h : Header) (list rooms : List ℕ) (active : ℕ) (path : WorksPath) 
         }
 
     -- what is added to the blocks of the set is what the path adds
-    pub path-added : (lower′ : List ℕ) → BlocksAdded intact h links words blocks (path .low) (path .high) (path .last) lower lower′
-        → PathAdded h links words list rooms active path lower lower′
+    pub path-added : (lower′ : List ℕ) → BlocksAdded (h .nodes)
+        (λ v w. cuts intact (planOfLists h links words) v w (scenarioOf (h .events) (joined (path .low) (path .high)))) blocks (path .last) lower lower′
+        → PathAdded (plansOf h links words list) active path rooms lower lower′
     path-added lower′ added =
         record {
           sized = added .sized;

@@ -22,7 +22,7 @@ use Rattle.pairs.proofs.Row.{at-most}
 use Rattle.bounds.specs.Bounds.{cuts}
 use Rattle.threshold_walk.specs.Paths.{handed}
 use Rattle.threshold_walk.specs.declared.WorksPath.{WorksPath}
-use Rattle.threshold_sums.specs.Walked.{Ledger, Settled, examinedBy}
+use Rattle.threshold_sums.specs.Walked.{OwnNumbers, CountedSoFar, HoldsAnswers, examinedBy}
 use Rattle.threshold_sums.proofs.Examined.{not-met, no-room, with-room}
 
 -- ---- sums over the ends of a path
@@ -89,31 +89,31 @@ module _ (events t : ℕ) (path : WorksPath) where
         go (no h) =
             le-ltb (length (handed events t path number ++ list)) room (omega (arith, long)) ∙ sym (le-ltb (length list) (room - number) (omega arith))
 
--- ---- the ledger of one threshold
+-- ---- what was counted so far for one threshold
 
-module _ (p : Plan) (events t : ℕ) (path : WorksPath) (coming coming′ : List End) (room number mass block : ℕ) (lower : List ℕ)
-    (g : Ledger p coming room number mass block lower) (k : ℕ) (none : k ≡ 0 → path .last < t) (split : coming ≡ handed events t path k ++ coming′) where
+module _ (p : Plan) (events t : ℕ) (path : WorksPath) (coming coming′ : List End) (o : OwnNumbers) (block : ℕ) (lower : List ℕ)
+    (g : CountedSoFar p coming o block lower) (k : ℕ) (none : k ≡ 0 → path .last < t) (split : coming ≡ handed events t path k ++ coming′) where
   abbrev one : ℕ
-  one = examinedBy t room (path .last)
+  one = examinedBy t (o .room) (path .last)
 
-  taken : (f : Scenario → ℕ → ℕ) → sumEnds f (take (room - 1) coming)
-      ≡ f (scenarioOf events (joined (path .low) (path .high))) (path .last) * one + sumEnds f (take (room - k - 1) coming′)
-  taken f = ap (λ (l : List End). sumEnds f (take (room - 1) l)) split ∙ sum-step events t path room k none coming′ f
+  taken : (f : Scenario → ℕ → ℕ) → sumEnds f (take (o .room - 1) coming)
+      ≡ f (scenarioOf events (joined (path .low) (path .high))) (path .last) * one + sumEnds f (take (o .room - k - 1) coming′)
+  taken f = ap (λ (l : List End). sumEnds f (take (o .room - 1) l)) split ∙ sum-step events t path (o .room) k none coming′ f
 
   -- the sums have room for what the path adds
-  pub number-fits : number + one ≤ count p
+  pub number-fits : o .number + one ≤ count p
   number-fits = omega (arith, g .numbers, taken (λ s m. 1))
 
-  pub mass-fits : mass + path .last * one ≤ massExamined p
+  pub mass-fits : o .mass + path .last * one ≤ massExamined p
   mass-fits = omega (arith, g .masses, taken (λ s m. m))
 
-  pub ledger-on : (lower′ : List ℕ) (room′ number′ mass′ : ℕ) → room′ ≡ room - k → number′ ≡ number + one → mass′ ≡ mass + path .last * one
+  pub counted-on : (lower′ : List ℕ) (o′ : OwnNumbers) → o′ .room ≡ o .room - k → o′ .number ≡ o .number + one → o′ .mass ≡ o .mass + path .last * one
       → ((v w : ℕ) → v < w → w < p .nodes
       → getD lower′ (place (p .nodes) v w + block) 0
       ≡ getD lower (place (p .nodes) v w + block) 0
       + path .last * one * digit (cuts intact p v w (scenarioOf events (joined (path .low) (path .high)))))
-      → Ledger p coming′ room′ number′ mass′ block lower′
-  ledger-on lower′ room′ number′ mass′ left counted added each =
+      → CountedSoFar p coming′ o′ block lower′
+  counted-on lower′ o′ left counted added each =
       record {
         numbers = rw (left, counted) (omega (arith, g .numbers, taken (λ s m. 1)));
         masses = rw (left, added) (omega (arith, g .masses, taken (λ s m. m)));
@@ -129,15 +129,15 @@ module _ (p : Plan) (events t : ℕ) (path : WorksPath) (coming coming′ : List
             );
         ends =
             rw left
-            (ap digit (sym (fewer-step events t path room k none coming′))
-            ∙ ap (λ (l : List End). digit (ltb (length l) room)) (sym split)
+            (ap digit (sym (fewer-step events t path (o .room) k none coming′))
+            ∙ ap (λ (l : List End). digit (ltb (length l) (o .room))) (sym split)
             ∙ g .ends);
       }
 
 -- the walk of a threshold has ended: no end may be reached any more, or none is to come
-module _ (p : Plan) (coming : List End) (room number mass block : ℕ) (lower : List ℕ) (g : Ledger p coming room number mass block lower) where
-  settled : take (room - 1) coming ≡ [] → ltb (length coming) room ≡ ltb 0 room → Settled p room number mass block lower
-  settled none same =
+module _ (p : Plan) (coming : List End) (o : OwnNumbers) (block : ℕ) (lower : List ℕ) (g : CountedSoFar p coming o block lower) where
+  holds-answers : take (o .room - 1) coming ≡ [] → ltb (length coming) (o .room) ≡ ltb 0 (o .room) → HoldsAnswers p o block lower
+  holds-answers none same =
       record {
         numbers = omega (arith, g .numbers, ap (sumEnds (λ s m. 1)) none);
         masses = omega (arith, g .masses, ap (sumEnds (λ s m. m)) none);
@@ -145,13 +145,13 @@ module _ (p : Plan) (coming : List End) (room number mass block : ℕ) (lower : 
         ends = ap digit (sym same) ∙ g .ends;
       }
 
-  pub used-up : room ≡ 0 → Settled p room number mass block lower
+  pub used-up : o .room ≡ 0 → HoldsAnswers p o block lower
   used-up e =
-      settled (ap (λ (n : ℕ). take (n - 1) coming) e)
+      holds-answers (ap (λ (n : ℕ). take (n - 1) coming) e)
       (ap (ltb (length coming)) e ∙ le-ltb (length coming) 0 (omega arith) ∙ sym (ap (ltb 0) e ∙ le-ltb 0 0 (omega arith)))
 
-  pub all-reached : coming ≡ [] → Settled p room number mass block lower
-  all-reached e = settled (rw e (go (room - 1))) (ap (λ (l : List End). ltb (length l) room) e)
+  pub all-reached : coming ≡ [] → HoldsAnswers p o block lower
+  all-reached e = holds-answers (rw e (go (o .room - 1))) (ap (λ (l : List End). ltb (length l) (o .room)) e)
     where
       go : (n : ℕ) → take {A = End} n [] ≡ []
       go zero = refl

@@ -28,14 +28,14 @@ use Rattle.pairs.specs.Pairs.{place, pairCount}
 use Rattle.pairs.proofs.PairLaws.{place-lt}
 use Rattle.bounds.specs.Bounds.{cuts}
 use Rattle.threshold_walk.specs.Stack.{toCome, Stack}
-use Rattle.threshold_walk.specs.Paths.{pathEnds, handed, PathTaken}
+use Rattle.threshold_walk.specs.Paths.{sharedWalk, pathEnds, handed, PathTaken}
 use Rattle.threshold_walk.specs.declared.WorksPath.{WorksPath}
 use Rattle.threshold_walk.proofs.Counting.{all-of}
 use Rattle.threshold_walk.proofs.Resume.{begun-stack, begun-ends, none-to-come}
-use Rattle.threshold_sums.specs.Walked.{planWith, FallingFirst, Ledger, Settled, examinedBy, PathFits, CountsFit, PathAdded}
-use Rattle.threshold_sums.specs.Walked.{Places, PathCounted, Ledgers, Kept, Fresh, AllSettled}
+use Rattle.threshold_sums.specs.Walked.{Plans, planFor, FallingFirst, PlaceNumbers, numbersAt, CountedSoFar, HoldsAnswers, examinedBy}
+use Rattle.threshold_sums.specs.Walked.{PathFits, CountsFit, PathAdded, Places, PathCounted, AllCountedSoFar, Kept, Fresh, AllHoldAnswers}
 use Rattle.threshold_sums.proofs.Examined.{not-met}
-use Rattle.threshold_sums.proofs.Steps.{mass-fits, ledger-on, used-up, all-reached}
+use Rattle.threshold_sums.proofs.Steps.{mass-fits, counted-on, used-up, all-reached}
 use Rattle.threshold_sums.proofs.Blocks.{lowest-least}
 
 -- no more scenarios are examined than the cap
@@ -55,70 +55,81 @@ one-more n m r e = go (decLt m n)
     go (yes c) = le-ltb n r (omega arith) ∙ sym (lt-leb n m c)
     go (no c) = lt-ltb n r (omega arith) ∙ sym (le-leb n m (omega arith))
 
-module _ (h : Header) (links words list : List ℕ) (active : ℕ) (f : FallingFirst active list) (held : Held h links words) (limited : h .limit < 4294967296)
-    (at : ℕ) (stack rooms counts masses lower : List ℕ) (ledgers : Ledgers h links words list active at stack rooms counts masses lower)
-    (stack′ : List ℕ) (path : WorksPath) (t : PathTaken (h .events) (getD list (active - 1) 0) words at stack stack′ path) where
-  abbrev plan : ℕ → Plan
-  plan i = planWith h links words (getD list i 0)
+-- the ends to come of threshold i
+abbrev coming : Plans → ℕ → ℕ → List ℕ → List End
+coming ps i at stack = toCome (ps .header .events) (getD (ps .list) i 0) (ps .words) at stack
 
+module _ (ps : Plans) (active : ℕ) (f : FallingFirst active (ps .list)) (held : Held (ps .header) (ps .links) (ps .words))
+    (limited : ps .header .limit < 4294967296) (at : ℕ) (stack : List ℕ) (n : PlaceNumbers) (lower : List ℕ)
+    (sofar : AllCountedSoFar ps active at stack n lower) (stack′ : List ℕ) (path : WorksPath)
+    (t : PathTaken (sharedWalk (ps .header .events) (getD (ps .list) (active - 1) 0) (ps .words)) at stack stack′ path) where
   -- the ends to come of a threshold are those of the path, and those then to come
-  split : (i : ℕ) → i < active → (k : ℕ) → pathEnds (h .events) (getD list i 0) words path ≡ handed (h .events) (getD list i 0) path k
-      → toCome (h .events) (getD list i 0) words at stack
-      ≡ handed (h .events) (getD list i 0) path k ++ toCome (h .events) (getD list i 0) words (path .at) stack′
+  split : (i : ℕ) → i < active → (k : ℕ)
+      → pathEnds (ps .header .events) (getD (ps .list) i 0) (ps .words) path ≡ handed (ps .header .events) (getD (ps .list) i 0) path k
+      → coming ps i at stack ≡ handed (ps .header .events) (getD (ps .list) i 0) path k ++ coming ps i (path .at) stack′
   split i l k are =
-      t .ends (getD list i 0) (lowest-least active list f i l)
-      ∙ ap (λ (x : List End). x ++ toCome (h .events) (getD list i 0) words (path .at) stack′) are
+      t .ends (getD (ps .list) i 0) (lowest-least active (ps .list) f i l) ∙ ap (λ (x : List End). x ++ coming ps i (path .at) stack′) are
 
-  most : (i : ℕ) → massExamined (plan i) ≤ whole
+  most : (i : ℕ) → massExamined (planFor ps i) ≤ whole
   unfolding planOfLists
-  most i = massExamined-le (plan i) (held-probable h links words held)
+  most i = massExamined-le (planFor ps i) (held-probable (ps .header) (ps .links) (ps .words) held)
 
   -- the sums have room for what the path adds
-  mass-room : (i : ℕ) → i < active → Dec (path .last < getD list i 0)
-      → getD masses i 0 + path .last * examinedBy (getD list i 0) (getD rooms i 0) (path .last) ≤ whole
-  mass-room i l (yes c) = rw (not-met (getD list i 0) (getD rooms i 0) (path .last) c) (omega (arith, ledgers .each i l .masses, most i))
+  mass-room : (i : ℕ) → i < active → Dec (path .last < getD (ps .list) i 0)
+      → getD (n .masses) i 0 + path .last * examinedBy (getD (ps .list) i 0) (getD (n .rooms) i 0) (path .last) ≤ whole
+  mass-room i l (yes c) =
+      rw (not-met (getD (ps .list) i 0) (getD (n .rooms) i 0) (path .last) c) (omega (arith, sofar .each i l .masses, most i))
   mass-room i l (no c) =
       let s = t .sound in
       let k = path .stop - path .depth + 1 in
       omega (
         arith,
         most i,
-        mass-fits (plan i) (h .events) (getD list i 0) path _ _ _ _ _ _ lower (ledgers .each i l) k (λ z. absurd (omega arith))
+        mass-fits (planFor ps i) (ps .header .events) (getD (ps .list) i 0) path _ _ _ _ lower (sofar .each i l) k (λ z. absurd (omega arith))
             (split i l k
-            (all-of (h .events) (getD list (active - 1) 0) (getD list i 0) words (held .falling) (lowest-least active list f i l) path s
-            (omega (arith, s .stops .lighter)) (omega arith))),
+            (all-of (ps .header .events) (getD (ps .list) (active - 1) 0) (getD (ps .list) i 0) (ps .words) (held .falling)
+            (lowest-least active (ps .list) f i l)
+            path
+            s
+            (omega (arith, s .stops .lighter))
+            (omega arith))),
       )
 
-  pub path-fits : PathFits h active path list rooms lower
+  pub path-fits : PathFits (ps .header) active path (ps .list) (n .rooms) lower
   unfolding planOfLists
-  path-fits i l v w k m = omega (arith, ledgers .each i l .below v w k m, mass-room i l (decLt (path .last) (getD list i 0)))
+  path-fits i l v w k m = omega (arith, sofar .each i l .below v w k m, mass-room i l (decLt (path .last) (getD (ps .list) i 0)))
 
-  counted-fits : (i : ℕ) → i < active → getD counts i 0 < 4294967296
+  counted-fits : (i : ℕ) → i < active → getD (n .counts) i 0 < 4294967296
   unfolding planOfLists
-  counted-fits i l = omega (arith, ledgers .each i l .numbers, count-le (plan i))
+  counted-fits i l = omega (arith, sofar .each i l .numbers, count-le (planFor ps i))
 
-  pub counts-fit : CountsFit active path list rooms counts masses
-  counts-fit i l = (counted-fits i l, mass-room i l (decLt (path .last) (getD list i 0)))
+  pub counts-fit : CountsFit active path (ps .list) n
+  counts-fit i l = (counted-fits i l, mass-room i l (decLt (path .last) (getD (ps .list) i 0)))
 
-  pub decided : joined (path .low) (path .high) < 2 ^ h .events
-  decided = omega (arith, t .sound .decided, pow-mono {i = path .depth} {j = h .events} (t .sound .deep))
+  pub decided : joined (path .low) (path .high) < 2 ^ ps .header .events
+  decided = omega (arith, t .sound .decided, pow-mono {i = path .depth} {j = ps .header .events} (t .sound .deep))
 
-  module _ (lower′ : List ℕ) (added : PathAdded h links words list rooms active path lower lower′) (rooms′ counts′ masses′ : List ℕ)
-      (counted : PathCounted (h .events) words list active path rooms counts masses rooms′ counts′ masses′) where
-    pub ledgers-on : Ledgers h links words list active (path .at) stack′ rooms′ counts′ masses′ lower′
+  module _ (lower′ : List ℕ) (added : PathAdded ps active path (n .rooms) lower lower′) (n′ : PlaceNumbers)
+      (counted : PathCounted (sharedWalk (ps .header .events) (getD (ps .list) (active - 1) 0) (ps .words)) (ps .list) active path n n′) where
+    pub all-counted-on : AllCountedSoFar ps active (path .at) stack′ n′ lower′
     unfolding planOfLists
-    ledgers-on =
+    all-counted-on =
         record {
           each =
               λ i l.
               let c = counted .each i l in
-              ledger-on (plan i) (h .events) (getD list i 0) path _ _ _ _ _ _ lower (ledgers .each i l) (c .ends) (c .none) (split i l (c .ends) (c .are))
-              lower′ _ _ _ (c .left) (c .counted) (c .added) (added .each i l);
+              counted-on (planFor ps i) (ps .header .events) (getD (ps .list) i 0) path _ _ _ _ lower (sofar .each i l) (c .ends) (c .none)
+              (split i l (c .ends) (c .are))
+              lower′
+              _
+              (c .left)
+              (c .counted)
+              (c .added)
+              (added .each i l);
         }
 
-    pub kept-on : (rooms₀ counts₀ masses₀ lower₀ : List ℕ) → Kept h active rooms₀ counts₀ masses₀ lower₀ rooms counts masses lower
-        → Kept h active rooms₀ counts₀ masses₀ lower₀ rooms′ counts′ masses′ lower′
-    kept-on rooms₀ counts₀ masses₀ lower₀ kept =
+    pub kept-on : (n₀ : PlaceNumbers) (lower₀ : List ℕ) → Kept (ps .header) active n₀ lower₀ n lower → Kept (ps .header) active n₀ lower₀ n′ lower′
+    kept-on n₀ lower₀ kept =
         record {
           places =
               λ i l.
@@ -131,22 +142,18 @@ module _ (h : Header) (links words list : List ℕ) (active : ℕ) (f : FallingF
         }
 
 -- nothing is done yet
-pub kept-begin : (h : Header) (active : ℕ) (rooms counts masses lower : List ℕ) → Places rooms counts masses
-    → Kept h active rooms counts masses lower rooms counts masses lower
-kept-begin h active rooms counts masses lower sized =
-    record { places = λ i l. (refl, refl, refl); entries = λ j l. refl; sized = refl; arrays = sized }
+pub kept-begin : (h : Header) (active : ℕ) (n : PlaceNumbers) (lower : List ℕ) → Places n → Kept h active n lower n lower
+kept-begin h active n lower sized = record { places = λ i l. (refl, refl, refl); entries = λ j l. refl; sized = refl; arrays = sized }
 
 -- ---- one threshold after another
 
 -- the first `active` thresholds are under way, the others of the first `number` have ended, and all else is untouched
-pub record Walking (h : Header) (links words list : List ℕ) (number : ℕ) (rooms₀ counts₀ masses₀ lower₀ : List ℕ)
-    (active at : ℕ) (stack rooms counts masses lower : List ℕ) : Type 0 where
+pub record Walking (ps : Plans) (number : ℕ) (n₀ : PlaceNumbers) (lower₀ : List ℕ) (active at : ℕ) (stack : List ℕ) (n : PlaceNumbers) (lower : List ℕ) : Type 0 where
   pub within : active ≤ number
-  pub stacked : Stack (h .events) at stack
-  pub ledgers : Ledgers h links words list active at stack rooms counts masses lower
-  pub ended : (i : ℕ) → active ≤ i → i < number
-      → Settled (planWith h links words (getD list i 0)) (getD rooms i 0) (getD counts i 0) (getD masses i 0) (pairCount (h .nodes) * i) lower
-  pub kept : Kept h number rooms₀ counts₀ masses₀ lower₀ rooms counts masses lower
+  pub stacked : Stack (ps .header .events) at stack
+  pub sofar : AllCountedSoFar ps active at stack n lower
+  pub ended : (i : ℕ) → active ≤ i → i < number → HoldsAnswers (planFor ps i) (numbersAt n i) (pairCount (ps .header .nodes) * i) lower
+  pub kept : Kept (ps .header) number n₀ lower₀ n lower
 
 -- fewer of falling thresholds fall
 pub fewer-fall : (number active : ℕ) (list : List ℕ) → FallingFirst number list → active ≤ number → FallingFirst active list
@@ -158,76 +165,74 @@ fewer-fall number active list f l =
       falling = λ i j k m. f .falling i j k (omega arith);
     }
 
-module _ (h : Header) (links words list : List ℕ) (number : ℕ) (rooms₀ counts₀ masses₀ lower₀ : List ℕ) where
+module _ (ps : Plans) (number : ℕ) (n₀ : PlaceNumbers) (lower₀ : List ℕ) where
   -- at the root
-  module _ (fresh : Fresh h number rooms₀ counts₀ masses₀ lower₀) (f : FallingFirst number list) (few : h .nodes ≤ 64) (at : ℕ) (zeros stack : List ℕ)
-      (place-is : at ≡ 635) (laid : stack ≡ sets zeros 635 (0 ∷ whole ∷ 0 ∷ 0 ∷ whole ∷ [])) (size : length zeros ≡ 640) where
-    ends-are : (i : ℕ) → i < number → toCome (h .events) (getD list i 0) words at stack ≡ planEnds (planWith h links words (getD list i 0))
+  module _ (fresh : Fresh (ps .header) number n₀ lower₀) (f : FallingFirst number (ps .list)) (few : ps .header .nodes ≤ 64) (at : ℕ)
+      (zeros stack : List ℕ) (place-is : at ≡ 635) (laid : stack ≡ sets zeros 635 (0 ∷ whole ∷ 0 ∷ 0 ∷ whole ∷ [])) (size : length zeros ≡ 640) where
+    ends-are : (i : ℕ) → i < number → coming ps i at stack ≡ planEnds (planFor ps i)
     unfolding planOfLists
-    ends-are i l = begun-ends at zeros stack place-is laid size (h .events) (getD list i 0) words (f .most i l)
+    ends-are i l = begun-ends at zeros stack place-is laid size (ps .header .events) (getD (ps .list) i 0) (ps .words) (f .most i l)
 
-    firsts : (i : ℕ) → i < number
-        → take (getD rooms₀ i 0 - 1) (toCome (h .events) (getD list i 0) words at stack) ≡ firstEnds (planWith h links words (getD list i 0))
+    firsts : (i : ℕ) → i < number → take (getD (n₀ .rooms) i 0 - 1) (coming ps i at stack) ≡ firstEnds (planFor ps i)
     unfolding planOfLists
     firsts i l =
-        let cap-ends : getD rooms₀ i 0 - 1 ≡ h .limit = omega (arith, fresh .full i l) in
-        ap (λ (n : ℕ). take n (toCome (h .events) (getD list i 0) words at stack)) cap-ends ∙ ap (take (h .limit)) (ends-are i l)
+        let cap-ends : getD (n₀ .rooms) i 0 - 1 ≡ ps .header .limit = omega (arith, fresh .full i l) in
+        ap (λ (m : ℕ). take m (coming ps i at stack)) cap-ends ∙ ap (take (ps .header .limit)) (ends-are i l)
 
-    zero-at : (i : ℕ) → i < number → (v w : ℕ) → v < w → w < h .nodes → getD lower₀ (place (h .nodes) v w + pairCount (h .nodes) * i) 0 ≡ 0
+    zero-at : (i : ℕ) → i < number → (v w : ℕ) → v < w → w < ps .header .nodes
+        → getD lower₀ (place (ps .header .nodes) v w + pairCount (ps .header .nodes) * i) 0 ≡ 0
     zero-at i l v w k m =
-        fresh .zeros (place (h .nodes) v w + pairCount (h .nodes) * i)
-        (omega (arith, place-lt (h .nodes) v w few k m, mul-le-mul-left (pairCount (h .nodes)) (let next : i + 1 ≤ number = omega arith in next)))
+        fresh .zeros (place (ps .header .nodes) v w + pairCount (ps .header .nodes) * i)
+        (omega (
+          arith,
+          place-lt (ps .header .nodes) v w few k m,
+          mul-le-mul-left (pairCount (ps .header .nodes)) (let next : i + 1 ≤ number = omega arith in next),
+        ))
 
-    fresh-ledger : (i : ℕ) → i < number
-        → Ledger (planWith h links words (getD list i 0)) (toCome (h .events) (getD list i 0) words at stack)
-        (getD rooms₀ i 0) (getD counts₀ i 0) (getD masses₀ i 0) (pairCount (h .nodes) * i) lower₀
+    fresh-counted : (i : ℕ) → i < number
+        → CountedSoFar (planFor ps i) (coming ps i at stack) (numbersAt n₀ i) (pairCount (ps .header .nodes) * i) lower₀
     unfolding planOfLists
-    fresh-ledger i l =
+    fresh-counted i l =
         record {
-          numbers = omega (arith, fresh .none i, ap (sumEnds (λ s m. 1)) (firsts i l), count-sum (planWith h links words (getD list i 0)));
+          numbers = omega (arith, fresh .none i, ap (sumEnds (λ s m. 1)) (firsts i l), count-sum (planFor ps i));
           masses = omega (arith, fresh .empty i, ap (sumEnds (λ s m. m)) (firsts i l));
           entries =
               λ v w k m.
-              omega (
-                arith,
-                zero-at i l v w k m,
-                ap (sumEnds (λ s x. x * digit (cuts intact (planWith h links words (getD list i 0)) v w s))) (firsts i l),
-              );
+              omega (arith, zero-at i l v w k m, ap (sumEnds (λ s x. x * digit (cuts intact (planFor ps i) v w s))) (firsts i l));
           below = λ v w k m. omega (arith, zero-at i l v w k m);
           ends =
-              ap (λ (x : List End). digit (ltb (length x) (getD rooms₀ i 0))) (ends-are i l)
-              ∙ ap digit (one-more (length (planEnds (planWith h links words (getD list i 0)))) (h .limit) (getD rooms₀ i 0) (fresh .full i l));
+              ap (λ (x : List End). digit (ltb (length x) (getD (n₀ .rooms) i 0))) (ends-are i l)
+              ∙ ap digit (one-more (length (planEnds (planFor ps i))) (ps .header .limit) (getD (n₀ .rooms) i 0) (fresh .full i l));
         }
 
-    pub walk-begins : Walking h links words list number rooms₀ counts₀ masses₀ lower₀ number at stack rooms₀ counts₀ masses₀ lower₀
+    pub walk-begins : Walking ps number n₀ lower₀ number at stack n₀ lower₀
     walk-begins =
         record {
           within = omega arith;
-          stacked = begun-stack at zeros stack place-is laid size (h .events);
-          ledgers = record { each = fresh-ledger };
+          stacked = begun-stack at zeros stack place-is laid size (ps .header .events);
+          sofar = record { each = fresh-counted };
           ended = λ i a b. absurd (omega arith);
-          kept = kept-begin h number rooms₀ counts₀ masses₀ lower₀ (fresh .arrays);
+          kept = kept-begin (ps .header) number n₀ lower₀ (fresh .arrays);
         }
 
   -- the lowest that is under way ends
-  module _ (few : h .nodes ≤ 64) (active at : ℕ) (stack rooms counts masses lower : List ℕ) (some : 1 ≤ active)
-      (g : Walking h links words list number rooms₀ counts₀ masses₀ lower₀ active at stack rooms counts masses lower)
-      (at′ : ℕ) (stack′ rooms′ counts′ masses′ lower′ : List ℕ) (stacked : Stack (h .events) at′ stack′)
-      (ledgers : Ledgers h links words list active at′ stack′ rooms′ counts′ masses′ lower′)
-      (kept : Kept h active rooms counts masses lower rooms′ counts′ masses′ lower′)
-      (over : (getD rooms′ (active - 1) 0 ≡ 0) ⊎ (at′ ≡ 640)) where
+  module _ (few : ps .header .nodes ≤ 64) (active at : ℕ) (stack : List ℕ) (n : PlaceNumbers) (lower : List ℕ) (some : 1 ≤ active)
+      (g : Walking ps number n₀ lower₀ active at stack n lower)
+      (at′ : ℕ) (stack′ : List ℕ) (n′ : PlaceNumbers) (lower′ : List ℕ) (stacked : Stack (ps .header .events) at′ stack′)
+      (sofar : AllCountedSoFar ps active at′ stack′ n′ lower′) (kept : Kept (ps .header) active n lower n′ lower′)
+      (over : (getD (n′ .rooms) (active - 1) 0 ≡ 0) ⊎ (at′ ≡ 640)) where
     abbrev last : ℕ
     last = active - 1
 
     abbrev Ended : ℕ → Type 0
-    Ended i =
-        Settled (planWith h links words (getD list i 0)) (getD rooms′ i 0) (getD counts′ i 0) (getD masses′ i 0) (pairCount (h .nodes) * i) lower′
+    Ended i = HoldsAnswers (planFor ps i) (numbersAt n′ i) (pairCount (ps .header .nodes) * i) lower′
 
-    last-ends : (getD rooms′ last 0 ≡ 0) ⊎ (at′ ≡ 640) → Ended last
-    last-ends (inl e) = used-up _ _ _ _ _ _ lower′ (ledgers .each last (omega arith)) e
+    last-ends : (getD (n′ .rooms) last 0 ≡ 0) ⊎ (at′ ≡ 640) → Ended last
+    last-ends (inl e) = used-up _ _ _ _ lower′ (sofar .each last (omega arith)) e
     last-ends (inr e) =
-        all-reached _ _ _ _ _ _ lower′ (ledgers .each last (omega arith))
-        (ap (λ (a : ℕ). toCome (h .events) (getD list last 0) words a stack′) e ∙ none-to-come (h .events) (getD list last 0) words stack′ (stacked .sized))
+        all-reached _ _ _ _ lower′ (sofar .each last (omega arith))
+        (ap (λ (a : ℕ). coming ps last a stack′) e
+        ∙ none-to-come (ps .header .events) (getD (ps .list) last 0) (ps .words) stack′ (stacked .sized))
 
     -- what ended before stays as it is
     stays : (i : ℕ) → active ≤ i → i < number → Ended i
@@ -240,21 +245,22 @@ module _ (h : Header) (links words list : List ℕ) (number : ℕ) (rooms₀ cou
           masses = same .2 ∙ old .masses;
           entries =
               λ v w l k.
-              kept .entries (place (h .nodes) v w + pairCount (h .nodes) * i) (omega (arith, mul-le-mul-left (pairCount (h .nodes)) a))
+              kept .entries (place (ps .header .nodes) v w + pairCount (ps .header .nodes) * i)
+              (omega (arith, mul-le-mul-left (pairCount (ps .header .nodes)) a))
               ∙ old .entries v w l k;
           ends = ap (λ (r : ℕ). digit (ltb 0 r)) (same .0) ∙ old .ends;
         }
 
     ended-now : (i : ℕ) → active - 1 ≤ i → i < number → Dec (i ≡ last) → Ended i
     ended-now i a b (yes e) = subst (λ (x : ℕ). Ended x) (sym e) (last-ends over)
-    ended-now i a b (no n) = stays i (omega arith) b
+    ended-now i a b (no apart) = stays i (omega arith) b
 
-    pub walk-turned : Walking h links words list number rooms₀ counts₀ masses₀ lower₀ (active - 1) at′ stack′ rooms′ counts′ masses′ lower′
+    pub walk-turned : Walking ps number n₀ lower₀ (active - 1) at′ stack′ n′ lower′
     walk-turned =
         record {
           within = omega (arith, g .within);
           stacked = stacked;
-          ledgers = record { each = λ i l. ledgers .each i (omega arith) };
+          sofar = record { each = λ i l. sofar .each i (omega arith) };
           ended = λ i a b. ended-now i a b (ℕ-discrete i last);
           kept =
               record {
@@ -265,14 +271,13 @@ module _ (h : Header) (links words list : List ℕ) (number : ℕ) (rooms₀ cou
                     (new .0 ∙ old .0, new .1 ∙ old .1, new .2 ∙ old .2);
                 entries =
                     λ j l.
-                    kept .entries j (omega (arith, mul-le-mul-left (pairCount (h .nodes)) (g .within))) ∙ g .kept .entries j l;
+                    kept .entries j (omega (arith, mul-le-mul-left (pairCount (ps .header .nodes)) (g .within))) ∙ g .kept .entries j l;
                 sized = kept .sized ∙ g .kept .sized;
                 arrays = kept .arrays;
               };
         }
 
   -- none is under way
-  pub walk-done : (at : ℕ) (stack rooms counts masses lower : List ℕ) (active : ℕ) → active ≡ 0
-      → Walking h links words list number rooms₀ counts₀ masses₀ lower₀ active at stack rooms counts masses lower
-      → AllSettled h links words list number rooms₀ counts₀ masses₀ lower₀ rooms counts masses lower
-  walk-done at stack rooms counts masses lower active e g = record { each = λ i l. g .ended i (omega arith) l; kept = g .kept }
+  pub walk-done : (at : ℕ) (stack : List ℕ) (n : PlaceNumbers) (lower : List ℕ) (active : ℕ) → active ≡ 0
+      → Walking ps number n₀ lower₀ active at stack n lower → AllHoldAnswers ps number n₀ lower₀ n lower
+  walk-done at stack n lower active e g = record { each = λ i l. g .ended i (omega arith) l; kept = g .kept }

@@ -18,7 +18,7 @@ use Rattle.walk.specs.Walk.{count, complete, massExamined}
 use Rattle.pairs.specs.Pairs.{place, pairCount}
 use Rattle.bounds.specs.Bounds.{cuts, lowerOf}
 use Rattle.threshold_walk.specs.Stack.{toCome}
-use Rattle.threshold_walk.specs.Paths.{pathEnds, handed}
+use Rattle.threshold_walk.specs.Paths.{SharedWalk, pathEnds, handed}
 use Rattle.threshold_walk.specs.declared.WorksPath.{WorksPath}
 
 -- a header with another threshold
@@ -29,6 +29,20 @@ withThreshold h t = record { nodes = h .nodes; links = h .links; events = h .eve
 abbrev pub planWith : Header → List ℕ → List ℕ → ℕ → Plan
 planWith h links words t = planOfLists (withThreshold h t) links words
 
+-- the plans of several thresholds, which differ in the threshold alone: a header, the arrays of links and events, and the thresholds
+pub record Plans : Type 0 where
+  pub header : Header
+  pub links : List ℕ
+  pub words : List ℕ
+  pub list : List ℕ
+
+abbrev pub plansOf : Header → List ℕ → List ℕ → List ℕ → Plans
+plansOf h links words list = record { header = h; links = links; words = words; list = list }
+
+-- that of threshold i
+abbrev pub planFor : Plans → ℕ → Plan
+planFor ps i = planWith (ps .header) (ps .links) (ps .words) (getD (ps .list) i 0)
+
 -- the first `number` of a list of thresholds are 1 to 10^18 and fall strictly
 pub record FallingFirst (number : ℕ) (list : List ℕ) : Type 0 where
   pub few : number ≤ 16
@@ -36,22 +50,40 @@ pub record FallingFirst (number : ℕ) (list : List ℕ) : Type 0 where
   pub most : (i : ℕ) → i < number → getD list i 0 ≤ whole
   pub falling : (i j : ℕ) → i < j → j < number → getD list j 0 < getD list i 0
 
--- what was reached so far for one threshold, and what is to come, give its plan's answers. `room` is one more than the ends that may still
--- be reached, 0 where more were: so the walk is complete where fewer ends are to come than it says. `block` is where its block begins
-pub record Ledger (p : Plan) (coming : List End) (room number mass block : ℕ) (lower : List ℕ) : Type 0 where
-  pub numbers : number + sumEnds (λ s m. 1) (take (room - 1) coming) ≡ count p
-  pub masses : mass + sumEnds (λ s m. m) (take (room - 1) coming) ≡ massExamined p
-  pub entries : (v w : ℕ) → v < w → w < p .nodes
-      → getD lower (place (p .nodes) v w + block) 0 + weighed (λ s. digit (cuts intact p v w s)) (take (room - 1) coming) ≡ lowerOf intact p v w
-  pub below : (v w : ℕ) → v < w → w < p .nodes → getD lower (place (p .nodes) v w + block) 0 ≤ mass
-  pub ends : digit (ltb (length coming) room) ≡ complete p
+-- the numbers of 16 thresholds: for each what is left of its room, how many scenarios it examined, and their mass
+pub record PlaceNumbers : Type 0 where
+  pub rooms : List ℕ
+  pub counts : List ℕ
+  pub masses : List ℕ
 
--- the walk of one threshold has ended: its plan's answers are there
-pub record Settled (p : Plan) (room number mass block : ℕ) (lower : List ℕ) : Type 0 where
-  pub numbers : number ≡ count p
-  pub masses : mass ≡ massExamined p
+abbrev pub placeNumbers : List ℕ → List ℕ → List ℕ → PlaceNumbers
+placeNumbers rooms counts masses = record { rooms = rooms; counts = counts; masses = masses }
+
+-- those of one threshold. `room` is one more than the ends that may still be reached, 0 where more were: so the walk is complete where fewer
+-- ends are to come than it says
+pub record OwnNumbers : Type 0 where
+  pub room : ℕ
+  pub number : ℕ
+  pub mass : ℕ
+
+abbrev pub numbersAt : PlaceNumbers → ℕ → OwnNumbers
+numbersAt n i = record { room = getD (n .rooms) i 0; number = getD (n .counts) i 0; mass = getD (n .masses) i 0 }
+
+-- what was counted so far for one threshold, and what is to come, give its plan's answers. `block` is where its block begins
+pub record CountedSoFar (p : Plan) (coming : List End) (o : OwnNumbers) (block : ℕ) (lower : List ℕ) : Type 0 where
+  pub numbers : o .number + sumEnds (λ s m. 1) (take (o .room - 1) coming) ≡ count p
+  pub masses : o .mass + sumEnds (λ s m. m) (take (o .room - 1) coming) ≡ massExamined p
+  pub entries : (v w : ℕ) → v < w → w < p .nodes
+      → getD lower (place (p .nodes) v w + block) 0 + weighed (λ s. digit (cuts intact p v w s)) (take (o .room - 1) coming) ≡ lowerOf intact p v w
+  pub below : (v w : ℕ) → v < w → w < p .nodes → getD lower (place (p .nodes) v w + block) 0 ≤ o .mass
+  pub ends : digit (ltb (length coming) (o .room)) ≡ complete p
+
+-- the walk of one threshold has ended: its numbers and its block hold its plan's answers
+pub record HoldsAnswers (p : Plan) (o : OwnNumbers) (block : ℕ) (lower : List ℕ) : Type 0 where
+  pub numbers : o .number ≡ count p
+  pub masses : o .mass ≡ massExamined p
   pub entries : (v w : ℕ) → v < w → w < p .nodes → getD lower (place (p .nodes) v w + block) 0 ≡ lowerOf intact p v w
-  pub ends : digit (ltb 0 room) ≡ complete p
+  pub ends : digit (ltb 0 (o .room)) ≡ complete p
 
 -- 1 where a path's scenario, with the mass `last`, is examined by the walk with the threshold t, of which so much room is left, else 0
 abbrev pub examinedBy : ℕ → ℕ → ℕ → ℕ
@@ -67,10 +99,11 @@ PathFits h active path list rooms lower =
     (i : ℕ) → i < active → (v w : ℕ) → v < w → w < h .nodes
     → getD lower (place (h .nodes) v w + pairCount (h .nodes) * i) 0 + path .last * examinedBy (getD list i 0) (getD rooms i 0) (path .last) ≤ whole
 
-abbrev pub CountsFit : ℕ → WorksPath → List ℕ → List ℕ → List ℕ → List ℕ → Type 0
-CountsFit active path list rooms counts masses =
+abbrev pub CountsFit : ℕ → WorksPath → List ℕ → PlaceNumbers → Type 0
+CountsFit active path list n =
     (i : ℕ) → i < active
-    → (getD counts i 0 < 4294967296) × (getD masses i 0 + path .last * examinedBy (getD list i 0) (getD rooms i 0) (path .last) ≤ whole)
+    → (getD (n .counts) i 0 < 4294967296)
+    × (getD (n .masses) i 0 + path .last * examinedBy (getD list i 0) (getD (n .rooms) i 0) (path .last) ≤ whole)
 
 -- a set of blocks holds those of the first `active` thresholds whose walks examine a scenario with the mass `last`, and no other
 pub record WantedBlocks (list rooms : List ℕ) (active last blocks : ℕ) : Type 0 where
@@ -79,63 +112,64 @@ pub record WantedBlocks (list rooms : List ℕ) (active last blocks : ℕ) : Typ
 
 -- what one path adds to the blocks of the first `active` thresholds, whose rooms are given: its mass, to the entries of the pairs that its
 -- scenario's topology disconnects, where the threshold's walk examines it; all else is untouched
-pub record PathAdded (h : Header) (links words list rooms : List ℕ) (active : ℕ) (path : WorksPath) (lower lower′ : List ℕ) : Type 0 where
+pub record PathAdded (ps : Plans) (active : ℕ) (path : WorksPath) (rooms lower lower′ : List ℕ) : Type 0 where
   pub sized : length lower′ ≡ length lower
-  pub each : (i : ℕ) → i < active → (v w : ℕ) → v < w → w < h .nodes
-      → getD lower′ (place (h .nodes) v w + pairCount (h .nodes) * i) 0
-      ≡ getD lower (place (h .nodes) v w + pairCount (h .nodes) * i) 0
-      + path .last * examinedBy (getD list i 0) (getD rooms i 0) (path .last)
-      * digit (cuts intact (planOfLists h links words) v w (scenarioOf (h .events) (joined (path .low) (path .high))))
-  pub past : (j : ℕ) → pairCount (h .nodes) * active ≤ j → getD lower′ j 0 ≡ getD lower j 0
+  pub each : (i : ℕ) → i < active → (v w : ℕ) → v < w → w < ps .header .nodes
+      → getD lower′ (place (ps .header .nodes) v w + pairCount (ps .header .nodes) * i) 0
+      ≡ getD lower (place (ps .header .nodes) v w + pairCount (ps .header .nodes) * i) 0
+      + path .last * examinedBy (getD (ps .list) i 0) (getD rooms i 0) (path .last)
+      * digit (cuts intact (planOfLists (ps .header) (ps .links) (ps .words)) v w (scenarioOf (ps .header .events) (joined (path .low) (path .high))))
+  pub past : (j : ℕ) → pairCount (ps .header .nodes) * active ≤ j → getD lower′ j 0 ≡ getD lower j 0
 
 -- a place for each of 16 thresholds
-pub record Places (rooms counts masses : List ℕ) : Type 0 where
-  pub rooms-size : length rooms ≡ 16
-  pub counts-size : length counts ≡ 16
-  pub masses-size : length masses ≡ 16
+pub record Places (n : PlaceNumbers) : Type 0 where
+  pub rooms-size : length (n .rooms) ≡ 16
+  pub counts-size : length (n .counts) ≡ 16
+  pub masses-size : length (n .masses) ≡ 16
+
+-- place i is the same in both
+abbrev pub SamePlace : PlaceNumbers → PlaceNumbers → ℕ → Type 0
+SamePlace n n′ i =
+    (getD (n′ .rooms) i 0 ≡ getD (n .rooms) i 0) × (getD (n′ .counts) i 0 ≡ getD (n .counts) i 0) × (getD (n′ .masses) i 0 ≡ getD (n .masses) i 0)
 
 -- what one path counts for one threshold: its ends come off the room, and its scenario is counted where it is examined
-pub record Counted (events t : ℕ) (words : List ℕ) (path : WorksPath) (room number mass room′ number′ mass′ : ℕ) : Type 0 where
+pub record Counted (k : SharedWalk) (t : ℕ) (path : WorksPath) (o o′ : OwnNumbers) : Type 0 where
   pub ends : ℕ
-  pub are : pathEnds events t words path ≡ handed events t path ends
+  pub are : pathEnds (k .count) t (k .words) path ≡ handed (k .count) t path ends
   pub none : ends ≡ 0 → path .last < t
-  pub left : room′ ≡ room - ends
-  pub counted : number′ ≡ number + examinedBy t room (path .last)
-  pub added : mass′ ≡ mass + path .last * examinedBy t room (path .last)
+  pub left : o′ .room ≡ o .room - ends
+  pub counted : o′ .number ≡ o .number + examinedBy t (o .room) (path .last)
+  pub added : o′ .mass ≡ o .mass + path .last * examinedBy t (o .room) (path .last)
 
 -- and for each of the first `active` thresholds; the other places are untouched
-pub record PathCounted (events : ℕ) (words list : List ℕ) (active : ℕ) (path : WorksPath) (rooms counts masses rooms′ counts′ masses′ : List ℕ) : Type 0 where
-  pub sized : Places rooms′ counts′ masses′
-  pub each : (i : ℕ) → i < active
-      → Counted events (getD list i 0) words path (getD rooms i 0) (getD counts i 0) (getD masses i 0) (getD rooms′ i 0) (getD counts′ i 0) (getD masses′ i 0)
-  pub past : (i : ℕ) → active ≤ i
-      → (getD rooms′ i 0 ≡ getD rooms i 0) × (getD counts′ i 0 ≡ getD counts i 0) × (getD masses′ i 0 ≡ getD masses i 0)
+pub record PathCounted (k : SharedWalk) (list : List ℕ) (active : ℕ) (path : WorksPath) (n n′ : PlaceNumbers) : Type 0 where
+  pub sized : Places n′
+  pub each : (i : ℕ) → i < active → Counted k (getD list i 0) path (numbersAt n i) (numbersAt n′ i)
+  pub past : (i : ℕ) → active ≤ i → SamePlace n n′ i
 
--- the first `active` thresholds are under way: for each, what was reached and what is to come give its plan's answers
-pub record Ledgers (h : Header) (links words list : List ℕ) (active at : ℕ) (stack rooms counts masses lower : List ℕ) : Type 0 where
+-- the first `active` thresholds are under way: for each, what was counted so far and what is to come give its plan's answers
+pub record AllCountedSoFar (ps : Plans) (active at : ℕ) (stack : List ℕ) (n : PlaceNumbers) (lower : List ℕ) : Type 0 where
   pub each : (i : ℕ) → i < active
-      → Ledger (planWith h links words (getD list i 0)) (toCome (h .events) (getD list i 0) words at stack)
-      (getD rooms i 0) (getD counts i 0) (getD masses i 0) (pairCount (h .nodes) * i) lower
+      → CountedSoFar (planFor ps i) (toCome (ps .header .events) (getD (ps .list) i 0) (ps .words) at stack)
+      (numbersAt n i) (pairCount (ps .header .nodes) * i) lower
 
 -- what is not of the first `active` thresholds is untouched
-pub record Kept (h : Header) (active : ℕ) (rooms counts masses lower rooms′ counts′ masses′ lower′ : List ℕ) : Type 0 where
-  pub places : (i : ℕ) → active ≤ i
-      → (getD rooms′ i 0 ≡ getD rooms i 0) × (getD counts′ i 0 ≡ getD counts i 0) × (getD masses′ i 0 ≡ getD masses i 0)
+pub record Kept (h : Header) (active : ℕ) (n : PlaceNumbers) (lower : List ℕ) (n′ : PlaceNumbers) (lower′ : List ℕ) : Type 0 where
+  pub places : (i : ℕ) → active ≤ i → SamePlace n n′ i
   pub entries : (j : ℕ) → pairCount (h .nodes) * active ≤ j → getD lower′ j 0 ≡ getD lower j 0
   pub sized : length lower′ ≡ length lower
-  pub arrays : Places rooms′ counts′ masses′
+  pub arrays : Places n′
 
 -- before the walk: nothing is reached, one more than the cap may be, and the blocks are of zeros
-pub record Fresh (h : Header) (number : ℕ) (rooms counts masses lower : List ℕ) : Type 0 where
-  pub arrays : Places rooms counts masses
+pub record Fresh (h : Header) (number : ℕ) (n : PlaceNumbers) (lower : List ℕ) : Type 0 where
+  pub arrays : Places n
   pub fits : pairCount (h .nodes) * number ≤ length lower
-  pub full : (i : ℕ) → i < number → getD rooms i 0 ≡ h .limit + 1
-  pub none : (i : ℕ) → getD counts i 0 ≡ 0
-  pub empty : (i : ℕ) → getD masses i 0 ≡ 0
+  pub full : (i : ℕ) → i < number → getD (n .rooms) i 0 ≡ h .limit + 1
+  pub none : (i : ℕ) → getD (n .counts) i 0 ≡ 0
+  pub empty : (i : ℕ) → getD (n .masses) i 0 ≡ 0
   pub zeros : (j : ℕ) → j < pairCount (h .nodes) * number → getD lower j 0 ≡ 0
 
 -- after it: each of the first `number` thresholds has its plan's answers, and all else is untouched
-pub record AllSettled (h : Header) (links words list : List ℕ) (number : ℕ) (rooms counts masses lower rooms′ counts′ masses′ lower′ : List ℕ) : Type 0 where
-  pub each : (i : ℕ) → i < number
-      → Settled (planWith h links words (getD list i 0)) (getD rooms′ i 0) (getD counts′ i 0) (getD masses′ i 0) (pairCount (h .nodes) * i) lower′
-  pub kept : Kept h number rooms counts masses lower rooms′ counts′ masses′ lower′
+pub record AllHoldAnswers (ps : Plans) (number : ℕ) (n : PlaceNumbers) (lower : List ℕ) (n′ : PlaceNumbers) (lower′ : List ℕ) : Type 0 where
+  pub each : (i : ℕ) → i < number → HoldsAnswers (planFor ps i) (numbersAt n′ i) (pairCount (ps .header .nodes) * i) lower′
+  pub kept : Kept (ps .header) number n lower n′ lower′

@@ -3,6 +3,7 @@ use network::Failed;
 use plan::Header;
 use threshold_walk::WorksPath;
 use threshold_walk::ends_of;
+use walk::Failing;
 ghost use mathlib.Core.Path.{_≡_};
 ghost use Prim.Native.Nat.{_-_, _*_, _^_, _≤_, _<_};
 ghost use lib.ListN.{length, getD};
@@ -12,8 +13,9 @@ ghost use Rattle.plan.specs.Lists.{eventsOf};
 ghost use Rattle.plan.specs.Held.{Held, Falling};
 ghost use Rattle.network.specs.Table.{LinksAt};
 ghost use Rattle.pairs.specs.Pairs.{pairCount};
-ghost use Rattle.threshold_walk.specs.Paths.{SoundPath};
-ghost use Rattle.threshold_sums.specs.Walked.{examinedBy, FallingFirst, PathFits, WantedBlocks, Places, CountsFit, PathAdded, PathCounted};
+ghost use Rattle.threshold_walk.specs.Paths.{sharedWalk, SoundPath};
+ghost use Rattle.threshold_sums.specs.Walked.{plansOf, placeNumbers, examinedBy, FallingFirst, PathFits, WantedBlocks, Places, CountsFit};
+ghost use Rattle.threshold_sums.specs.Walked.{PathAdded, PathCounted};
 
 // 1 where a path's scenario, with its mass, is examined by the walk with a threshold of which so much room is left, else 0.
 fn examined_by(threshold: u64, room: u64, last: u64) -> u64
@@ -51,10 +53,12 @@ pub fn count_path(
 )
     requires { ⌜ (events ≤ 128) × Falling certain (eventsOf events (now words)) ⌝ }
     requires { ⌜ FallingFirst active (now list) × (1 ≤ active) ⌝ }
-    requires { ⌜ SoundPath events (getD (now list) (active - 1) 0) (now words) path ⌝ }
-    requires { ⌜ Places (now rooms) (now counts) (now masses) × CountsFit active path (now list) (now rooms) (now counts) (now masses) ⌝ }
-    ensures { λ r. ⌜ PathCounted events (now (words .entry)) (now (list .entry)) active path
-        (now (rooms .entry)) (now (counts .entry)) (now (masses .entry)) (now (rooms .exit)) (now (counts .exit)) (now (masses .exit)) ⌝ }
+    requires { ⌜ SoundPath (sharedWalk events (getD (now list) (active - 1) 0) (now words)) path ⌝ }
+    requires { ⌜ Places (placeNumbers (now rooms) (now counts) (now masses))
+        × CountsFit active path (now list) (placeNumbers (now rooms) (now counts) (now masses)) ⌝ }
+    ensures { λ r. ⌜ PathCounted (sharedWalk events (getD (now (list .entry)) (active - 1) 0) (now (words .entry))) (now (list .entry)) active path
+        (placeNumbers (now (rooms .entry)) (now (counts .entry)) (now (masses .entry)))
+        (placeNumbers (now (rooms .exit)) (now (counts .exit)) (now (masses .exit))) ⌝ }
 {
     let lowest = list[active - 1];
     let mut i = 0;
@@ -103,8 +107,8 @@ pub fn add_path(
     requires { ⌜ FallingFirst active (now list) × (1 ≤ active) × (joined (path .low) (path .high) < 2 ^ (h .events)) ⌝ }
     requires { ⌜ pairCount (h .nodes) * active ≤ length (now lower) ⌝ }
     requires { ⌜ PathFits h active path (now list) (now rooms) (now lower) ⌝ }
-    ensures { λ r. ⌜ PathAdded h (now (links .entry)) (now (words .entry)) (now (list .entry)) (now (rooms .entry)) active path
-        (now (lower .entry)) (now (lower .exit)) ⌝ }
+    ensures { λ r. ⌜ PathAdded (plansOf h (now (links .entry)) (now (words .entry)) (now (list .entry))) active path
+        (now (rooms .entry)) (now (lower .entry)) (now (lower .exit)) ⌝ }
 {
     let blocks = wanted_blocks(list, active, rooms, path.last);
     if blocks == 0 {
@@ -116,8 +120,10 @@ pub fn add_path(
         words,
         table,
         Failed::NONE,
-        path.low,
-        path.high,
+        Failing {
+            low: path.low,
+            high: path.high,
+        },
         lower,
         blocks,
         path.last,

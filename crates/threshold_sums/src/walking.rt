@@ -12,7 +12,7 @@ ghost use Rattle.plan.specs.Held.{Held};
 ghost use Rattle.network.specs.Table.{LinksAt};
 ghost use Rattle.pairs.specs.Pairs.{pairCount};
 ghost use Rattle.threshold_walk.specs.Stack.{Stack};
-ghost use Rattle.threshold_sums.specs.Walked.{FallingFirst, Places, Ledgers, Kept, Fresh, AllSettled};
+ghost use Rattle.threshold_sums.specs.Walked.{plansOf, placeNumbers, FallingFirst, Places, AllCountedSoFar, Kept, Fresh, AllHoldAnswers};
 
 // Goes on with the walk for the first `active` thresholds until the lowest of them has reached more ends than the cap, or no branch is
 // pending. Returns where the stack then begins.
@@ -34,13 +34,14 @@ fn walk_with(
     requires { ⌜ LinksAt (now links) (h .links) (now table) ⌝ }
     requires { ⌜ FallingFirst active (now list) × (1 ≤ active) × (h .limit < 4294967296) ⌝ }
     requires { ⌜ Stack (h .events) start (now stack) × (pairCount (h .nodes) * active ≤ length (now lower))
-        × Places (now rooms) (now counts) (now masses) ⌝ }
-    requires { ⌜ Ledgers h (now links) (now words) (now list) active start (now stack) (now rooms) (now counts) (now masses) (now lower) ⌝ }
+        × Places (placeNumbers (now rooms) (now counts) (now masses)) ⌝ }
+    requires { ⌜ AllCountedSoFar (plansOf h (now links) (now words) (now list)) active start (now stack)
+        (placeNumbers (now rooms) (now counts) (now masses)) (now lower) ⌝ }
     ensures { λ r. ⌜ Stack (h .events) r (now (stack .exit)) ⌝ }
-    ensures { λ r. ⌜ Ledgers h (now (links .entry)) (now (words .entry)) (now (list .entry)) active r (now (stack .exit))
-        (now (rooms .exit)) (now (counts .exit)) (now (masses .exit)) (now (lower .exit)) ⌝ }
-    ensures { λ r. ⌜ Kept h active (now (rooms .entry)) (now (counts .entry)) (now (masses .entry)) (now (lower .entry))
-        (now (rooms .exit)) (now (counts .exit)) (now (masses .exit)) (now (lower .exit)) ⌝ }
+    ensures { λ r. ⌜ AllCountedSoFar (plansOf h (now (links .entry)) (now (words .entry)) (now (list .entry))) active r (now (stack .exit))
+        (placeNumbers (now (rooms .exit)) (now (counts .exit)) (now (masses .exit))) (now (lower .exit)) ⌝ }
+    ensures { λ r. ⌜ Kept h active (placeNumbers (now (rooms .entry)) (now (counts .entry)) (now (masses .entry))) (now (lower .entry))
+        (placeNumbers (now (rooms .exit)) (now (counts .exit)) (now (masses .exit))) (now (lower .exit)) ⌝ }
     ensures { λ r. ⌜ (getD (now (rooms .exit)) (active - 1) 0 ≡ 0) ⊎ (r ≡ 640) ⌝ }
 {
     let lowest = list[active - 1];
@@ -93,10 +94,10 @@ pub fn walk_all(
 )
     requires { ⌜ Held h (now links) (now words) ⌝ }
     requires { ⌜ FallingFirst number (now list) × (h .limit < 4294967296) ⌝ }
-    requires { ⌜ Fresh h number (now rooms) (now counts) (now masses) (now lower) ⌝ }
-    ensures { λ r. ⌜ AllSettled h (now (links .entry)) (now (words .entry)) (now (list .entry)) number
-        (now (rooms .entry)) (now (counts .entry)) (now (masses .entry)) (now (lower .entry))
-        (now (rooms .exit)) (now (counts .exit)) (now (masses .exit)) (now (lower .exit)) ⌝ }
+    requires { ⌜ Fresh h number (placeNumbers (now rooms) (now counts) (now masses)) (now lower) ⌝ }
+    ensures { λ r. ⌜ AllHoldAnswers (plansOf h (now (links .entry)) (now (words .entry)) (now (list .entry))) number
+        (placeNumbers (now (rooms .entry)) (now (counts .entry)) (now (masses .entry))) (now (lower .entry))
+        (placeNumbers (now (rooms .exit)) (now (counts .exit)) (now (masses .exit))) (now (lower .exit)) ⌝ }
 {
     let table = network::links_at(h.nodes as usize, links, h.links as usize);
     let mut stack = [0u64; 640];

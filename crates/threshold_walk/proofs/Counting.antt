@@ -16,12 +16,12 @@ use Rattle.walk.specs.Pending.{Branch}
 use Rattle.walk.specs.Stack.{branchOf}
 use Rattle.walk.specs.Steps.{Stopped, endOf}
 use Rattle.walk.specs.declared.Stop.{Stop}
-use Rattle.threshold_walk.specs.Paths.{Faint, pathEnds, SoundPath, handed}
+use Rattle.threshold_walk.specs.Paths.{sharedWalk, Faint, pathEnds, SoundPath, handed}
 use Rattle.threshold_walk.specs.declared.WorksPath.{WorksPath}
 use Rattle.threshold_walk.proofs.Stops.{path-shared, path-below, entry-none, entry-some, branch-cut, probables, branch-path}
 
 module _ (count lowest t : ℕ) (words : List ℕ) (falls : Falling certain (eventsOf count words)) (l : lowest ≤ t) (path : WorksPath)
-    (s : SoundPath count lowest words path) where
+    (s : SoundPath (sharedWalk count lowest words) path) where
   abbrev here : Branch
   here = branchOf (path .depth) (path .mass) (path .low) (path .high)
 

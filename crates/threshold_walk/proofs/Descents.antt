@@ -8,7 +8,7 @@ use native.Mathlib.Nat.{pow-succ'}
 use native.Mathlib.Numerals.{add-one}
 use native.Mathlib.Omega.{arith}
 use lib.ListN.{length, getD, drop, length-drop, length-append, length-map}
-use Rattle.mass.specs.Split.{certain, whole, failing, working}
+use Rattle.mass.specs.Split.{certain, failing, working}
 use Rattle.mass.proofs.Theorems.{fails-le, works-le}
 use Rattle.sets.specs.Sets.{joined}
 use Rattle.plan.specs.Plan.{Event}
@@ -23,26 +23,50 @@ use Rattle.walk.specs.declared.Stop.{Stop}
 use Rattle.walk.proofs.Descents.{probable, branch-parts}
 use Rattle.walk.proofs.Resume.{ends-some}
 use Rattle.threshold_walk.specs.Stack.{entryEnds, toCome, SoundEntry, SoundEntries, Stack}
-use Rattle.threshold_walk.specs.Paths.{Pushed, Faint, Halted, pathEnds, PathTaken}
+use Rattle.threshold_walk.specs.Paths.{SharedWalk, sharedWalk, Pushed, Faint, Halted, pathEnds, leftToTake, PathTaken}
 use Rattle.threshold_walk.specs.declared.Halt.{Halt}
+use Rattle.threshold_walk.specs.declared.SharedEntry.{SharedEntry}
 use Rattle.threshold_walk.specs.declared.WorksPath.{WorksPath}
 use Rattle.threshold_walk.proofs.Words.{words-at, laid-size, laid-words}
 use Rattle.threshold_walk.proofs.Stops.{entry-none, entry-some, branch-cut}
 
--- on the way down: a branch in hand, the pending entries on the stack, and for every threshold the same ends to come as at the start
-pub record Going (count lowest : ℕ) (words : List ℕ) (at depth₀ mass₀ low high : ℕ) (stack₀ : List ℕ) (depth mass top : ℕ) (stack : List ℕ) : Type 0 where
-  pub hand : SoundEntry count depth mass low high whole (length (drop top stack))
-  pub held : Stack count top stack
-  pub ahead : (t : ℕ)
-      → branchEnds t (eventsOf count words) (branchOf depth₀ mass₀ low high) ++ toCome count t words at stack₀
-      ≡ branchEnds t (eventsOf count words) (branchOf depth mass low high) ++ toCome count t words top stack
-  pub lighter : mass ≤ mass₀
-  pub still : mass₀ < lowest → top ≡ at
+-- the branch in hand on the way down from an entry, where the way has come to
+abbrev inHand : SharedEntry → Halt → SharedEntry
+inHand e r = record { depth = r .depth; mass = r .mass; low = e .low; high = e .high; parent = e .parent }
 
-module _ (count lowest : ℕ) (words : List ℕ) (at depth₀ mass₀ low high : ℕ) (stack₀ : List ℕ) (depth mass top : ℕ) (stack : List ℕ)
-    (g : Going count lowest words at depth₀ mass₀ low high stack₀ depth mass top stack) where
-  pub halts : Faint count lowest words depth mass
-      → Halted count lowest words at depth₀ mass₀ low high stack₀ stack (record { at = top; depth = depth; mass = mass })
+-- on the way down: a branch in hand, the pending entries on the stack, and for every threshold the same ends to come as at the start
+pub record Going (k : SharedWalk) (at : ℕ) (e : SharedEntry) (stack₀ stack : List ℕ) (r : Halt) : Type 0 where
+  pub hand : SoundEntry (k .count) (inHand e r) (length (drop (r .at) stack))
+  pub held : Stack (k .count) (r .at) stack
+  pub ahead : (t : ℕ)
+      → branchEnds t (eventsOf (k .count) (k .words)) (branchOf (e .depth) (e .mass) (e .low) (e .high)) ++ toCome (k .count) t (k .words) at stack₀
+      ≡ branchEnds t (eventsOf (k .count) (k .words)) (branchOf (r .depth) (r .mass) (e .low) (e .high)) ++ toCome (k .count) t (k .words) (r .at) stack
+  pub lighter : r .mass ≤ e .mass
+  pub still : e .mass < k .lowest → r .at ≡ at
+
+module _ (k : SharedWalk) (at : ℕ) (e : SharedEntry) (stack₀ stack : List ℕ) (r : Halt) (g : Going k at e stack₀ stack r) where
+  abbrev count : ℕ
+  count = k .count
+
+  abbrev words : List ℕ
+  words = k .words
+
+  abbrev low : ℕ
+  low = e .low
+
+  abbrev high : ℕ
+  high = e .high
+
+  abbrev depth : ℕ
+  depth = r .depth
+
+  abbrev mass : ℕ
+  mass = r .mass
+
+  abbrev top : ℕ
+  top = r .at
+
+  pub halts : Faint (k .count) (k .lowest) (k .words) (r .depth) (r .mass) → Halted k at e stack₀ stack r
   halts faint =
       record {
         ends = λ t h. g .ahead t;
@@ -54,7 +78,7 @@ module _ (count lowest : ℕ) (words : List ℕ) (at depth₀ mass₀ low high :
         still = g .still;
       }
 
-  module _ (few : count ≤ 128) (falls : Falling certain (eventsOf count words)) (h : lowest ≤ mass) (l : depth < count) where
+  module _ (few : count ≤ 128) (falls : Falling certain (eventsOf count words)) (h : k .lowest ≤ mass) (l : depth < count) where
     pub room : 5 ≤ top
     room = omega (arith, g .hand .room, length-drop top stack, g .held .sized)
 
@@ -66,7 +90,8 @@ module _ (count lowest : ℕ) (words : List ℕ) (at depth₀ mass₀ low high :
 
     -- the "fails" side is laid down, and the "works" side is in hand
     module _ (stack′ : List ℕ) (fails works : ℕ) (failed : fails ≡ failing mass (getD words (depth * 4) 0))
-        (worked : works ≡ working mass (getD words (depth * 4) 0)) (d : Pushed depth fails low high mass (top - 5) stack stack′) where
+        (worked : works ≡ working mass (getD words (depth * 4) 0))
+        (d : Pushed (record { depth = depth; mass = fails; low = low; high = high; parent = mass }) (top - 5) stack stack′) where
       events : List Event
       events = eventsOf count words
 
@@ -85,12 +110,12 @@ module _ (count lowest : ℕ) (words : List ℕ) (at depth₀ mass₀ low high :
       less : works ≤ mass
       less = omega (arith, worked, works-le mass (getD words (depth * 4) 0) fits)
 
-      laid : SoundEntry count (depth + 1) fails (d .setLow) (d .setHigh) mass (length (drop top stack))
+      laid : SoundEntry count (record { depth = depth + 1; mass = fails; low = d .setLow; high = d .setHigh; parent = mass }) (length (drop top stack))
       laid =
           record {
             deep = omega arith;
             lighter = omega (arith, failed, fails-le mass (getD words (depth * 4) 0) fits);
-            light = g .hand .lighter;
+            light = omega (arith, g .hand .lighter, g .hand .light);
             word = d .word;
             decided = omega (arith, d .set, g .hand .decided, next);
             room = omega (arith, g .hand .room);
@@ -118,7 +143,7 @@ module _ (count lowest : ℕ) (words : List ℕ) (at depth₀ mass₀ low high :
             entry-some mass t (eventsOf count words) (branchOf (depth + 1) fails (d .setLow) (d .setHigh)) (omega arith),
           )
 
-      pub down : Going count lowest words at depth₀ mass₀ low high stack₀ (depth + 1) works (top - 5) stack′
+      pub down : Going k at e stack₀ stack′ (record { at = top - 5; depth = depth + 1; mass = works })
       unfolding events
       down =
           record {
@@ -126,7 +151,7 @@ module _ (count lowest : ℕ) (words : List ℕ) (at depth₀ mass₀ low high :
                 record {
                   deep = omega arith;
                   lighter = omega (arith, less, g .hand .lighter);
-                  light = omega arith;
+                  light = g .hand .light;
                   word = g .hand .word;
                   decided = omega (arith, g .hand .decided, next);
                   room = omega (arith, length-drop (top - 5) stack′, size′, g .hand .room, length-drop top stack, g .held .sized);
@@ -145,107 +170,92 @@ module _ (count lowest : ℕ) (words : List ℕ) (at depth₀ mass₀ low high :
 
 -- the next branch is taken off the stack
 module _ (count : ℕ) (words : List ℕ) (at : ℕ) (stack : List ℕ) (s : Stack count at stack) (h : at < 640) where
-  abbrev pub depthAt : ℕ
-  depthAt = getD stack at 0
-
-  abbrev pub massAt : ℕ
-  massAt = getD stack (at + 1) 0
-
-  abbrev pub lowAt : ℕ
-  lowAt = getD stack (at + 2) 0
-
-  abbrev pub highAt : ℕ
-  highAt = getD stack (at + 3) 0
-
-  abbrev pub parentAt : ℕ
-  parentAt = getD stack (at + 4) 0
+  abbrev e : SharedEntry
+  e =
+      record {
+        depth = getD stack at 0;
+        mass = getD stack (at + 1) 0;
+        low = getD stack (at + 2) 0;
+        high = getD stack (at + 3) 0;
+        parent = getD stack (at + 4) 0;
+      }
 
   inside : at + 5 ≤ length stack
   inside = omega (arith, s .fives, s .sized)
 
-  all-sound : SoundEntries count (depthAt ∷ massAt ∷ lowAt ∷ highAt ∷ parentAt ∷ drop (at + 5) stack)
+  all-sound : SoundEntries count (e .depth ∷ e .mass ∷ e .low ∷ e .high ∷ e .parent ∷ drop (at + 5) stack)
   all-sound = rw (words-at stack at inside) at (s .entries)
 
   pub under : Stack count (at + 5) stack
   under = record { fives = omega (arith, s .fives); within = omega (arith, s .fives); sized = s .sized; entries = all-sound .1 }
 
-  pub taken : SoundEntry count depthAt massAt lowAt highAt parentAt (length (drop (at + 5) stack))
+  pub taken : SoundEntry count e (length (drop (at + 5) stack))
   taken = all-sound .0
 
-  pub taken-whole : SoundEntry count depthAt massAt lowAt highAt whole (length (drop (at + 5) stack))
-  taken-whole =
-      record {
-        deep = taken .deep;
-        lighter = omega (arith, taken .lighter, taken .light);
-        light = omega arith;
-        word = taken .word;
-        decided = taken .decided;
-        room = taken .room;
-      }
-
   taken-ends : (t : ℕ) → toCome count t words at stack
-      ≡ entryEnds t (eventsOf count words) parentAt (branchOf depthAt massAt lowAt highAt) ++ toCome count t words (at + 5) stack
+      ≡ entryEnds t (eventsOf count words) (e .parent) (branchOf (e .depth) (e .mass) (e .low) (e .high)) ++ toCome count t words (at + 5) stack
   taken-ends t = rw (words-at stack at inside)
 
   -- and gone down from, to where its "works" path stops
-  module _ (lowest : ℕ) (stack′ : List ℕ) (halt : Halt) (d : Halted count lowest words (at + 5) depthAt massAt lowAt highAt stack stack′ halt)
+  module _ (lowest : ℕ) (stack′ : List ℕ) (halt : Halt) (d : Halted (sharedWalk count lowest words) (at + 5) e stack stack′ halt)
       (end : Stop) (stopped : Stopped count lowest words (halt .depth) (halt .mass) end) where
     abbrev path : WorksPath
     path =
         record {
           at = halt .at;
-          parent = parentAt;
+          parent = e .parent;
           depth = halt .depth;
           mass = halt .mass;
-          low = lowAt;
-          high = highAt;
+          low = e .low;
+          high = e .high;
           stop = end .depth;
           last = end .mass;
         }
 
     cancel : {x : End} {xs ys : List End} → x ∷ xs ≡ x ∷ ys → xs ≡ ys
-    cancel e = ap (λ (l : List End). drop 1 l) e
+    cancel same = ap (λ (l : List End). drop 1 l) same
 
     -- for each threshold: where the walk does not come to the branch, nothing is to come off
-    ends-both : (t : ℕ) → lowest ≤ t → Dec (parentAt < t)
+    ends-both : (t : ℕ) → lowest ≤ t → Dec (e .parent < t)
         → toCome count t words at stack ≡ pathEnds count t words path ++ toCome count t words (halt .at) stack′
     ends-both t l (yes c) =
         let same : toCome count t words (at + 5) stack ≡ toCome count t words (halt .at) stack′ =
         cancel
         (rw (
-          branch-cut t (eventsOf count words) (branchOf depthAt massAt lowAt highAt) (omega (arith, taken .lighter)),
-          branch-cut t (eventsOf count words) (branchOf (halt .depth) (halt .mass) lowAt highAt) (omega (arith, taken .lighter, d .lighter)),
+          branch-cut t (eventsOf count words) (branchOf (e .depth) (e .mass) (e .low) (e .high)) (omega (arith, taken .lighter)),
+          branch-cut t (eventsOf count words) (branchOf (halt .depth) (halt .mass) (e .low) (e .high)) (omega (arith, taken .lighter, d .lighter)),
         ) at (d .ends t l)) in
         taken-ends t
         ∙ rw (
-          entry-none parentAt t (eventsOf count words) (branchOf depthAt massAt lowAt highAt) c,
-          entry-none parentAt t (eventsOf count words) (branchOf (halt .depth) (halt .mass) lowAt highAt) c,
+          entry-none (e .parent) t (eventsOf count words) (branchOf (e .depth) (e .mass) (e .low) (e .high)) c,
+          entry-none (e .parent) t (eventsOf count words) (branchOf (halt .depth) (halt .mass) (e .low) (e .high)) c,
         ) same
     ends-both t l (no c) =
         taken-ends t
         ∙ rw (
-          entry-some parentAt t (eventsOf count words) (branchOf depthAt massAt lowAt highAt) (omega arith),
-          entry-some parentAt t (eventsOf count words) (branchOf (halt .depth) (halt .mass) lowAt highAt) (omega arith),
+          entry-some (e .parent) t (eventsOf count words) (branchOf (e .depth) (e .mass) (e .low) (e .high)) (omega arith),
+          entry-some (e .parent) t (eventsOf count words) (branchOf (halt .depth) (halt .mass) (e .low) (e .high)) (omega arith),
         ) (d .ends t l)
 
     ends-all : (t : ℕ) → lowest ≤ t → toCome count t words at stack ≡ pathEnds count t words path ++ toCome count t words (halt .at) stack′
-    ends-all t l = ends-both t l (decLt parentAt t)
+    ends-all t l = ends-both t l (decLt (e .parent) t)
 
     -- a branch has an end
-    some : lowest ≤ parentAt → 0 < length (pathEnds count lowest words path)
+    some : lowest ≤ e .parent → 0 < length (pathEnds count lowest words path)
     some l =
         rw (
-          entry-some parentAt lowest (eventsOf count words) (branchOf (halt .depth) (halt .mass) lowAt highAt) l,
-          length-map rest-ends (after (scenarioOf (halt .depth) (joined lowAt highAt))),
-        ) (ends-some lowest (halt .mass) (drop (length (scenarioOf (halt .depth) (joined lowAt highAt))) (eventsOf count words)))
+          entry-some (e .parent) lowest (eventsOf count words) (branchOf (halt .depth) (halt .mass) (e .low) (e .high)) l,
+          length-map rest-ends (after (scenarioOf (halt .depth) (joined (e .low) (e .high)))),
+        ) (ends-some lowest (halt .mass) (drop (length (scenarioOf (halt .depth) (joined (e .low) (e .high)))) (eventsOf count words)))
       where
         rest-ends : List End
-        rest-ends = ends lowest (halt .mass) (drop (length (scenarioOf (halt .depth) (joined lowAt highAt))) (eventsOf count words))
+        rest-ends = ends lowest (halt .mass) (drop (length (scenarioOf (halt .depth) (joined (e .low) (e .high)))) (eventsOf count words))
 
-    fewer : Dec (parentAt < lowest)
-        → length (toCome count lowest words (halt .at) stack′) * 1024 + (640 - halt .at) < length (toCome count lowest words at stack) * 1024 + (640 - at)
+    fewer : Dec (e .parent < lowest)
+        → leftToTake (sharedWalk count lowest words) (halt .at) stack′ < leftToTake (sharedWalk count lowest words) at stack
     fewer (yes c) =
-        let none : pathEnds count lowest words path ≡ [] = entry-none parentAt lowest (eventsOf count words) (branchOf (halt .depth) (halt .mass) lowAt highAt) c in
+        let none : pathEnds count lowest words path ≡ [] =
+        entry-none (e .parent) lowest (eventsOf count words) (branchOf (halt .depth) (halt .mass) (e .low) (e .high)) c in
         let same : toCome count lowest words at stack ≡ toCome count lowest words (halt .at) stack′ =
         ends-all lowest (omega arith) ∙ ap (λ (l : List End). l ++ toCome count lowest words (halt .at) stack′) none in
         omega (arith, ap length same, d .still (omega (arith, taken .lighter)), d .held .within)
@@ -258,7 +268,7 @@ module _ (count : ℕ) (words : List ℕ) (at : ℕ) (stack : List ℕ) (s : Sta
           d .held .within,
         )
 
-    pub path-taken : PathTaken count lowest words at stack stack′ path
+    pub path-taken : PathTaken (sharedWalk count lowest words) at stack stack′ path
     path-taken =
         record {
           ends = ends-all;
@@ -272,5 +282,5 @@ module _ (count : ℕ) (words : List ℕ) (at : ℕ) (stack : List ℕ) (s : Sta
                 faint = d .faint;
                 stops = stopped;
               };
-          fewer = fewer (decLt parentAt lowest);
+          fewer = fewer (decLt (e .parent) lowest);
         }

@@ -15,15 +15,25 @@ use Rattle.walk.specs.Stack.{branchOf}
 use Rattle.walk.specs.Steps.{Stopped, endOf}
 use Rattle.threshold_walk.specs.Stack.{entryEnds, toCome, Stack}
 use Rattle.threshold_walk.specs.declared.Halt.{Halt}
+use Rattle.threshold_walk.specs.declared.SharedEntry.{SharedEntry}
 use Rattle.threshold_walk.specs.declared.WorksPath.{WorksPath}
 
--- the branch where an event fails, laid down over the mass before it
-pub record Pushed (depth mass low high parent at : ℕ) (stack stack′ : List ℕ) : Type 0 where
+-- one walk for several thresholds: how many events there are, the lowest threshold that is under way, and the words of the events
+pub record SharedWalk : Type 0 where
+  pub count : ℕ
+  pub lowest : ℕ
+  pub words : List ℕ
+
+abbrev pub sharedWalk : ℕ → ℕ → List ℕ → SharedWalk
+sharedWalk count lowest words = record { count = count; lowest = lowest; words = words }
+
+-- a branch laid down with one failing event more, that at its depth
+pub record Pushed (e : SharedEntry) (at : ℕ) (stack stack′ : List ℕ) : Type 0 where
   pub setLow : ℕ
   pub setHigh : ℕ
   pub word : setLow < 2 ^ 64
-  pub set : joined setLow setHigh ≡ joined low high + 2 ^ depth
-  pub laid : stack′ ≡ sets stack at ((depth + 1) ∷ mass ∷ setLow ∷ setHigh ∷ parent ∷ [])
+  pub set : joined setLow setHigh ≡ joined (e .low) (e .high) + 2 ^ e .depth
+  pub laid : stack′ ≡ sets stack at ((e .depth + 1) ∷ e .mass ∷ setLow ∷ setHigh ∷ e .parent ∷ [])
 
 -- where no "fails" side of a "works" path is left pending any more: its mass is below the threshold, no event is left, or the "fails" side
 -- of the next event is below the threshold
@@ -31,37 +41,42 @@ abbrev pub Faint : ℕ → ℕ → List ℕ → ℕ → ℕ → Type 0
 Faint count threshold words depth mass = threshold ≤ mass → depth < count → failing mass (getD words (depth * 4) 0) < threshold
 
 -- from a branch down to there: for each threshold t that is not below the lowest, the ends to come are the same
-pub record Halted (count lowest : ℕ) (words : List ℕ) (at depth mass low high : ℕ) (stack stack′ : List ℕ) (r : Halt) : Type 0 where
-  pub ends : (t : ℕ) → lowest ≤ t
-      → branchEnds t (eventsOf count words) (branchOf depth mass low high) ++ toCome count t words at stack
-      ≡ branchEnds t (eventsOf count words) (branchOf (r .depth) (r .mass) low high) ++ toCome count t words (r .at) stack′
-  pub held : Stack count (r .at) stack′
-  pub deep : r .depth ≤ count
-  pub decided : joined low high < 2 ^ r .depth
-  pub lighter : r .mass ≤ mass
-  pub faint : Faint count lowest words (r .depth) (r .mass)
-  pub still : mass < lowest → r .at ≡ at
+pub record Halted (k : SharedWalk) (at : ℕ) (e : SharedEntry) (stack stack′ : List ℕ) (r : Halt) : Type 0 where
+  pub ends : (t : ℕ) → k .lowest ≤ t
+      → branchEnds t (eventsOf (k .count) (k .words)) (branchOf (e .depth) (e .mass) (e .low) (e .high)) ++ toCome (k .count) t (k .words) at stack
+      ≡ branchEnds t (eventsOf (k .count) (k .words)) (branchOf (r .depth) (r .mass) (e .low) (e .high)) ++ toCome (k .count) t (k .words) (r .at) stack′
+  pub held : Stack (k .count) (r .at) stack′
+  pub deep : r .depth ≤ k .count
+  pub decided : joined (e .low) (e .high) < 2 ^ r .depth
+  pub lighter : r .mass ≤ e .mass
+  pub faint : Faint (k .count) (k .lowest) (k .words) (r .depth) (r .mass)
+  pub still : e .mass < k .lowest → r .at ≡ at
 
 -- the ends of a path in the walk with the threshold t
 abbrev pub pathEnds : ℕ → ℕ → List ℕ → WorksPath → List End
 pathEnds count t words r = entryEnds t (eventsOf count words) (r .parent) (branchOf (r .depth) (r .mass) (r .low) (r .high))
 
 -- what holds of a path: the lowest threshold's walk goes to where its "works" path stops
-pub record SoundPath (count lowest : ℕ) (words : List ℕ) (r : WorksPath) : Type 0 where
-  pub deep : r .depth ≤ count
+pub record SoundPath (k : SharedWalk) (r : WorksPath) : Type 0 where
+  pub deep : r .depth ≤ k .count
   pub lighter : r .mass ≤ r .parent
   pub light : r .parent ≤ whole
   pub decided : joined (r .low) (r .high) < 2 ^ r .depth
-  pub faint : Faint count lowest words (r .depth) (r .mass)
-  pub stops : Stopped count lowest words (r .depth) (r .mass) (record { depth = r .stop; mass = r .last })
+  pub faint : Faint (k .count) (k .lowest) (k .words) (r .depth) (r .mass)
+  pub stops : Stopped (k .count) (k .lowest) (k .words) (r .depth) (r .mass) (record { depth = r .stop; mass = r .last })
+
+-- how many ends of the lowest threshold are to come where the stack begins at `at`, and then how many branches are pending, in one number
+abbrev pub leftToTake : SharedWalk → ℕ → List ℕ → ℕ
+leftToTake k at stack = length (toCome (k .count) (k .lowest) (k .words) at stack) * 1024 + (640 - at)
 
 -- a step: for each threshold that is not below the lowest, the ends to come are those of the path, then those then to come; fewer are to
 -- come, or fewer branches are pending
-pub record PathTaken (count lowest : ℕ) (words : List ℕ) (at : ℕ) (stack stack′ : List ℕ) (r : WorksPath) : Type 0 where
-  pub ends : (t : ℕ) → lowest ≤ t → toCome count t words at stack ≡ pathEnds count t words r ++ toCome count t words (r .at) stack′
-  pub held : Stack count (r .at) stack′
-  pub sound : SoundPath count lowest words r
-  pub fewer : length (toCome count lowest words (r .at) stack′) * 1024 + (640 - r .at) < length (toCome count lowest words at stack) * 1024 + (640 - at)
+pub record PathTaken (k : SharedWalk) (at : ℕ) (stack stack′ : List ℕ) (r : WorksPath) : Type 0 where
+  pub ends : (t : ℕ) → k .lowest ≤ t
+      → toCome (k .count) t (k .words) at stack ≡ pathEnds (k .count) t (k .words) r ++ toCome (k .count) t (k .words) (r .at) stack′
+  pub held : Stack (k .count) (r .at) stack′
+  pub sound : SoundPath k r
+  pub fewer : leftToTake k (r .at) stack′ < leftToTake k at stack
 
 -- `number` ends of a path: its own, relevant where the mass where it stops is at least t, then dropped ones
 abbrev pub handed : ℕ → ℕ → WorksPath → ℕ → List End

@@ -13,6 +13,7 @@ use Rattle.plan.specs.Lists.{eventsOf}
 use Rattle.walk.specs.Ends.{End, dropped, relevant, ends}
 use Rattle.walk.specs.Pending.{Branch, branchEnds}
 use Rattle.walk.specs.Stack.{branchOf}
+use Rattle.threshold_walk.specs.declared.SharedEntry.{SharedEntry}
 
 -- the ends of a pending branch in the walk with the threshold t: none where the mass before its last event, `parent`, is below t, since
 -- that walk ended there
@@ -40,14 +41,14 @@ example-stack = (refl, refl, refl)
 abbrev pub toCome : ℕ → ℕ → List ℕ → ℕ → List ℕ → List End
 toCome count t words at stack = stackEnds t (eventsOf count words) (drop at stack)
 
--- what holds of a branch in five words, and of the words under them: no more entries lie under a branch than its depth says
-pub record SoundEntry (count depth mass low high parent below : ℕ) : Type 0 where
-  pub deep : depth ≤ count
-  pub lighter : mass ≤ parent
-  pub light : parent ≤ whole
-  pub word : low < 2 ^ 64
-  pub decided : joined low high < 2 ^ depth
-  pub room : below ≤ 5 * depth
+-- what holds of a pending branch, and of the words under its five: no more entries lie under a branch than its depth says
+pub record SoundEntry (count : ℕ) (e : SharedEntry) (below : ℕ) : Type 0 where
+  pub deep : e .depth ≤ count
+  pub lighter : e .mass ≤ e .parent
+  pub light : e .parent ≤ whole
+  pub word : e .low < 2 ^ 64
+  pub decided : joined (e .low) (e .high) < 2 ^ e .depth
+  pub room : below ≤ 5 * e .depth
 
 -- what holds of each entry of the stack
 abbrev pub SoundEntries : ℕ → List ℕ → Type 0
@@ -57,7 +58,7 @@ SoundEntries count (a ∷ b ∷ []) = ⊥
 SoundEntries count (a ∷ b ∷ c ∷ []) = ⊥
 SoundEntries count (a ∷ b ∷ c ∷ d ∷ []) = ⊥
 SoundEntries count (depth ∷ mass ∷ low ∷ high ∷ parent ∷ rest) =
-    SoundEntry count depth mass low high parent (length rest) × SoundEntries count rest
+    SoundEntry count (record { depth = depth; mass = mass; low = low; high = high; parent = parent }) (length rest) × SoundEntries count rest
 
 -- a stack that the walk may go on with
 pub record Stack (count at : ℕ) (stack : List ℕ) : Type 0 where

@@ -1,6 +1,7 @@
 // The walk for several thresholds at once: document 02, request U8. A branch is pending as long as the lowest threshold that is under way
 // meets it; the mass before its last event tells which thresholds come to it.
 // Assumes nothing.
+use walk::Failing;
 ghost use mathlib.Core.Path.{_≡_};
 ghost use mathlib.Core.List.{[], _∷_};
 ghost use Prim.Native.Nat.{_+_, _^_, _≤_, _<_};
@@ -11,7 +12,17 @@ ghost use Rattle.sets.specs.Sets.{joined};
 ghost use Rattle.plan.specs.Lists.{eventsOf};
 ghost use Rattle.plan.specs.Held.{Falling};
 ghost use Rattle.threshold_walk.specs.Stack.{SoundEntry, Stack};
-ghost use Rattle.threshold_walk.specs.Paths.{Pushed, Halted, SoundPath, PathTaken, pathEnds, handed};
+ghost use Rattle.threshold_walk.specs.Paths.{sharedWalk, Pushed, Halted, SoundPath, PathTaken, pathEnds, handed};
+
+// A pending branch, as it stands in five words of the stack: how many events are decided, the mass, the failing events, and the mass before
+// the last event.
+pub struct SharedEntry {
+    pub depth: u64,
+    pub mass: u64,
+    pub low: u64,
+    pub high: u64,
+    pub parent: u64,
+}
 
 // Where the way down a "works" path leaves no more "fails" sides pending: where the stack then begins, how many events are decided, and the
 // mass.
@@ -36,15 +47,15 @@ pub struct WorksPath {
 }
 
 // Lays a pending branch down in five words of the stack.
-fn put(stack: &mut [u64; 640], at: usize, depth: u64, mass: u64, low: u64, high: u64, parent: u64)
+fn put(stack: &mut [u64; 640], at: usize, branch: SharedEntry)
     requires { ⌜ at + 5 ≤ 640 ⌝ }
-    ensures { λ r. ⌜ now (stack .exit) ≡ sets (now (stack .entry)) at (depth ∷ mass ∷ low ∷ high ∷ parent ∷ []) ⌝ }
+    ensures { λ r. ⌜ now (stack .exit) ≡ sets (now (stack .entry)) at (branch .depth ∷ branch .mass ∷ branch .low ∷ branch .high ∷ branch .parent ∷ []) ⌝ }
 {
-    stack[at] = depth;
-    stack[at + 1] = mass;
-    stack[at + 2] = low;
-    stack[at + 3] = high;
-    stack[at + 4] = parent;
+    stack[at] = branch.depth;
+    stack[at + 1] = branch.mass;
+    stack[at + 2] = branch.low;
+    stack[at + 3] = branch.high;
+    stack[at + 4] = branch.parent;
 }
 
 // Begins a walk at the root: it is the only branch on the stack, and every threshold comes to it. Returns where the stack begins.
@@ -52,24 +63,37 @@ pub fn begin(stack: &mut [u64; 640]) -> usize
     ensures { λ r. ⌜ (r ≡ 635) × (now (stack .exit) ≡ sets (now (stack .entry)) 635 (0 ∷ whole ∷ 0 ∷ 0 ∷ whole ∷ [])) ⌝ }
 {
     let whole = mass::Mass::WHOLE.units;
-    put(stack, 635, 0, whole, 0, 0, whole);
+    let root = SharedEntry {
+        depth: 0,
+        mass: whole,
+        low: 0,
+        high: 0,
+        parent: whole,
+    };
+    put(stack, 635, root);
     635
 }
 
-// Lays down the branch in which the event at a depth fails.
-fn push(stack: &mut [u64; 640], at: usize, depth: u64, mass: u64, low: u64, high: u64, parent: u64)
-    requires { ⌜ (depth < 128) × (low < 2 ^ 64) × (joined low high < 2 ^ depth) × (at + 5 ≤ 640) ⌝ }
-    ensures { λ r. ⌜ Pushed depth mass low high parent at (now (stack .entry)) (now (stack .exit)) ⌝ }
+// Lays a branch down with one failing event more, that at its depth.
+fn push(stack: &mut [u64; 640], at: usize, branch: SharedEntry)
+    requires { ⌜ (branch .depth < 128) × (branch .low < 2 ^ 64) × (joined (branch .low) (branch .high) < 2 ^ (branch .depth)) × (at + 5 ≤ 640) ⌝ }
+    ensures { λ r. ⌜ Pushed branch at (now (stack .entry)) (now (stack .exit)) ⌝ }
 {
-    let failing = walk::with_event(low, high, depth);
+    let before = Failing {
+        low: branch.low,
+        high: branch.high,
+    };
+    let failing = walk::with_event(before, branch.depth);
     put(
         stack,
         at,
-        depth + 1,
-        mass,
-        failing.low,
-        failing.high,
-        parent,
+        SharedEntry {
+            depth: branch.depth + 1,
+            mass: branch.mass,
+            low: failing.low,
+            high: failing.high,
+            parent: branch.parent,
+        },
     );
 }
 
@@ -81,18 +105,15 @@ fn go_down(
     events: &[u64; 512],
     stack: &mut [u64; 640],
     at: usize,
-    depth: u64,
-    mass: u64,
-    low: u64,
-    high: u64,
+    branch: SharedEntry,
 ) -> Halt
     requires { ⌜ (count ≤ 128) × Falling certain (eventsOf count (now events)) ⌝ }
-    requires { ⌜ SoundEntry count depth mass low high whole (length (drop at (now stack))) × Stack count at (now stack) ⌝ }
-    ensures { λ r. ⌜ Halted count lowest (now (events .entry)) at depth mass low high (now (stack .entry)) (now (stack .exit)) r ⌝ }
+    requires { ⌜ SoundEntry count branch (length (drop at (now stack))) × Stack count at (now stack) ⌝ }
+    ensures { λ r. ⌜ Halted (sharedWalk count lowest (now (events .entry))) at branch (now (stack .entry)) (now (stack .exit)) r ⌝ }
 {
     let mut top = at;
-    let mut d = depth;
-    let mut m = mass;
+    let mut d = branch.depth;
+    let mut m = branch.mass;
     // For each threshold that is not below the lowest: the ends of the branch at depth d with mass m, then those of the entries from `top`
     // on, are the ends to come at the start. Each turn raises d, up to `count`.
     loop {
@@ -120,7 +141,17 @@ fn go_down(
             };
         }
         top -= 5;
-        push(&mut *stack, top, d, f, low, high, m);
+        push(
+            &mut *stack,
+            top,
+            SharedEntry {
+                depth: d,
+                mass: f,
+                low: branch.low,
+                high: branch.high,
+                parent: m,
+            },
+        );
         m = parts.works.units;
         d += 1;
     }
@@ -135,14 +166,21 @@ pub fn next_path(
     at: usize,
 ) -> WorksPath
     requires { ⌜ (count ≤ 128) × Falling certain (eventsOf count (now events)) × (at < 640) × Stack count at (now stack) ⌝ }
-    ensures { λ r. ⌜ PathTaken count lowest (now (events .entry)) at (now (stack .entry)) (now (stack .exit)) r ⌝ }
+    ensures { λ r. ⌜ PathTaken (sharedWalk count lowest (now (events .entry))) at (now (stack .entry)) (now (stack .exit)) r ⌝ }
 {
     let depth = stack[at];
     let mass = stack[at + 1];
     let low = stack[at + 2];
     let high = stack[at + 3];
     let parent = stack[at + 4];
-    let halt = go_down(count, lowest, events, stack, at + 5, depth, mass, low, high);
+    let branch = SharedEntry {
+        depth,
+        mass,
+        low,
+        high,
+        parent,
+    };
+    let halt = go_down(count, lowest, events, stack, at + 5, branch);
     let end = walk::straight(count, lowest, events, halt.depth, halt.mass);
     WorksPath {
         at: halt.at,
@@ -159,7 +197,8 @@ pub fn next_path(
 // How many ends a path has in the walk with a threshold that is not below the lowest: none where the walk does not come to it; one where
 // it is dropped before the "fails" sides are; else its own and one for each event that it decides from there on.
 pub fn ends_of(count: u64, lowest: u64, threshold: u64, events: &[u64; 512], path: WorksPath) -> u64
-    requires { ⌜ (count ≤ 128) × Falling certain (eventsOf count (now events)) × (lowest ≤ threshold) × SoundPath count lowest (now events) path ⌝ }
+    requires { ⌜ (count ≤ 128) × Falling certain (eventsOf count (now events)) × (lowest ≤ threshold)
+        × SoundPath (sharedWalk count lowest (now events)) path ⌝ }
     ensures { λ r. ⌜ (pathEnds count threshold (now (events .entry)) path ≡ handed count threshold path r)
         × (r ≡ 0 → path .last < threshold) ⌝ }
 {

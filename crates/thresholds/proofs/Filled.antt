@@ -24,7 +24,7 @@ use Rattle.pairs.specs.Pairs.{place, pairCount}
 use Rattle.pairs.proofs.PairLaws.{pairs-most, place-lt, unplace}
 use Rattle.bounds.specs.Bounds.{cuts, lowerOf, upperOf, lowerList, upperList}
 use Rattle.bounds.proofs.Answers.{mass-most, raised, enclosed}
-use Rattle.threshold_sums.specs.Walked.{planWith}
+use Rattle.threshold_sums.specs.Walked.{planWith, plansOf, PlaceNumbers}
 use Rattle.thresholds.specs.Thresholds.{thresholdsTest, blocks, places, answerOf, EnclosesBlocks}
 use Rattle.thresholds.specs.Steps.{BlocksWalked, Raising, Raised}
 use Rattle.thresholds.specs.declared.Answered.{Answered}
@@ -44,8 +44,7 @@ valid-at h links words e t some most =
 -- ---- what the walk of an accepted plan gave
 
 module _ (h : Header) (links words list : List ℕ) (valid : planRefusal (planOfLists h links words) ≡ 0) (few : h .nodes ≤ 64)
-    (tested : thresholdsTest list ≡ 0) (rooms counts masses lower lower′ : List ℕ)
-    (b : BlocksWalked h links words list rooms counts masses lower lower′) where
+    (tested : thresholdsTest list ≡ 0) (n : PlaceNumbers) (lower lower′ : List ℕ) (b : BlocksWalked (plansOf h links words list) n lower lower′) where
   abbrev plan : ℕ → Plan
   plan = planWith h links words
 
@@ -72,7 +71,7 @@ module _ (h : Header) (links words list : List ℕ) (valid : planRefusal (planOf
       (omega (arith, lower-each i l (u .0) (u .1) (u .2) (u .3), lower-upper (at i) q c, upper-le (at i) q c))
 
   pub may-raise : (upper : List ℕ) → pairCount (h .nodes) * length list ≤ length lower → pairCount (h .nodes) * length list ≤ length upper
-      → Raising (pairCount (h .nodes)) (length list) masses lower′ upper
+      → Raising (pairCount (h .nodes)) (length list) (n .masses) lower′ upper
   may-raise upper l u =
       record {
         few = test-none list tested .1;
@@ -91,31 +90,31 @@ module _ (h : Header) (links words list : List ℕ) (valid : planRefusal (planOf
   few-places : length list ≤ 16
   few-places = test-none list tested .1
 
-  counts-are : counts ≡ places (λ t. count (plan t)) list
-  counts-are = places-are (λ t. count (plan t)) list counts (b .arrays .counts-size) few-places (λ i l. b .each i l .numbers) (λ i l. b .none i l .1)
+  counts-are : n .counts ≡ places (λ t. count (plan t)) list
+  counts-are = places-are (λ t. count (plan t)) list (n .counts) (b .arrays .counts-size) few-places (λ i l. b .each i l .numbers) (λ i l. b .none i l .1)
 
-  masses-are : masses ≡ places (λ t. massExamined (plan t)) list
-  masses-are = places-are (λ t. massExamined (plan t)) list masses (b .arrays .masses-size) few-places (λ i l. b .each i l .masses) (λ i l. b .none i l .2)
+  masses-are : n .masses ≡ places (λ t. massExamined (plan t)) list
+  masses-are = places-are (λ t. massExamined (plan t)) list (n .masses) (b .arrays .masses-size) few-places (λ i l. b .each i l .masses) (λ i l. b .none i l .2)
 
   abbrev flags : List ℕ
-  flags = map (λ room. digit (ltb 0 room)) rooms
+  flags = map (λ room. digit (ltb 0 room)) (n .rooms)
 
-  flag-at : (i : ℕ) → getD flags i 0 ≡ digit (ltb 0 (getD rooms i 0))
-  flag-at i = List·getD-map (λ room. digit (ltb 0 room)) rooms i 0
+  flag-at : (i : ℕ) → getD flags i 0 ≡ digit (ltb 0 (getD (n .rooms) i 0))
+  flag-at i = List·getD-map (λ room. digit (ltb 0 room)) (n .rooms) i 0
 
   flags-are : flags ≡ places (λ t. complete (plan t)) list
   flags-are =
-      places-are (λ t. complete (plan t)) list flags (length-map rooms (λ room. digit (ltb 0 room)) ∙ b .arrays .rooms-size) few-places
+      places-are (λ t. complete (plan t)) list flags (length-map (n .rooms) (λ room. digit (ltb 0 room)) ∙ b .arrays .rooms-size) few-places
       (λ i l. flag-at i ∙ b .each i l .ends)
       (λ i l. flag-at i ∙ ap (λ (x : ℕ). digit (ltb 0 x)) (b .none i l .0))
 
   pub answers : (complete′ : List ℕ) → complete′ ≡ flags
-      → _≡_ {A = Answered} (record { number = 0; count = counts; complete = complete′; mass = masses }) (answerOf plan list)
+      → _≡_ {A = Answered} (record { number = 0; count = n .counts; complete = complete′; mass = n .masses }) (answerOf plan list)
   answers complete′ e = λ i. record { number = 0; count = counts-are i; complete = (e ∙ flags-are) i; mass = masses-are i }
 
   -- the blocks of upper bounds
   module _ (upper upper′ : List ℕ) (room : pairCount (h .nodes) * length list ≤ length upper)
-      (r : Raised (pairCount (h .nodes)) (length list) masses lower′ upper upper′) where
+      (r : Raised (pairCount (h .nodes)) (length list) (n .masses) lower′ upper upper′) where
     upper-each : (i : ℕ) → i < length list → (v w : ℕ) → v < w → w < h .nodes
         → getD upper′ (place (h .nodes) v w + pairCount (h .nodes) * i) 0 ≡ upperOf intact (at i) v w
     upper-each i l v w m k =
@@ -132,7 +131,7 @@ module _ (h : Header) (links words list : List ℕ) (valid : planRefusal (planOf
     uppers-laid = blocks-laid (λ t. upperOf intact (plan t)) (h .nodes) list upper upper′ (r .sized) room upper-each (r .past)
 
     -- DEMAND 3 for the numbers in the blocks
-    pub blocks-enclosed : EnclosesBlocks plan (h .nodes) list lower′ upper′ counts
+    pub blocks-enclosed : EnclosesBlocks plan list lower′ upper′ (n .counts)
     unfolding planOfLists
     blocks-enclosed i l v w m k =
         rw (

@@ -15,17 +15,16 @@ use Rattle.mass.specs.Split.{whole}
 use Rattle.mass.proofs.RefusalLaws.{first-none, first-skip}
 use Rattle.refusals.proofs.OrderLaws.{none}
 use Rattle.refusals.proofs.TestLaws.{room-none, room-pass}
-use Rattle.plan.specs.LentLists.{planOfLists, listsRefusal, listsNumber}
+use Rattle.plan.specs.LentLists.{Lent, planOfLists, planLent, listsNumber}
 use Rattle.plan.specs.Calls.{filled}
-use Rattle.plan.specs.declared.Header.{Header}
 use Rattle.network.specs.Outage.{intact}
 use Rattle.walk.specs.Walk.{count, complete, massExamined}
 use Rattle.pairs.specs.Pairs.{pairCount}
 use Rattle.pairs.proofs.PairLaws.{table-long}
 use Rattle.bounds.specs.Bounds.{lowerOf, upperOf, lowerList, upperList}
-use Rattle.bounds.specs.Calls.{runRefusal, runNumber, ranAnswer, totalsOf}
+use Rattle.bounds.specs.Calls.{runNumber, ranAnswer, totalsOf}
 use Rattle.bounds.specs.declared.Ran.the-variants as ran
-use Rattle.thresholds.specs.Thresholds.{headerAt, planAt, thresholdsTest, thresholdsRefusal, thresholdsNumber, blocks, places, thresholdsAnswer}
+use Rattle.thresholds.specs.Thresholds.{lentAt, planAt, thresholdsTest, thresholdsNumber, blocks, places, thresholdsAnswer}
 use Rattle.thresholds.specs.declared.CommonHeader.{CommonHeader}
 use Rattle.thresholds.specs.declared.Answered.{Answered}
 use Rattle.thresholds.proofs.TestLaws.{test-none, test-passes, in-range, in-order, falls-from}
@@ -97,8 +96,8 @@ all-laid values list e =
 
 -- the lists are refused alike with every threshold from 1 to 10^18
 lists-alike : (h : CommonHeader) (links events : List ℕ) (t : ℕ) → 1 ≤ t → t ≤ whole
-    → listsNumber (headerAt h t) links events ≡ listsNumber (headerAt h 1) links events
-unfolding listsRefusal
+    → listsNumber (lentAt h links events t) ≡ listsNumber (lentAt h links events 1)
+unfolding listsNumber
 lists-alike h links events t some most = rw (le-ltb t 1 some, le-ltb whole t most)
 
 -- a test that passes is passed over
@@ -109,24 +108,24 @@ passed-over (suc number) later = refl
 
 -- law: with one threshold from 1 to 10^18 the call is refused as the run is
 pub one-refused-as-run : (h : CommonHeader) (links events lower upper : List ℕ) (t : ℕ) → 1 ≤ t → t ≤ whole
-    → thresholdsNumber h links events (t ∷ []) lower upper ≡ runNumber (headerAt h t) links events lower upper
-unfolding thresholdsRefusal runRefusal
+    → thresholdsNumber (lentAt h links events 1) (t ∷ []) (length lower) (length upper) ≡ runNumber (lentAt h links events t) (length lower) (length upper)
+unfolding thresholdsNumber runNumber
 one-refused-as-run h links events lower upper t some most =
     let test : thresholdsTest (t ∷ []) ≡ 0 = rw (le-leb 1 t some, lt-ltb t (suc whole) (omega arith)) in
-    rw (test, mul-one, ← lists-alike h links events t some most) (passed-over (listsNumber (headerAt h t) links events) _)
+    rw (test, mul-one, ← lists-alike h links events t some most) (passed-over (listsNumber (lentAt h links events t)) _)
 
 -- the call is accepted; threshold i; and two lists of a run that have an entry for each pair
-module _ (h : CommonHeader) (links events list lower upper : List ℕ) (accepted : thresholdsNumber h links events list lower upper ≡ 0)
+module _ (h : CommonHeader) (links events list lower upper : List ℕ) (accepted : thresholdsNumber (lentAt h links events 1) list (length lower) (length upper) ≡ 0)
     (i : ℕ) (l : i < length list) (low high : List ℕ) (low-sized : length low ≡ pairCount (h .nodes)) (high-sized : length high ≡ pairCount (h .nodes)) where
-  abbrev header : Header
-  header = headerAt h (getD list i 0)
+  abbrev lent : Lent
+  lent = lentAt h links events (getD list i 0)
 
   abbrev answer : Answered
-  answer = thresholdsAnswer (thresholdsNumber h links events list lower upper) (planAt h links events) list
+  answer = thresholdsAnswer (thresholdsNumber (lentAt h links events 1) list (length lower) (length upper)) (planAt h links events) list
 
-  tests : (listsNumber (headerAt h 1) links events ≡ 0) × (thresholdsTest list ≡ 0)
+  tests : (listsNumber (lentAt h links events 1) ≡ 0) × (thresholdsTest list ≡ 0)
       × ((pairCount (h .nodes) * length list ≤ length lower) × (pairCount (h .nodes) * length list ≤ length upper))
-  unfolding thresholdsRefusal
+  unfolding thresholdsNumber
   tests =
       let a = first-none _ _ accepted in
       let b = first-none _ _ (a .1) in
@@ -134,8 +133,8 @@ module _ (h : CommonHeader) (links events list lower upper : List ℕ) (accepted
       (a .0, b .0, (room-none _ _ (c .0), room-none _ _ (first-none _ _ (c .1) .0)))
 
   -- law: the run is accepted
-  pub run-accepted : runNumber header links events low high ≡ 0
-  unfolding runRefusal
+  pub run-accepted : runNumber lent (length low) (length high) ≡ 0
+  unfolding runNumber
   run-accepted =
       let r = passes-exactly list .0 (tests .1) .within i l in
       first-skip _ _ (lists-alike h links events (getD list i 0) (r .0) (r .1) ∙ tests .0)
@@ -145,8 +144,8 @@ module _ (h : CommonHeader) (links events list lower upper : List ℕ) (accepted
 
   -- law: block i of each list is what the run leaves in its list
   pub lower-as-run : take (pairCount (h .nodes)) (drop (pairCount (h .nodes) * i)
-      (filled (thresholdsNumber h links events list lower upper) (blocks (λ t. lowerList intact (planAt h links events t)) list) lower))
-      ≡ filled (runNumber header links events low high) (lowerList intact (planOfLists header links events)) low
+      (filled (thresholdsNumber (lentAt h links events 1) list (length lower) (length upper)) (blocks (λ t. lowerList intact (planAt h links events t)) list) lower))
+      ≡ filled (runNumber lent (length low) (length high)) (lowerList intact (planLent lent)) low
   unfolding planOfLists
   lower-as-run =
       let long : (t : ℕ) → length (lowerList intact (planAt h links events t)) ≡ pairCount (h .nodes) = λ t. table-long (lowerOf intact (planAt h links events t)) (h .nodes) in
@@ -155,8 +154,8 @@ module _ (h : CommonHeader) (links events list lower upper : List ℕ) (accepted
       ∙ sym (all-laid (lowerList intact (planAt h links events (getD list i 0))) low (low-sized ∙ sym (long (getD list i 0)))))
 
   pub upper-as-run : take (pairCount (h .nodes)) (drop (pairCount (h .nodes) * i)
-      (filled (thresholdsNumber h links events list lower upper) (blocks (λ t. upperList intact (planAt h links events t)) list) upper))
-      ≡ filled (runNumber header links events low high) (upperList intact (planOfLists header links events)) high
+      (filled (thresholdsNumber (lentAt h links events 1) list (length lower) (length upper)) (blocks (λ t. upperList intact (planAt h links events t)) list) upper))
+      ≡ filled (runNumber lent (length low) (length high)) (upperList intact (planLent lent)) high
   unfolding planOfLists
   upper-as-run =
       let long : (t : ℕ) → length (upperList intact (planAt h links events t)) ≡ pairCount (h .nodes) = λ t. table-long (upperOf intact (planAt h links events t)) (h .nodes) in
@@ -165,7 +164,7 @@ module _ (h : CommonHeader) (links events list lower upper : List ℕ) (accepted
       ∙ sym (all-laid (upperList intact (planAt h links events (getD list i 0))) high (high-sized ∙ sym (long (getD list i 0)))))
 
   -- law: its answer is what stands at place i
-  pub answer-as-run : ranAnswer (runNumber header links events low high) (totalsOf (planOfLists header links events))
+  pub answer-as-run : ranAnswer (runNumber lent (length low) (length high)) (totalsOf (planLent lent))
       ≡ ran.Done (record { count = getD (answer .count) i 0; complete = getD (answer .complete) i 0; mass = getD (answer .mass) i 0 })
   answer-as-run =
       rw (accepted, run-accepted)

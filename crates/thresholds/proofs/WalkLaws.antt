@@ -12,7 +12,7 @@ use Rattle.lent.proofs.CopyLaws.{copied}
 use Rattle.pairs.specs.Pairs.{pairCount}
 use Rattle.pairs.proofs.PairLaws.{pairs-most}
 use Rattle.bounds.proofs.Zeros.{zeros-at}
-use Rattle.threshold_sums.specs.Walked.{planWith, FallingFirst, Settled, Fresh, AllSettled}
+use Rattle.threshold_sums.specs.Walked.{planWith, plansOf, PlaceNumbers, placeNumbers, numbersAt, FallingFirst, HoldsAnswers, Fresh, AllHoldAnswers}
 use Rattle.thresholds.specs.Thresholds.{thresholdsTest}
 use Rattle.thresholds.specs.Steps.{BlocksWalked}
 use Rattle.thresholds.proofs.TestLaws.{test-none, in-range, in-order}
@@ -107,7 +107,7 @@ module _ (list falling : List ℕ) (tested : thresholdsTest list ≡ 0) (is : fa
     sized : length cleared ≡ length lower
     sized = ap length clear ∙ length-sets lower 0 (replicate size 0)
 
-    pub fresh : Fresh h (length list) rooms counts masses cleared
+    pub fresh : Fresh h (length list) (placeNumbers rooms counts masses) cleared
     fresh =
         record {
           arrays =
@@ -124,18 +124,15 @@ module _ (list falling : List ℕ) (tested : thresholdsTest list ≡ 0) (is : fa
         }
 
     -- the walk has ended
-    pub blocks-walked : (links words rooms′ counts′ masses′ lower′ : List ℕ)
-        → AllSettled h links words falling (length list) rooms counts masses cleared rooms′ counts′ masses′ lower′
-        → BlocksWalked h links words list rooms′ counts′ masses′ lower lower′
-    blocks-walked links words rooms′ counts′ masses′ lower′ s =
+    pub blocks-walked : (links words : List ℕ) (n : PlaceNumbers) (lower′ : List ℕ)
+        → AllHoldAnswers (plansOf h links words falling) (length list) (placeNumbers rooms counts masses) cleared n lower′
+        → BlocksWalked (plansOf h links words list) n lower lower′
+    blocks-walked links words n lower′ s =
         record {
           arrays = s .kept .arrays;
           each =
               λ i l.
-              subst
-              (λ (t : ℕ). Settled (planWith h links words t) (getD rooms′ i 0) (getD counts′ i 0) (getD masses′ i 0) (pairCount (h .nodes) * i) lower′)
-              (same-entry i l)
-              (s .each i l);
+              subst (λ (t : ℕ). HoldsAnswers (planWith h links words t) (numbersAt n i) (pairCount (h .nodes) * i) lower′) (same-entry i l) (s .each i l);
           none =
               λ i l.
               let k = s .kept .places i l in

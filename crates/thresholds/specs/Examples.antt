@@ -3,19 +3,19 @@
 use mathlib.Core.Path.{_≡_, refl}
 use mathlib.Core.List.{List, [], _∷_}
 use Prim.Native.Nat.{ℕ, _+_, _*_}
-use lib.ListN.{replicate}
+use lib.ListN.{length, replicate}
 use Rattle.mass.specs.Refusal.{first}
 use Rattle.mass.specs.Split.{whole}
 use Rattle.sets.specs.Sets.{bit, anyBelow}
 use Rattle.plan.specs.Lists.{linksOf, eventsOf}
-use Rattle.plan.specs.LentLists.{linkListRefusal, eventListRefusal, listsRefusal, planOfLists}
+use Rattle.plan.specs.LentLists.{linkListRefusal, eventListRefusal, listsNumber, planOfLists}
 use Rattle.network.specs.Outage.{intact, unionOf}
 use Rattle.network.specs.Topology.{nodeWorks, linkWorks, joins, adjacent}
 use Rattle.topology.specs.Paths.{via, disconnected}
 use Rattle.walk.specs.Ends.{ends}
 use Rattle.pairs.specs.Pairs.{row, rows, table, start}
 use Rattle.bounds.specs.Bounds.{lowerList, upperList}
-use Rattle.thresholds.specs.Thresholds.{planAt, thresholdsTest, thresholdsRefusal, thresholdsNumber, blocks, places, answerOf}
+use Rattle.thresholds.specs.Thresholds.{lentAt, planAt, thresholdsTest, thresholdsNumber, blocks, places, answerOf}
 use Rattle.thresholds.specs.declared.CommonHeader.{CommonHeader}
 
 -- two nodes, the link 0-1 and an event of 1/10 on it, with a cap
@@ -26,7 +26,7 @@ abbrev event : List ℕ
 event = 100000000 ∷ 0 ∷ 1 ∷ 0 ∷ []
 
 abbrev number : ℕ → List ℕ → List ℕ → List ℕ → List ℕ → List ℕ → ℕ
-number limit links events list lower upper = thresholdsNumber (header limit) links events list lower upper
+number limit links events list lower upper = thresholdsNumber (lentAt (header limit) links events 1) list (length lower) (length upper)
 
 -- each test decides over those after it: the cap, a short list of links, a link, an event, the thresholds, then either list of bounds; there
 -- is no 5
@@ -35,7 +35,7 @@ example-order : (number 0 [] [] [] [] [] ≡ 6) × (number 9 [] [] [] [] [] ≡ 
     × (number 9 (0 ∷ 1 ∷ []) event (0 ∷ []) [] [] ≡ 23) × (number 9 (0 ∷ 1 ∷ []) event (5 ∷ 3 ∷ []) (7 ∷ []) (7 ∷ 7 ∷ []) ≡ 12)
     × (number 9 (0 ∷ 1 ∷ []) event (5 ∷ 3 ∷ []) (7 ∷ 7 ∷ []) (7 ∷ []) ≡ 12)
     × (number 9 (0 ∷ 1 ∷ []) event (5 ∷ 3 ∷ []) (7 ∷ 7 ∷ []) (7 ∷ 7 ∷ []) ≡ 0)
-unfolding thresholdsRefusal listsRefusal linkListRefusal eventListRefusal linksOf eventsOf first start
+unfolding thresholdsNumber listsNumber linkListRefusal eventListRefusal linksOf eventsOf first start
 example-order = (refl, refl, refl, refl, refl, refl, refl, refl, refl)
 
 -- 16 thresholds, and one more

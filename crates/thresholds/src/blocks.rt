@@ -16,7 +16,7 @@ ghost use Rattle.plan.specs.Held.{Held};
 ghost use Rattle.network.specs.Outage.{intact};
 ghost use Rattle.pairs.specs.Pairs.{pairCount};
 ghost use Rattle.bounds.specs.Bounds.{lowerList, upperList};
-ghost use Rattle.threshold_sums.specs.Walked.{planWith};
+ghost use Rattle.threshold_sums.specs.Walked.{planWith, plansOf, placeNumbers};
 ghost use Rattle.thresholds.specs.Thresholds.{thresholdsTest, blocks, answerOf, EnclosesBlocks};
 ghost use Rattle.thresholds.specs.Steps.{BlocksWalked, Raising, Raised};
 
@@ -35,8 +35,8 @@ fn walk_blocks(
     requires { ⌜ (h .limit < 4294967296) × (thresholdsTest (now list) ≡ 0) ⌝ }
     requires { ⌜ (now rooms ≡ replicate 16 0) × ((now counts ≡ replicate 16 0) × (now masses ≡ replicate 16 0)) ⌝ }
     requires { ⌜ pairCount (h .nodes) * length (now list) ≤ length (now lower) ⌝ }
-    ensures { λ r. ⌜ BlocksWalked h (now (links .entry)) (now (words .entry)) (now (list .entry))
-        (now (rooms .exit)) (now (counts .exit)) (now (masses .exit)) (now (lower .entry)) (now (lower .exit)) ⌝ }
+    ensures { λ r. ⌜ BlocksWalked (plansOf h (now (links .entry)) (now (words .entry)) (now (list .entry)))
+        (placeNumbers (now (rooms .exit)) (now (counts .exit)) (now (masses .exit))) (now (lower .entry)) (now (lower .exit)) ⌝ }
 {
     let number = list.len();
     let n = h.nodes as usize;
@@ -119,7 +119,7 @@ pub fn fill_blocks(
         (blocks (λ t. lowerList intact (planWith h (now (links .entry)) (now (words .entry)) t)) (now (list .entry))) ⌝ }
     ensures uppers { λ r. ⌜ now (upper .exit) ≡ sets (now (upper .entry)) 0
         (blocks (λ t. upperList intact (planWith h (now (links .entry)) (now (words .entry)) t)) (now (list .entry))) ⌝ }
-    ensures demand3 { λ r. ⌜ EnclosesBlocks (planWith h (now (links .entry)) (now (words .entry))) (h .nodes) (now (list .entry))
+    ensures demand3 { λ r. ⌜ EnclosesBlocks (planWith h (now (links .entry)) (now (words .entry))) (now (list .entry))
         (now (lower .exit)) (now (upper .exit)) (r .count) ⌝ }
 {
     let mut rooms = [0u64; 16];

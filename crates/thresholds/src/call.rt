@@ -8,10 +8,13 @@ use crate::lists::thresholds_test;
 use bounds::bounds_test;
 use pairs::start_of;
 ghost use mathlib.Core.Path.{_≡_};
+ghost use lib.ListN.{length};
 ghost use Rattle.plan.specs.Calls.{filled};
+ghost use Rattle.lent.specs.Taken.{Taken};
 ghost use Rattle.network.specs.Outage.{intact};
 ghost use Rattle.bounds.specs.Bounds.{lowerList, upperList};
-ghost use Rattle.thresholds.specs.Thresholds.{planAt, thresholdsRefusal, thresholdsNumber, thresholdsAnswer, blocks, EnclosesBlocks};
+ghost use Rattle.thresholds.specs.Thresholds.{headerAt, lentAt, planAt, thresholdsNumber, thresholdsAnswer, blocks};
+ghost use Rattle.thresholds.specs.Thresholds.{EnclosesBlocks};
 ghost use Rattle.thresholds.specs.Steps.{Accepted};
 
 // The tests of the call: those of the lists, which are taken into the arrays, 23, then 12 for the two lists of bounds.
@@ -25,10 +28,11 @@ fn accept_thresholds(
     bytes: &mut [u8; 256],
     words: &mut [u64; 512],
 ) -> u32
-    ensures number { λ r. ⌜ r ≡ thresholdsRefusal h (now (links .entry)) (now (events .entry)) (now (list .entry))
+    ensures number { λ r. ⌜ r ≡ thresholdsNumber (lentAt h (now (links .entry)) (now (events .entry)) 1) (now (list .entry))
         «lower_room» «upper_room» ⌝ }
-    ensures accepted { λ r. ⌜ (r ≡ 0 → Accepted h (now (links .entry)) (now (events .entry)) (now (list .entry)) «lower_room» «upper_room»
-        (now (bytes .exit)) (now (words .exit))) ⌝ }
+    ensures accepted { λ r. ⌜ (r ≡ 0
+        → Taken (headerAt h 1) (now (links .entry)) (now (events .entry)) (now (bytes .exit)) (now (words .exit))
+        × Accepted h (now (list .entry)) «lower_room» «upper_room») ⌝ }
 {
     let lists = lent::accept(header_at(h, 1), links, events, bytes, words);
     if lists != 0 {
@@ -53,17 +57,15 @@ pub fn thresholds(
     upper: &mut [u64],
 ) -> Answered
     ensures answer { λ r. ⌜ r ≡ thresholdsAnswer
-        (thresholdsNumber h (now (links .entry)) (now (events .entry)) (now (list .entry)) (now (lower .entry)) (now (upper .entry)))
+        (thresholdsNumber (lentAt h (now (links .entry)) (now (events .entry)) 1) (now (list .entry))
+        (length (now (lower .entry))) (length (now (upper .entry))))
         (planAt h (now (links .entry)) (now (events .entry))) (now (list .entry)) ⌝ }
-    ensures lowers { λ r. ⌜ now (lower .exit) ≡ filled
-        (thresholdsNumber h (now (links .entry)) (now (events .entry)) (now (list .entry)) (now (lower .entry)) (now (upper .entry)))
+    ensures lowers { λ r. ⌜ now (lower .exit) ≡ filled (r .number)
         (blocks (λ t. lowerList intact (planAt h (now (links .entry)) (now (events .entry)) t)) (now (list .entry))) (now (lower .entry)) ⌝ }
-    ensures uppers { λ r. ⌜ now (upper .exit) ≡ filled
-        (thresholdsNumber h (now (links .entry)) (now (events .entry)) (now (list .entry)) (now (lower .entry)) (now (upper .entry)))
+    ensures uppers { λ r. ⌜ now (upper .exit) ≡ filled (r .number)
         (blocks (λ t. upperList intact (planAt h (now (links .entry)) (now (events .entry)) t)) (now (list .entry))) (now (upper .entry)) ⌝ }
-    ensures demand3 { λ r. ⌜
-        (thresholdsNumber h (now (links .entry)) (now (events .entry)) (now (list .entry)) (now (lower .entry)) (now (upper .entry)) ≡ 0
-        → EnclosesBlocks (planAt h (now (links .entry)) (now (events .entry))) (h .nodes) (now (list .entry))
+    ensures demand3 { λ r. ⌜ (r .number ≡ 0
+        → EnclosesBlocks (planAt h (now (links .entry)) (now (events .entry))) (now (list .entry))
         (now (lower .exit)) (now (upper .exit)) (r .count)) ⌝ }
 {
     let mut bytes = [0u8; 256];

@@ -2,13 +2,14 @@
 -- Assumes nothing.
 use mathlib.Core.Path.{_≡_, refl, sym, ap, subst, _∙_}
 use mathlib.Core.List.{List, _++_}
-use Prim.Native.Nat.{ℕ, zero, suc, _+_, _*_, _/_}
+use Prim.Native.Nat.{ℕ, _+_, _*_, _/_}
 use native.Mathlib.Omega.{arith}
 use lib.ListN.{length, take, drop, take-append-drop}
 use lib.Seq.{sets, sets-eq, length-take-le}
 use Rattle.mass.specs.Refusal.{first}
+use Rattle.mass.proofs.RefusalLaws.{refuses, answered-number}
 use Rattle.plan.specs.Plan.{Plan}
-use Rattle.plan.specs.LentLists.{planOfLists, listsNumber}
+use Rattle.plan.specs.LentLists.{Lent, planOfLists, inWords, listsNumber}
 use Rattle.plan.specs.declared.Header.{Header}
 use Rattle.plan.proofs.FilledLaws.{filled-none}
 use Rattle.refusals.proofs.OrderLaws.{stop, skip}
@@ -17,7 +18,7 @@ use Rattle.network.specs.Outage.{intact}
 use Rattle.entries.specs.Entries.{TopologyList, entryWords}
 use Rattle.topology_list.specs.TopologyList.{topologyListOf}
 use Rattle.entries.specs.Words.{HoldsList}
-use Rattle.topology_list.specs.Calls.{topologyListIn, topologiesRefusal, topologiesNumber, listedAnswer, listAfter}
+use Rattle.topology_list.specs.Calls.{topologyListIn, topologiesNumber, listedAnswer, listedNumber, listAfter}
 use Rattle.entries.specs.declared.Placed.{Placed}
 use Rattle.topology_list.specs.declared.Listed.{Listed}
 use Rattle.topology_list.specs.declared.Listed.the-variants as listed
@@ -39,44 +40,46 @@ laid-down out words words′ q g =
     zero-less : (k : ℕ) → 0 + k ≡ k
     zero-less k = omega arith
 
-refused-is : (number count : ℕ) → (number ≡ 0 → ⊥) → listed.Refused number ≡ listedAnswer number count
-refused-is zero count n = absurd (n refl)
-refused-is (suc number) count n = refl
+-- an answer has the number that it follows from
+pub listed-number : (number count : ℕ) → listedNumber (listedAnswer number count) ≡ number
+listed-number number count = answered-number listed.Refused (listed.Entries count) listedNumber refl (λ n. refl) number
 
 module _ (h : Header) (links events list : List ℕ) where
+  abbrev lent : Lent
+  lent = inWords h links events
+
   -- an answer, with what it leaves in the lent list
   abbrev pub ListPromised : Listed → List ℕ → Type 0
   ListPromised r list′ =
-      (r ≡ listedAnswer (topologiesNumber intact h links events list) (length (topologyListIn intact h links events list .entries)))
-      × (list′ ≡ listAfter intact h (length links) (length events / 4) links events list)
+      (r ≡ listedAnswer (topologiesNumber intact lent list) (length (topologyListIn intact lent list .entries)))
+      × (list′ ≡ listAfter intact lent list)
 
-  refused : (number : ℕ) (list′ : List ℕ) → number ≡ topologiesNumber intact h links events list → (number ≡ 0 → ⊥)
-      → list′ ≡ listAfter intact h (length links) (length events / 4) links events list → ListPromised (listed.Refused number) list′
-  refused number list′ is n e =
-      (refused-is number _ n ∙ ap (λ (x : ℕ). listedAnswer x (length (topologyListIn intact h links events list .entries))) is, e)
+  refused : (number : ℕ) (list′ : List ℕ) → number ≡ topologiesNumber intact lent list → (number ≡ 0 → ⊥)
+      → list′ ≡ listAfter intact lent list → ListPromised (listed.Refused number) list′
+  refused number list′ is n e = (refuses listed.Refused _ is n, e)
 
   -- the lists are refused: nothing changes
-  pub lists-refused : (number : ℕ) → number ≡ listsNumber h links events → (number ≡ 0 → ⊥) → ListPromised (listed.Refused number) list
-  unfolding topologiesRefusal
+  pub lists-refused : (number : ℕ) → number ≡ listsNumber lent → (number ≡ 0 → ⊥) → ListPromised (listed.Refused number) list
+  unfolding topologiesNumber
   lists-refused number e n = refused number list (stop _ e n) n (filled-none _ _ list (λ z. n (e ∙ z)))
 
   -- the walk of the arrays that accepted lists were taken into gave the list
-  module _ (number : ℕ) (e : number ≡ listsNumber h links events) (z : number ≡ 0) (bytes words : List ℕ) (t : Taken h links events bytes words)
+  module _ (number : ℕ) (e : number ≡ listsNumber lent) (z : number ≡ 0) (bytes words : List ℕ) (t : Taken h links events bytes words)
       (list′ : List ℕ) (q : Placed) (gave : HoldsList (topologyListOf intact (length list / 4) (planOfLists h bytes words)) 0 list list′ q) where
-    g : HoldsList (topologyListIn intact h links events list) 0 list list′ q
+    g : HoldsList (topologyListIn intact lent list) 0 list list′ q
     g = subst (λ (p : Plan). HoldsList (topologyListOf intact (length list / 4) p) 0 list list′ q) (t .denoted) gave
 
-    left-in : list′ ≡ listAfter intact h (length links) (length events / 4) links events list
+    left-in : list′ ≡ listAfter intact lent list
     left-in = rw (sym e ∙ z) (laid-down _ list list′ q g)
 
     -- a topology found no entry left
     pub list-full : (q .number ≡ 0 → ⊥) → ListPromised (listed.Refused (q .number)) list′
-    unfolding topologiesRefusal
+    unfolding topologiesNumber
     list-full n = refused (q .number) list′ (skip _ e z (stop _ (g .number) n)) n left-in
 
     pub list-done : q .number ≡ 0 → ListPromised (listed.Entries (q .count)) list′
-    unfolding topologiesRefusal first
+    unfolding topologiesNumber first
     list-done f =
-        let none : topologyListIn intact h links events list .number ≡ 0 = sym (g .number) ∙ f in
-        let many : q .count ≡ length (topologyListIn intact h links events list .entries) = sym (entries-length (q .count) list′) ∙ ap length (g .entries) in
+        let none : topologyListIn intact lent list .number ≡ 0 = sym (g .number) ∙ f in
+        let many : q .count ≡ length (topologyListIn intact lent list .entries) = sym (entries-length (q .count) list′) ∙ ap length (g .entries) in
         (rw (sym e ∙ z, none) (ap listed.Entries many), left-in)

@@ -11,10 +11,9 @@ use lib.Seq.{sets-eq}
 use Rattle.mass.proofs.RefusalLaws.{first-none}
 use Rattle.mass.specs.Split.{whole}
 use Rattle.plan.specs.Plan.{Plan}
-use Rattle.plan.specs.LentLists.{listsRefusal, planOfLists}
-use Rattle.plan.specs.declared.Header.{Header}
+use Rattle.plan.specs.LentLists.{Lent, listsNumber, planOfLists, planLent}
 use Rattle.layout.proofs.ListLaws.{length-links-of}
-use Rattle.lent.proofs.Accepted.{lists-counted}
+use Rattle.lent.proofs.CopyLaws.{lists-fit}
 use Rattle.walk.specs.Walk.{firstEnds, massExamined}
 use Rattle.bounds.specs.Bounds.{lowerOf, upperOf, topologyOf, cuts}
 use Rattle.entries.specs.Entries.{Entry, massesIn, TopologyList, topologyList, entryWords}
@@ -23,7 +22,7 @@ use Rattle.topology_list.specs.Different.{Different, differentOf}
 use Rattle.topology_list.proofs.ListLaws.{different-placed, never-over, sum-placed, masses-are}
 use Rattle.topology_list.specs.ListBounds.{lowerFrom, upperFrom, sumEntries, cutIn}
 use Rattle.entries.specs.Words.{entriesOf}
-use Rattle.topology_list.specs.Calls.{topologyListIn, topologiesRefusal, topologiesNumber, listedAnswer, countIn, listAfter}
+use Rattle.topology_list.specs.Calls.{topologyListIn, topologiesNumber, listedAnswer, countIn, listAfter}
 use Rattle.entries.proofs.EntryLaws.{entry-words-length}
 use mathlib.Core.Logic.{_↔_}
 use native.Mathlib.Decide.{decLe}
@@ -104,53 +103,53 @@ unfolding topologyListOf
 list-different room p = different-placed room (topologyAfter intact p) [] (firstEnds p) tt
 
 -- what lists that are not refused leave in the lent list, also at 15: the entries' words, and after them the words that stood there
-pub left-behind : (h : Header) (links events list : List ℕ) → listsRefusal h (length links) (length events / 4) links events ≡ 0
-    → listAfter intact h (length links) (length events / 4) links events list
-    ≡ entryWords (topologyListIn intact h links events list .entries) ++ drop (4 * length (topologyListIn intact h links events list .entries)) list
-left-behind h links events list fine =
+pub left-behind : (l : Lent) (list : List ℕ) → listsNumber l ≡ 0
+    → listAfter intact l list
+    ≡ entryWords (topologyListIn intact l list .entries) ++ drop (4 * length (topologyListIn intact l list .entries)) list
+left-behind l list fine =
     rw fine
-    (sets-eq (entryWords entries) list 0 (omega (arith, words, list-room (length list / 4) (planOfLists h links events)))
+    (sets-eq (entryWords entries) list 0 (omega (arith, words, list-room (length list / 4) (planLent l)))
     ∙ ap (λ (n : ℕ). entryWords entries ++ drop n list) (zero-add (length (entryWords entries)) ∙ words))
   where
     entries : List Entry
-    entries = topologyListIn intact h links events list .entries
+    entries = topologyListIn intact l list .entries
 
-    words : length (entryWords (topologyListIn intact h links events list .entries)) ≡ 4 * length (topologyListIn intact h links events list .entries)
-    words = entry-words-length (topologyListIn intact h links events list .entries)
+    words : length (entryWords (topologyListIn intact l list .entries)) ≡ 4 * length (topologyListIn intact l list .entries)
+    words = entry-words-length (topologyListIn intact l list .entries)
 
-module _ (h : Header) (links events list : List ℕ) (accepted : topologiesNumber intact h links events list ≡ 0) where
+module _ (l : Lent) (list : List ℕ) (accepted : topologiesNumber intact l list ≡ 0) where
   abbrev p : Plan
-  p = planOfLists h links events
+  p = planLent l
 
   -- the entries in the lent list at exit, as many as the answer says
   abbrev written : List Entry
   written =
       entriesOf
-      (countIn (listedAnswer (topologiesNumber intact h links events list) (length (topologyListIn intact h links events list .entries))))
-      (listAfter intact h (length links) (length events / 4) links events list)
+      (countIn (listedAnswer (topologiesNumber intact l list) (length (topologyListIn intact l list .entries))))
+      (listAfter intact l list)
 
-  lists-fine : listsRefusal h (length links) (length events / 4) links events ≡ 0
-  unfolding topologiesRefusal
+  lists-fine : listsNumber l ≡ 0
+  unfolding topologiesNumber
   lists-fine = first-none _ _ accepted .0
 
-  all-placed : topologyListIn intact h links events list .number ≡ 0
-  unfolding topologiesRefusal
+  all-placed : topologyListIn intact l list .number ≡ 0
+  unfolding topologiesNumber
   all-placed = first-none _ _ (first-none _ _ accepted .1) .0
 
   -- they are the topology list
-  pub written-is : written ≡ topologyListIn intact h links events list .entries
+  pub written-is : written ≡ topologyListIn intact l list .entries
   written-is =
       rw accepted
-      (ap (entriesOf (length (topologyListIn intact h links events list .entries))) (left-behind h links events list lists-fine)
-      ∙ entries-of-words (topologyListIn intact h links events list .entries) _)
+      (ap (entriesOf (length (topologyListIn intact l list .entries))) (left-behind l list lists-fine)
+      ∙ entries-of-words (topologyListIn intact l list .entries) _)
 
   few : p .nodes ≤ 64
   unfolding planOfLists
-  few = lists-counted h (length links) (length events / 4) links events lists-fine .nodes-fit
+  few = lists-fit l lists-fine .0 .nodes-fit
 
   few-links : length (p .links) ≤ 128
   unfolding planOfLists
-  few-links = omega (arith, length-links-of (h .links) links, lists-counted h (length links) (length events / 4) links events lists-fine .links-fit)
+  few-links = omega (arith, length-links-of (l .header .links) (l .links), lists-fit l lists-fine .0 .links-fit)
 
   -- their masses sum to E
   pub written-sums : massesIn written ≡ massExamined p

@@ -1,5 +1,4 @@
 -- The different topologies of the examined scenarios: document 01, section "Further readings of a plan".
--- `out` is what is out before the first event (document 02, request U7).
 -- Assumes nothing.
 use mathlib.Core.Path.{_≡_}
 use mathlib.Core.List.{List, [], _∷_}

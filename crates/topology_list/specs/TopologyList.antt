@@ -1,5 +1,4 @@
 -- The topology list: document 01, section "Further readings of a plan".
--- `out` is what is out before the first event (document 02, request U7).
 -- Assumes nothing.
 use mathlib.Core.List.{List, [], _∷_}
 use Prim.Native.Nat.{ℕ, zero, suc, _+_}

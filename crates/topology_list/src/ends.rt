@@ -4,6 +4,7 @@ use entries::Topology;
 use entries::place;
 use network::Failed;
 use plan::Header;
+use walk::Failing;
 ghost use mathlib.Core.Path.{_≡_};
 ghost use mathlib.Core.List.{[]};
 ghost use Prim.Native.Nat.{_/_, _^_, _<_};
@@ -25,17 +26,22 @@ fn topology_of(
     links: &[u8; 256],
     words: &[u64; 512],
     table: &[u64; 128],
-    low: u64,
-    high: u64,
+    failing: Failing,
 ) -> Topology
     requires { ⌜ Held h (now links) (now words) ⌝ }
     requires { ⌜ LinksAt (now links) (h .links) (now table) ⌝ }
-    requires { ⌜ joined low high < 2 ^ (h .events) ⌝ }
+    requires { ⌜ joined (failing .low) (failing .high) < 2 ^ (h .events) ⌝ }
     ensures { λ r. ⌜ r ≡ topologyAfter intact (planOfLists h (now (links .entry)) (now (words .entry)))
-        (scenarioOf (h .events) (joined low high)) ⌝ }
+        (scenarioOf (h .events) (joined (failing .low) (failing .high))) ⌝ }
 {
     let n = h.nodes as usize;
-    let failed = network::failed_by(words, h.events as usize, low, high, Failed::NONE);
+    let failed = network::failed_by(
+        words,
+        h.events as usize,
+        failing.low,
+        failing.high,
+        Failed::NONE,
+    );
     let nodes = network::working_nodes(n, failed.nodes);
     let up = network::working_links(failed, h.links as usize, table);
     Topology {
@@ -72,7 +78,11 @@ fn list_ends(
         if !r.found {
             return Placed { count, number: 0 };
         }
-        let t = topology_of(h, links, words, table, r.low, r.high);
+        let failing = Failing {
+            low: r.low,
+            high: r.high,
+        };
+        let t = topology_of(h, links, words, table, failing);
         let placed = place(&mut *list, count, t, r.mass);
         if placed.number != 0 {
             return placed;
@@ -91,6 +101,6 @@ pub fn list_all(h: Header, links: &[u8; 256], words: &[u64; 512], list: &mut [u6
 {
     let table = network::links_at(h.nodes as usize, links, h.links as usize);
     let mut stack = [0u64; 512];
-    let start = walk::begin(&mut stack, 0, mass::Mass::WHOLE.units, 0, 0);
+    let start = walk::begin(&mut stack);
     list_ends(h, links, words, &table, &mut stack, start, list)
 }

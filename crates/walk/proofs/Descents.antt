@@ -27,6 +27,7 @@ use Rattle.walk.proofs.StackLaws.{mass-run, mass-branch, descent-cut, d
 use Rattle.walk.specs.WorksPath.{pathSteps, pathMass, pathEnd}
 use Rattle.walk.specs.Stack.{branchOf, SoundBranch, toCome, pendingMass, SoundEntry, SoundEntries, Stack}
 use Rattle.walk.specs.Steps.{Stopped, Pushed, Delayed, Descended, descentOf}
+use Rattle.walk.specs.declared.Failing.{Failing}
 use Rattle.walk.specs.declared.Stop.{Stop}
 use Rattle.walk.proofs.Branches.{events-length, events-probability, probability-le, next-works, next-fails}
 use Rattle.walk.proofs.Dropped.{run-after, works-path}
@@ -135,18 +136,24 @@ module _ (count t : ℕ) (words : List ℕ) (depth mass low high : ℕ) (l : dep
 
 -- on the way down: a branch in hand, the pending entries on the stack, and the same ends to come as at the start; the masses of the branch
 -- and the entries are at most the mass pending at the start
-pub record Going (count threshold : ℕ) (words : List ℕ) (all : List End) (pending depth mass low high top : ℕ) (stack : List ℕ) : Type 0 where
-  pub hand : SoundBranch count depth mass low high (length (drop top stack))
+pub record Going (count threshold : ℕ) (words : List ℕ) (all : List End) (pending depth mass : ℕ) (f : Failing) (top : ℕ) (stack : List ℕ) : Type 0 where
+  pub hand : SoundBranch count depth mass (f .low) (f .high) (length (drop top stack))
   pub held : Stack count top stack
-  pub ahead : all ≡ branchEnds threshold (eventsOf count words) (branchOf depth mass low high) ++ toCome count threshold words top stack
+  pub ahead : all ≡ branchEnds threshold (eventsOf count words) (branchOf depth mass (f .low) (f .high)) ++ toCome count threshold words top stack
   pub lighter : mass + pendingMass (drop top stack) ≤ pending
 
 module _ (count threshold : ℕ) (words : List ℕ) where
-  module _ (all : List End) (pending depth mass low high top : ℕ) (stack : List ℕ)
-      (g : Going count threshold words all pending depth mass low high top stack) where
+  module _ (all : List End) (pending depth mass : ℕ) (f : Failing) (top : ℕ) (stack : List ℕ)
+      (g : Going count threshold words all pending depth mass f top stack) where
+    abbrev low : ℕ
+    low = f .low
+
+    abbrev high : ℕ
+    high = f .high
+
     -- the ends of the branch in hand are one end, which stops at the mass m, and n dropped ones
     pub come : (m n : ℕ) → ends threshold mass (drop depth (eventsOf count words)) ≡ pathEnd threshold m (count - depth) ∷ replicate n dropped
-        → m ≤ mass → (0 < n → 4 ≤ top) → Descended count threshold words all pending stack (descentOf threshold top m low high n)
+        → m ≤ mass → (0 < n → 4 ≤ top) → Descended count threshold words all pending stack (descentOf threshold top m f n)
     come m n below less room = step (decLt m threshold)
       where
         k : ℕ
@@ -164,9 +171,9 @@ module _ (count threshold : ℕ) (words : List ℕ) where
         whole-path : path ++ replicate (count - depth) false ≡ scenarioOf count k
         whole-path = rw deep at (sym (scenario-works depth (count - depth) k (g .hand .decided)))
 
-        step : Dec (m < threshold) → Descended count threshold words all pending stack (descentOf threshold top m low high n)
+        step : Dec (m < threshold) → Descended count threshold words all pending stack (descentOf threshold top m f n)
         step (yes h) =
-            rw (descent-cut threshold top m low high n h)
+            rw (descent-cut threshold top m f n h)
             (record {
               ends = first ∙ rw (pathEnd-cut threshold m (count - depth) h);
               held = g .held;
@@ -176,7 +183,7 @@ module _ (count threshold : ℕ) (words : List ℕ) where
               lighter = omega (arith, g .lighter);
             })
         step (no h) =
-            rw (descent-enough threshold top m low high n (omega arith))
+            rw (descent-enough threshold top m f n (omega arith))
             (record {
               ends = first ∙ rw (pathEnd-enough threshold m (count - depth) (omega arith), whole-path);
               held = g .held;
@@ -187,12 +194,12 @@ module _ (count threshold : ℕ) (words : List ℕ) where
             })
 
     -- a branch below the threshold
-    pub come-cut : mass < threshold → Descended count threshold words all pending stack (descentOf threshold top mass low high 0)
+    pub come-cut : mass < threshold → Descended count threshold words all pending stack (descentOf threshold top mass f 0)
     come-cut h =
         come mass 0 (rw (ends-cut threshold mass (drop depth (eventsOf count words)) h, pathEnd-cut threshold mass (count - depth) h)) (omega arith) (λ (z : 0 < 0). omega arith)
 
     -- a branch with no event left
-    pub come-leaf : threshold ≤ mass → count ≤ depth → Descended count threshold words all pending stack (descentOf threshold top mass low high 0)
+    pub come-leaf : threshold ≤ mass → count ≤ depth → Descended count threshold words all pending stack (descentOf threshold top mass f 0)
     come-leaf h l = come mass 0 (rw (over, nothing, ends-leaf threshold mass h, pathEnd-enough threshold mass 0 h)) (omega arith) (λ (z : 0 < 0). omega arith)
       where
         over : drop depth (eventsOf count words) ≡ []
@@ -214,7 +221,7 @@ module _ (count threshold : ℕ) (words : List ℕ) where
       -- the "fails" side falls below the threshold
       pub come-straight : failing mass (getD words (depth * 4) 0) < threshold → (works : ℕ) → works ≡ working mass (getD words (depth * 4) 0)
           → (s : Stop) → Stopped count threshold words (depth + 1) works s
-          → Descended count threshold words all pending stack (descentOf threshold top (s .mass) low high (s .depth - depth))
+          → Descended count threshold words all pending stack (descentOf threshold top (s .mass) f (s .depth - depth))
       come-straight less works worked s stopped =
           come (s .mass) (s .depth - depth) (rw (← left-at count words depth, stops, steps) path) (omega (arith, stopped .lighter, worked-less works worked))
           (λ (z : 0 < s .depth - depth). room)
@@ -245,8 +252,8 @@ module _ (count threshold : ℕ) (words : List ℕ) where
 
       -- else it is laid down, and the "works" side is in hand
       pub down : (stack′ : List ℕ) (fails works : ℕ) → fails ≡ failing mass (getD words (depth * 4) 0) → works ≡ working mass (getD words (depth * 4) 0)
-          → Pushed depth fails low high (top - 4) stack stack′
-          → Going count threshold words all pending (depth + 1) works low high (top - 4) stack′
+          → Pushed (record { depth = depth; mass = fails; failing = f }) (top - 4) stack stack′
+          → Going count threshold words all pending (depth + 1) works f (top - 4) stack′
       down stack′ fails works failed worked d =
           record {
             hand =

@@ -35,15 +35,14 @@ pub record Alone (depth mass low high at : ℕ) (stack : List ℕ) : Type 0 wher
   pub only : drop at stack ≡ depth ∷ mass ∷ low ∷ high ∷ []
   pub sized : length stack ≡ 512
 
-pub begun-alone : (depth mass low high at : ℕ) (stack stack′ : List ℕ) → length stack ≡ 512 → Begun depth mass low high at stack stack′
-    → Alone depth mass low high at stack′
-begun-alone depth mass low high at stack stack′ size b =
+pub begun-alone : (at : ℕ) (stack stack′ : List ℕ) → length stack ≡ 512 → Begun at stack stack′ → Alone 0 whole 0 0 at stack′
+begun-alone at stack stack′ size b =
     record {
       place = b .place;
       only =
           rw (← drop-of-length-le stack {i = at + 4} (omega (arith, b .place)))
-          (laid-words stack stack′ at depth mass low high (b .laid) size (omega (arith, b .place)));
-      sized = laid-size stack stack′ at depth mass low high (b .laid) size;
+          (laid-words stack stack′ at 0 whole 0 0 (b .laid) size (omega (arith, b .place)));
+      sized = laid-size stack stack′ at 0 whole 0 0 (b .laid) size;
     }
 
 module _ (depth mass low high at : ℕ) (stack : List ℕ) (b : Alone depth mass low high at stack) (few : depth ≤ 128) where

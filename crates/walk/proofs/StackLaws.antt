@@ -16,6 +16,7 @@ use Rattle.mass.specs.Split.{working}
 use Rattle.walk.specs.WorksPath.{pathSteps, pathMass, pathEnd}
 use Rattle.walk.specs.Stack.{branchOf, wordsEnds, entryMass}
 use Rattle.walk.specs.Steps.{descentOf}
+use Rattle.walk.specs.declared.Failing.{Failing}
 
 -- law: where its mass is at least the threshold and events are left, a branch is its two parts at the next event, "works" before "fails"
 pub branch-node : (t : ℕ) (events : List Event) (b : Branch) (none : Event) → t ≤ b .mass → length (b .path) < length events
@@ -83,14 +84,14 @@ pub mass-branch : (depth mass : ℕ) → depth ≤ 128 → entryMass depth mass 
 unfolding entryMass
 mass-branch depth mass h = rw (le-ltb 128 depth h, entryMass)
 
-module _ (threshold at mass low high number : ℕ) where
+module _ (threshold at mass : ℕ) (f : Failing) (number : ℕ) where
   pub descent-cut : mass < threshold
-      → descentOf threshold at mass low high number ≡ record { at = at; relevant = false; mass = 0; low = 0; high = 0; dropped = number }
+      → descentOf threshold at mass f number ≡ record { at = at; relevant = false; mass = 0; low = 0; high = 0; dropped = number }
   unfolding descentOf
   descent-cut h = rw (lt-ltb mass threshold h, descentOf)
 
   pub descent-enough : threshold ≤ mass
-      → descentOf threshold at mass low high number
-      ≡ record { at = at; relevant = true; mass = mass; low = low; high = high; dropped = number }
+      → descentOf threshold at mass f number
+      ≡ record { at = at; relevant = true; mass = mass; low = f .low; high = f .high; dropped = number }
   unfolding descentOf
   descent-enough h = rw (le-ltb mass threshold h, descentOf)

@@ -82,7 +82,7 @@ pub record Stack (count at : ℕ) (stack : List ℕ) : Type 0 where
   pub sized : length stack ≡ 512
   pub entries : SoundEntries count (drop at stack)
 
--- a branch laid down in the last four words: it is alone on the stack
-pub record Begun (depth mass low high at : ℕ) (stack stack′ : List ℕ) : Type 0 where
+-- the root laid down in the last four words: it is alone on the stack
+pub record Begun (at : ℕ) (stack stack′ : List ℕ) : Type 0 where
   pub place : at ≡ 508
-  pub laid : stack′ ≡ sets stack at (depth ∷ mass ∷ low ∷ high ∷ [])
+  pub laid : stack′ ≡ sets stack at (0 ∷ whole ∷ 0 ∷ 0 ∷ [])

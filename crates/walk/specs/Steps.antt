@@ -15,7 +15,9 @@ use Rattle.walk.specs.Ends.{End, dropped, relevant}
 use Rattle.walk.specs.WorksPath.{pathSteps, pathMass}
 use Rattle.walk.specs.Stack.{toCome, pendingMass, Stack}
 use Rattle.walk.specs.declared.Descent.{Descent}
+use Rattle.walk.specs.declared.Failing.{Failing}
 use Rattle.walk.specs.declared.Parted.{Parted}
+use Rattle.walk.specs.declared.StackEntry.{StackEntry}
 use Rattle.walk.specs.declared.Step.{Step}
 use Rattle.walk.specs.declared.Stop.{Stop}
 
@@ -54,13 +56,13 @@ pub record Stopped (count threshold : ℕ) (words : List ℕ) (depth mass : ℕ)
   pub light : r .mass ≤ whole
   pub lighter : r .mass ≤ mass
 
--- the branch where an event fails, laid down: its set of failing events is in two words
-pub record Pushed (depth mass low high at : ℕ) (stack stack′ : List ℕ) : Type 0 where
+-- a branch laid down with one failing event more, that at its depth: its set of failing events is in two words
+pub record Pushed (b : StackEntry) (at : ℕ) (stack stack′ : List ℕ) : Type 0 where
   pub setLow : ℕ
   pub setHigh : ℕ
   pub word : setLow < 2 ^ 64
-  pub set : joined setLow setHigh ≡ joined low high + 2 ^ depth
-  pub laid : stack′ ≡ sets stack at ((depth + 1) ∷ mass ∷ setLow ∷ setHigh ∷ [])
+  pub set : joined setLow setHigh ≡ joined (b .failing .low) (b .failing .high) + 2 ^ b .depth
+  pub laid : stack′ ≡ sets stack at ((b .depth + 1) ∷ b .mass ∷ setLow ∷ setHigh ∷ [])
 
 -- so many dropped ends laid down before the ends to come of a stack, whatever the plan; the mass pending is the same
 pub record Delayed (number at : ℕ) (stack stack′ : List ℕ) (r : ℕ) : Type 0 where
@@ -87,9 +89,9 @@ pub record Descended (count threshold : ℕ) (words : List ℕ) (all : List End)
   pub lighter : r .mass + pendingMass (drop (r .at) stack) ≤ pending
 
 -- the answer of a descent that stops at a mass: `number` dropped ends follow
-unfoldable pub descentOf : ℕ → ℕ → ℕ → ℕ → ℕ → ℕ → Descent
-descentOf threshold at mass low high number =
+unfoldable pub descentOf : ℕ → ℕ → ℕ → Failing → ℕ → Descent
+descentOf threshold at mass f number =
     elim (ltb mass threshold) [
       | true ↦ record { at = at; relevant = false; mass = 0; low = 0; high = 0; dropped = number }
-      | false ↦ record { at = at; relevant = true; mass = mass; low = low; high = high; dropped = number }
+      | false ↦ record { at = at; relevant = true; mass = mass; low = f .low; high = f .high; dropped = number }
     ]

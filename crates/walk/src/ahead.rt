@@ -2,6 +2,7 @@
 use crate::Descent;
 use crate::Failing;
 use crate::Parted;
+use crate::StackEntry;
 use crate::Step;
 use crate::Stop;
 use crate::put;
@@ -96,18 +97,27 @@ pub fn straight(count: u64, threshold: u64, events: &[u64; 512], depth: u64, mas
     }
 }
 
-// Lays down the branch in which the event at a depth fails.
-fn push(stack: &mut [u64; 512], at: usize, depth: u64, mass: u64, low: u64, high: u64)
-    requires { ⌜ (depth < 128) × (low < 2 ^ 64) × (joined low high < 2 ^ depth) × (at + 4 ≤ 512) ⌝ }
-    ensures { λ r. ⌜ Pushed depth mass low high at (now (stack .entry)) (now (stack .exit)) ⌝ }
+// Lays a branch down with one failing event more, that at its depth.
+fn push(stack: &mut [u64; 512], at: usize, branch: StackEntry)
+    requires { ⌜ (branch .depth < 128) × (branch .failing .low < 2 ^ 64)
+        × (joined (branch .failing .low) (branch .failing .high) < 2 ^ (branch .depth)) × (at + 4 ≤ 512) ⌝ }
+    ensures { λ r. ⌜ Pushed branch at (now (stack .entry)) (now (stack .exit)) ⌝ }
 {
-    let failing = with_event(low, high, depth);
-    put(stack, at, depth + 1, mass, failing);
+    let failing = with_event(branch.failing, branch.depth);
+    put(
+        stack,
+        at,
+        StackEntry {
+            depth: branch.depth + 1,
+            mass: branch.mass,
+            failing,
+        },
+    );
 }
 
 // The answer of a descent that stops at a mass.
-fn come_to(threshold: u64, at: usize, mass: u64, low: u64, high: u64, number: u64) -> Descent
-    ensures { λ r. ⌜ r ≡ descentOf threshold at mass low high number ⌝ }
+fn come_to(threshold: u64, at: usize, mass: u64, failing: Failing, number: u64) -> Descent
+    ensures { λ r. ⌜ r ≡ descentOf threshold at mass failing number ⌝ }
 {
     if mass < threshold {
         return Descent {
@@ -123,8 +133,8 @@ fn come_to(threshold: u64, at: usize, mass: u64, low: u64, high: u64, number: u6
         at,
         relevant: true,
         mass,
-        low,
-        high,
+        low: failing.low,
+        high: failing.high,
         dropped: number,
     }
 }
@@ -137,39 +147,47 @@ fn go_down(
     events: &[u64; 512],
     stack: &mut [u64; 512],
     at: usize,
-    depth: u64,
-    mass: u64,
-    low: u64,
-    high: u64,
+    branch: StackEntry,
 ) -> Descent
     requires { ⌜ (count ≤ 128) × Falling certain (eventsOf count (now events)) ⌝ }
-    requires { ⌜ SoundBranch count depth mass low high (length (drop at (now stack))) × Stack count at (now stack) ⌝ }
+    requires { ⌜ SoundBranch count (branch .depth) (branch .mass) (branch .failing .low) (branch .failing .high) (length (drop at (now stack)))
+        × Stack count at (now stack) ⌝ }
     ensures { λ r. ⌜ Descended count threshold (now (events .entry))
-        (branchEnds threshold (eventsOf count (now (events .entry))) (branchOf depth mass low high)
+        (branchEnds threshold (eventsOf count (now (events .entry)))
+        (branchOf (branch .depth) (branch .mass) (branch .failing .low) (branch .failing .high))
         ++ toCome count threshold (now (events .entry)) at (now (stack .entry)))
-        (mass + pendingMass (drop at (now (stack .entry)))) (now (stack .exit)) r ⌝ }
+        (branch .mass + pendingMass (drop at (now (stack .entry)))) (now (stack .exit)) r ⌝ }
 {
     let mut top = at;
-    let mut d = depth;
-    let mut m = mass;
+    let mut d = branch.depth;
+    let mut m = branch.mass;
+    let failing = branch.failing;
     // The ends of the branch at depth d with mass m, then those of the entries from `top` on, are the ends to come at the start.
     // Each turn raises d, up to `count`.
     loop {
         if m < threshold {
-            return come_to(threshold, top, m, low, high, 0);
+            return come_to(threshold, top, m, failing, 0);
         }
         if d >= count {
-            return come_to(threshold, top, m, low, high, 0);
+            return come_to(threshold, top, m, failing, 0);
         }
         let parts = split_at(events, d, m);
         let f = parts.fails.units;
         let w = parts.works.units;
         if f < threshold {
             let stop = straight(count, threshold, events, d + 1, w);
-            return come_to(threshold, top, stop.mass, low, high, stop.depth - d);
+            return come_to(threshold, top, stop.mass, failing, stop.depth - d);
         }
         top -= 4;
-        push(&mut *stack, top, d, f, low, high);
+        push(
+            &mut *stack,
+            top,
+            StackEntry {
+                depth: d,
+                mass: f,
+                failing,
+            },
+        );
         m = w;
         d += 1;
     }
@@ -202,17 +220,12 @@ fn descend(
     }
     let low = stack[at + 2];
     let high = stack[at + 3];
-    go_down(
-        count,
-        threshold,
-        events,
-        stack,
-        at + 4,
+    let branch = StackEntry {
         depth,
         mass,
-        low,
-        high,
-    )
+        failing: Failing { low, high },
+    };
+    go_down(count, threshold, events, stack, at + 4, branch)
 }
 
 // Lays so many dropped ends down before those to come. Returns where the stack begins.
@@ -223,7 +236,12 @@ fn delay(stack: &mut [u64; 512], at: usize, number: u64) -> usize
     if number == 0 {
         return at;
     }
-    put(stack, at - 4, RUN, number, Failing { low: 0, high: 0 });
+    let run = StackEntry {
+        depth: RUN,
+        mass: number,
+        failing: Failing { low: 0, high: 0 },
+    };
+    put(stack, at - 4, run);
     at - 4
 }
 

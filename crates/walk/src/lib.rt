@@ -19,6 +19,14 @@ pub struct Failing {
     pub high: u64,
 }
 
+// An entry of the stack: a pending branch, with how many events are decided, its mass and its failing events; or, where the depth is RUN, so
+// many dropped ends as the mass says.
+pub struct StackEntry {
+    pub depth: u64,
+    pub mass: u64,
+    pub failing: Failing,
+}
+
 // What a step hands out: where the stack now begins, how many ends may still be reached, whether a relevant scenario was found, its mass
 // and its failing events (0 where none was).
 pub struct Step {
@@ -55,38 +63,42 @@ pub struct Descent {
 }
 
 // The set of failing events with one event more, that comes after all of them.
-pub fn with_event(low: u64, high: u64, event: u64) -> Failing
-    requires { ⌜ (low < 2 ^ 64) × (event < 128) × (joined low high < 2 ^ event) ⌝ }
-    ensures { λ r. ⌜ joined (r .low) (r .high) ≡ joined low high + 2 ^ event ⌝ }
+pub fn with_event(failing: Failing, event: u64) -> Failing
+    requires { ⌜ (failing .low < 2 ^ 64) × (event < 128) × (joined (failing .low) (failing .high) < 2 ^ event) ⌝ }
+    ensures { λ r. ⌜ joined (r .low) (r .high) ≡ joined (failing .low) (failing .high) + 2 ^ event ⌝ }
 {
     if event < 64 {
         return Failing {
-            low: low + (1 << event),
-            high,
+            low: failing.low + (1 << event),
+            high: failing.high,
         };
     }
     Failing {
-        low,
-        high: high + (1 << (event - 64)),
+        low: failing.low,
+        high: failing.high + (1 << (event - 64)),
     }
 }
 
-// Lays a pending branch down in four words of the stack.
-fn put(stack: &mut [u64; 512], at: usize, depth: u64, mass: u64, failing: Failing)
+// Lays an entry down in four words of the stack.
+fn put(stack: &mut [u64; 512], at: usize, e: StackEntry)
     requires { ⌜ at + 4 ≤ 512 ⌝ }
-    ensures { λ r. ⌜ now (stack .exit) ≡ sets (now (stack .entry)) at (depth ∷ mass ∷ failing .low ∷ failing .high ∷ []) ⌝ }
+    ensures { λ r. ⌜ now (stack .exit) ≡ sets (now (stack .entry)) at (e .depth ∷ e .mass ∷ e .failing .low ∷ e .failing .high ∷ []) ⌝ }
 {
-    stack[at] = depth;
-    stack[at + 1] = mass;
-    stack[at + 2] = failing.low;
-    stack[at + 3] = failing.high;
+    stack[at] = e.depth;
+    stack[at + 1] = e.mass;
+    stack[at + 2] = e.failing.low;
+    stack[at + 3] = e.failing.high;
 }
 
-// Begins a walk at a branch, the root (0 events decided and one whole, for the whole walk): the only one on the stack. Returns where the
-// stack begins.
-pub fn begin(stack: &mut [u64; 512], depth: u64, mass: u64, low: u64, high: u64) -> usize
-    ensures { λ r. ⌜ Begun depth mass low high r (now (stack .entry)) (now (stack .exit)) ⌝ }
+// Begins a walk at the root, with no event decided and one whole: the only branch on the stack. Returns where the stack begins.
+pub fn begin(stack: &mut [u64; 512]) -> usize
+    ensures { λ r. ⌜ Begun r (now (stack .entry)) (now (stack .exit)) ⌝ }
 {
-    put(stack, 508, depth, mass, Failing { low, high });
+    let root = StackEntry {
+        depth: 0,
+        mass: mass::Mass::WHOLE.units,
+        failing: Failing { low: 0, high: 0 },
+    };
+    put(stack, 508, root);
     508
 }

@@ -2,4 +2,3 @@
 pub mod EntryLaws
 pub mod SoundLaws
 pub mod StateLaws
-pub mod AnswerLaws

@@ -8,7 +8,7 @@ use lib.Dec.{leb, eqb}
 use lib.ListN.{drop}
 use Rattle.mass.specs.Split.{whole}
 use Rattle.sets.proofs.Bools.{and-left, and-right, and-both}
-use Rattle.plan.specs.LentLists.{listsRefusal}
+use Rattle.plan.specs.LentLists.{planRefusal, planOfLists}
 use Rattle.walk_state.specs.Sound.{soundEntries, noneAbove, soundNumbers, sound}
 use Rattle.walk_state.specs.declared.Walk.{Walk}
 use Rattle.walk_state.proofs.EntryLaws.{stops, goes}
@@ -49,7 +49,7 @@ module _ (limit at reached count : ℕ) where
 
 -- what the test says of a state
 pub record SoundWalk (w : Walk) : Type 0 where
-  pub accepted : listsRefusal (w .header) 256 128 (w .links) (w .events) ≡ 0
+  pub valid : planRefusal (planOfLists (w .header) (w .links) (w .events)) ≡ 0
   pub few : w .count ≤ w .reached
   pub under-cap : w .reached ≤ w .header .limit
   pub fours : w .at % 4 ≡ 0
@@ -60,7 +60,7 @@ pub record SoundWalk (w : Walk) : Type 0 where
 
 module _ (w : Walk) where
   abbrev lists : Bool
-  lists = eqb (listsRefusal (w .header) 256 128 (w .links) (w .events)) 0
+  lists = eqb (planRefusal (planOfLists (w .header) (w .links) (w .events))) 0
 
   abbrev numbers : Bool
   numbers = soundNumbers (w .header .limit) (w .at) (w .reached) (w .count)
@@ -75,12 +75,12 @@ module _ (w : Walk) where
   unfolding sound
   tests = refl
 
-  pub lists-fail : (listsRefusal (w .header) 256 128 (w .links) (w .events) ≡ 0 → ⊥) → false ≡ sound w
+  pub lists-fail : (planRefusal (planOfLists (w .header) (w .links) (w .events)) ≡ 0 → ⊥) → false ≡ sound w
   lists-fail h = stops lists _ tests (ne-eqb _ 0 h)
 
-  module _ (accepted : listsRefusal (w .header) 256 128 (w .links) (w .events) ≡ 0) where
+  module _ (valid : planRefusal (planOfLists (w .header) (w .links) (w .events)) ≡ 0) where
     second : sound w ≡ (numbers && (leb (w .mass) whole && (entries && sums)))
-    second = goes lists _ tests (eq-eqb _ 0 accepted)
+    second = goes lists _ tests (eq-eqb _ 0 valid)
 
     pub numbers-fail : numbers ≡ false → false ≡ sound w
     numbers-fail h = stops numbers _ second h
@@ -110,7 +110,7 @@ module _ (w : Walk) where
       let m = and-right numbers _ n in
       let s = and-right (leb (w .mass) whole) _ m in
       record {
-        accepted = eqb-true _ 0 (and-left lists _ all);
+        valid = eqb-true _ 0 (and-left lists _ all);
         few = k .0;
         under-cap = k .1;
         fours = k .2;
@@ -123,6 +123,6 @@ module _ (w : Walk) where
   pub sound-pass : SoundWalk w → sound w ≡ true
   sound-pass s =
       tests
-      ∙ and-both lists _ (eq-eqb _ 0 (s .accepted))
+      ∙ and-both lists _ (eq-eqb _ 0 (s .valid))
       (and-both numbers _ (sym (last-number _ _ _ _ (s .few) (s .under-cap) (s .fours)) ∙ le-leb (w .at) 512 (s .within))
       (and-both (leb (w .mass) whole) _ (le-leb (w .mass) whole (s .light)) (and-both entries _ (s .entries) (s .below))))

@@ -9,7 +9,7 @@ use lib.Dec.{ltb, leb, eqb}
 use lib.ListN.{length, drop}
 use Rattle.mass.specs.Split.{whole}
 use Rattle.sets.specs.Sets.{joined}
-use Rattle.plan.specs.LentLists.{listsRefusal}
+use Rattle.plan.specs.LentLists.{planRefusal, planOfLists}
 use Rattle.walk.specs.Stack.{entryMass}
 use Rattle.walk_state.specs.declared.Walk.{Walk}
 
@@ -61,11 +61,11 @@ example-numbers : (soundNumbers 9 508 5 4 ≡ true) × (soundNumbers 9 508 5 6 �
 unfolding soundNumbers
 example-numbers = (refl, refl, refl, refl)
 
--- a state that may be gone on with: its lists meet no refusal, its numbers are sound, what it has and what is pending are at most one whole
+-- a state that may be gone on with: its plan meets no refusal, its numbers are sound, what it has and what is pending are at most one whole
 -- together, and no pair has more than it has
 unfoldable pub sound : Walk → Bool
 sound w =
-    eqb (listsRefusal (w .header) 256 128 (w .links) (w .events)) 0
+    eqb (planRefusal (planOfLists (w .header) (w .links) (w .events))) 0
     && (soundNumbers (w .header .limit) (w .at) (w .reached) (w .count)
     && (leb (w .mass) whole
     && (soundEntries (w .header .events) (whole - w .mass) (drop (w .at) (w .stack)) && noneAbove (w .mass) (w .sums))))

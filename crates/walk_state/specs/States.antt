@@ -1,7 +1,8 @@
 -- The state of a walk: the walk of zeros, and the answer that holds a walk.
 -- Assumes nothing.
-use Prim.Native.Nat.{ℕ, zero, suc}
+use Prim.Native.Nat.{ℕ}
 use lib.ListN.{replicate}
+use Rattle.mass.specs.Refusal.{answered}
 use Rattle.walk_state.specs.declared.Walk.{Walk}
 use Rattle.walk_state.specs.declared.WalkAnswer.{WalkAnswer}
 
@@ -22,5 +23,4 @@ noWalk =
 
 -- the answer that a number and a walk stand for: a refusal has a walk of zeros
 abbrev pub walkAnswer : ℕ → Walk → WalkAnswer
-walkAnswer zero walk = record { number = 0; walk = walk }
-walkAnswer (suc number) walk = record { number = suc number; walk = noWalk }
+walkAnswer number walk = answered (λ n. record { number = n; walk = noWalk }) (record { number = 0; walk = walk }) number

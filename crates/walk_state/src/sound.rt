@@ -128,7 +128,7 @@ pub fn is_sound(
       mass = «mass»;
     }) ⌝ }
 {
-    if lent::lists_refusal(h, 256, 128, links, events) != 0 {
+    if lent::lists_refusal(h, links, events) != 0 {
         return false;
     }
     if !numbers_sound(h.limit, at, reached, count) {

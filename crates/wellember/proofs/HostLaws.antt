@@ -1,13 +1,13 @@
 -- The host's calls: from the plan in arrays to the plan that a file stands for, and the two numbers in sixteen bytes.
 -- Assumes nothing.
-use mathlib.Core.Path.{_≡_, refl, sym, ap, ap₂, subst, subst₂, _∙_}
+use mathlib.Core.Path.{_≡_, sym, ap, ap₂, subst, subst₂, _∙_}
 use mathlib.Core.List.{List, [], _∷_, _++_, append-assoc}
-use Prim.Native.Nat.{ℕ, zero, suc, _+_, _^_, _<_, _≤_}
+use Prim.Native.Nat.{ℕ, _+_, _^_, _<_, _≤_}
 use native.Mathlib.Omega.{arith}
 use lib.ListN.{length, drop, length-append}
 use lib.Seq.{sets, sets-eq, take-at, drop-at}
 use Rattle.mass.specs.Refusal.{first}
-use Rattle.mass.proofs.RefusalLaws.{first-none, first-skip}
+use Rattle.mass.proofs.RefusalLaws.{first-none, first-skip, refuses}
 use Rattle.plan.specs.Plan.{Plan}
 use Rattle.plan.specs.Layout.{little}
 use Rattle.refusals.specs.Tests.{roomTest}
@@ -18,36 +18,27 @@ use Rattle.plan.specs.declared.Header.{Header}
 use Rattle.plan.specs.declared.Reading.the-variants as reading
 use Rattle.refusals.proofs.OrderLaws.{stop}
 use Rattle.refusals.proofs.TestLaws.{room-none}
-use Rattle.lent.proofs.ListLaws.{first-last, sets-then}
+use Rattle.lent.proofs.ListLaws.{sets-then}
 use Rattle.layout.proofs.LayoutNumbers.{length-little, value-little}
-use Rattle.layout.proofs.Theorems.{lists-denote}
 use Rattle.walk.specs.Walk.{count}
+use Rattle.pairs.specs.Pairs.{pairTest}
 use Rattle.bounds.specs.Bounds.{lowerOf, upperOf, Encloses}
-use Rattle.bounds.specs.Calls.{pairRefusal, pairAnswer, boundsOf, boundsIn}
+use Rattle.bounds.specs.Calls.{pairAnswer, boundsOf, boundsIn}
 use Rattle.bounds.specs.declared.PairBounds.{PairBounds}
 use Rattle.bounds.specs.declared.Paired.{Paired}
 use Rattle.bounds.specs.declared.Paired.the-variants as paired
 use Rattle.plan.proofs.FilledLaws.{filled-none, filled-all}
 use Rattle.network.specs.Outage.{intact}
-use Rattle.bounds.proofs.Answers.{pair-refuses, pair-refused-is, pair-done-is, enclosed}
+use Rattle.bounds.proofs.Answers.{pair-refused-is, pair-done-is, enclosed}
 use Rattle.input.specs.Loaded.{Loaded}
+use Rattle.input.proofs.LoadedLaws.{reading-refused}
 use Rattle.wellember.specs.Host.{hostRefusal, sixteen, lowerIn, upperIn}
 
--- ---- what an answer says of its number
-
-reading-refused : (number n : ℕ) (h : Header) → reading.Refused n ≡ readAnswer number h → (n ≡ number) × (n ≡ 0 → ⊥)
-reading-refused zero n h e = absurd (let never : _≡_ {A = ℕ} 0 1 = cc in omega arith)
-reading-refused (suc number) n h e = let is : n ≡ suc number = cc in (is, λ z. omega arith)
-
-pub reading-accepted : (number : ℕ) (x h : Header) → reading.Accepted x ≡ readAnswer number h → (number ≡ 0) × (x ≡ h)
-reading-accepted zero x h e = (refl, cc)
-reading-accepted (suc number) x h e = absurd (let never : _≡_ {A = ℕ} 0 1 = cc in omega arith)
-
--- 12 is not given, and 13 decides
-pub room-passed : (room number : ℕ) → roomTest room 16 ≡ 0 → number ≡ first (roomTest room 16 ∷ number ∷ [])
-room-passed room number e = sym (first-skip _ _ e ∙ first-last number)
-
 -- ---- from a file to its plan
+
+-- the plan in the arrays meets no refusal
+pub loaded-valid : (b links words : List ℕ) → Loaded b links words → (h : Header) → h ≡ headerOf b → planRefusal (planOfLists h links words) ≡ 0
+loaded-valid b links words l h e = subst (λ (x : Header). planRefusal (planOfLists x links words) ≡ 0) (sym e) (l .valid)
 
 module _ (b : List ℕ) (room v w : ℕ) where
   -- what the bounds of the pair promise
@@ -62,26 +53,24 @@ module _ (b : List ℕ) (room v w : ℕ) where
   file-refused n h e =
       let r = reading-refused (refusal b) n h e in
       let is : n ≡ hostRefusal b room v w = stop _ (r .0) (r .1) in
-      (pair-refuses n (hostRefusal b room v w) (boundsOf intact (planOf b) v w) is (r .1), λ z. absurd (r .1 (is ∙ z)))
+      (refuses paired.Refused (paired.Done (boundsOf intact (planOf b) v w)) is (r .1), λ z. absurd (r .1 (is ∙ z)))
 
   module _ (links words : List ℕ) (z : refusal b ≡ 0) (l : Loaded b links words) where
-    same-number : first (roomTest room 16 ∷ pairRefusal (headerOf b) 256 128 links words v w ∷ []) ≡ hostRefusal b room v w
-    unfolding hostRefusal pairRefusal headerOf
-    same-number =
-        ap (λ (n : ℕ). first (roomTest room 16 ∷ n ∷ [])) (first-skip _ _ (l .accepted) ∙ first-last _)
-        ∙ sym (first-skip _ _ z)
+    same-number : first (roomTest room 16 ∷ pairTest (headerOf b .nodes) v w ∷ []) ≡ hostRefusal b room v w
+    unfolding hostRefusal headerOf
+    same-number = sym (first-skip _ _ z)
 
     valid : planRefusal (planOf b) ≡ 0
-    valid = subst (λ (p : Plan). planRefusal p ≡ 0) (l .denoted) (lists-denote (headerOf b) 256 128 links words (l .accepted))
+    valid = subst (λ (p : Plan). planRefusal p ≡ 0) (l .denoted) (l .valid)
 
     -- a file that is accepted
     pub file-told : (h : Header) → h ≡ headerOf b → (r : Paired)
-        → r ≡ pairAnswer (first (roomTest room 16 ∷ pairRefusal h 256 128 links words v w ∷ [])) (boundsOf intact (planOfLists h links words) v w)
+        → r ≡ pairAnswer (first (roomTest room 16 ∷ pairTest (h .nodes) v w ∷ [])) (boundsOf intact (planOfLists h links words) v w)
         → HostPromised r
     file-told h x r f =
         let e =
         subst
-        (λ (y : Header). r ≡ pairAnswer (first (roomTest room 16 ∷ pairRefusal y 256 128 links words v w ∷ [])) (boundsOf intact (planOfLists y links words) v w))
+        (λ (y : Header). r ≡ pairAnswer (first (roomTest room 16 ∷ pairTest (y .nodes) v w ∷ [])) (boundsOf intact (planOfLists y links words) v w))
         x
         f in
         let is : r ≡ pairAnswer (hostRefusal b room v w) (boundsOf intact (planOf b) v w) =

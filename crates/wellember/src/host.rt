@@ -11,25 +11,31 @@ ghost use lib.Seq.{sets};
 ghost use Rattle.mass.specs.Refusal.{first};
 ghost use Rattle.refusals.specs.Tests.{roomTest};
 ghost use Rattle.plan.specs.File.{refusal, planOf};
-ghost use Rattle.plan.specs.LentLists.{planOfLists};
+ghost use Rattle.plan.specs.LentLists.{planRefusal, planOfLists};
 ghost use Rattle.plan.specs.Calls.{filled};
 ghost use Rattle.network.specs.Outage.{intact};
 ghost use Rattle.walk.specs.Walk.{count};
+ghost use Rattle.pairs.specs.Pairs.{pairTest};
 ghost use Rattle.bounds.specs.Bounds.{lowerOf, upperOf, Encloses};
-ghost use Rattle.bounds.specs.Calls.{pairRefusal, pairAnswer, boundsOf, boundsIn};
+ghost use Rattle.bounds.specs.Calls.{pairAnswer, boundsOf, boundsIn};
 ghost use Rattle.wellember.specs.Host.{hostRefusal, sixteen, lowerIn, upperIn};
 
-// The bounds of one pair of a plan in arrays, where the buffer has `room` bytes: 12, then 13.
+// The bounds of one pair of an accepted plan in arrays, where the buffer has `room` bytes: 12, then 13.
 fn pair_in(h: Header, room: usize, links: &[u8; 256], words: &[u64; 512], v: u64, w: u64) -> Paired
+    requires { ⌜ planRefusal (planOfLists h (now links) (now words)) ≡ 0 ⌝ }
     ensures { λ r. ⌜ r ≡ pairAnswer
-        (first (roomTest room 16 ∷ pairRefusal h 256 128 (now (links .entry)) (now (words .entry)) v w ∷ []))
+        (first (roomTest room 16 ∷ pairTest (h .nodes) v w ∷ []))
         (boundsOf intact (planOfLists h (now (links .entry)) (now (words .entry))) v w) ⌝ }
 {
-    let short = refusals::room_test(room, 16);
-    if short != 0 {
-        return Paired::Refused(short);
+    let tests = [
+        refusals::room_test(room, 16),
+        pairs::pair_test(h.nodes, v, w),
+    ];
+    let number = refusals::first_of(&tests);
+    if number != 0 {
+        return Paired::Refused(number);
     }
-    bounds::pair(h, links, words, v, w)
+    Paired::Done(bounds::pair_in(h, links, words, v as usize, w as usize))
 }
 
 // The bounds of one pair of a plan file, where the buffer has `room` bytes.

@@ -8,9 +8,10 @@ use native.Mathlib.Nat.{add-zero}
 use native.Mathlib.Omega.{arith}
 use lib.ListN.{drop}
 use lib.Seq.{getD-drop, drop-drop}
-use Rattle.refusals.proofs.OrderLaws.{stop, skip, last}
+use Rattle.mass.specs.Refusal.{first, each}
+use Rattle.refusals.proofs.OrderLaws.{stop, skip}
 use Rattle.network.specs.Outage.{Outage, intact, beside}
-use Rattle.windows.specs.Windows.{Window, windowAt, windowsOf, holds, withWindow, outAt, windowTest, windowListRefusal}
+use Rattle.windows.specs.Windows.{Window, windowAt, windowsOf, holds, withWindow, outAt, windowTest}
 
 less-one : (k : ℕ) → suc k - 1 ≡ k
 less-one k = omega arith
@@ -27,19 +28,17 @@ windows-next words at (suc left) h = simp (getD-drop, drop-drop, add-zero, less-
 -- the next window decides, or leaves it to the others
 module _ (nodes links : ℕ) (words : List ℕ) (at left : ℕ) (some : 0 < left) where
   pub window-decides : (r : ℕ) → r ≡ windowTest nodes links (windowAt words at) → (r ≡ 0 → ⊥)
-      → r ≡ windowListRefusal nodes links (windowsOf left (drop at words))
-  unfolding windowListRefusal
+      → r ≡ each (windowTest nodes links) (windowsOf left (drop at words))
   window-decides r e n = rw (windows-next words at left some) (stop _ e n)
 
   pub window-passes : (r : ℕ) → r ≡ windowTest nodes links (windowAt words at) → r ≡ 0
-      → windowListRefusal nodes links (windowsOf (left - 1) (drop (at + 5) words))
-      ≡ windowListRefusal nodes links (windowsOf left (drop at words))
-  unfolding windowListRefusal
-  window-passes r e z = rw (windows-next words at left some) (skip _ e z (last refl))
+      → each (windowTest nodes links) (windowsOf (left - 1) (drop (at + 5) words))
+      ≡ each (windowTest nodes links) (windowsOf left (drop at words))
+  window-passes r e z = rw (windows-next words at left some) (skip _ e z refl)
 
 -- no window is left, and none is refused
-pub windows-end : (nodes links left : ℕ) (words : List ℕ) → left ≤ 0 → 0 ≡ windowListRefusal nodes links (windowsOf left words)
-unfolding windowListRefusal windowsOf
+pub windows-end : (nodes links left : ℕ) (words : List ℕ) → left ≤ 0 → 0 ≡ each (windowTest nodes links) (windowsOf left words)
+unfolding windowsOf first
 windows-end nodes links zero words h = refl
 windows-end nodes links (suc left) words h = absurd (omega arith)
 

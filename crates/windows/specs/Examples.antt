@@ -5,7 +5,7 @@ use mathlib.Core.List.{List, [], _∷_}
 use Prim.Native.Nat.{ℕ}
 use Rattle.mass.specs.Refusal.{first}
 use Rattle.network.specs.Outage.{Outage, intact}
-use Rattle.windows.specs.Windows.{windowsOf, outAt, takenOut, windowListRefusal, workRefusal}
+use Rattle.windows.specs.Windows.{windowsOf, outAt, takenOut, workRefusal}
 
 abbrev out : ℕ → ℕ → Outage
 out nodes links = record { nodes = nodes; links = links }
@@ -37,5 +37,5 @@ example-refused : (refused (0 ∷ 10080 ∷ 3 ∷ 1 ∷ 0 ∷ []) 10079 ≡ 0) �
     × (refused (7 ∷ 7 ∷ 0 ∷ 0 ∷ 0 ∷ []) 0 ≡ 21) × (refused (0 ∷ 10081 ∷ 0 ∷ 0 ∷ 0 ∷ []) 0 ≡ 21)
     × (refused (0 ∷ 1 ∷ 4 ∷ 0 ∷ 0 ∷ []) 0 ≡ 21) × (refused (0 ∷ 1 ∷ 0 ∷ 2 ∷ 0 ∷ []) 0 ≡ 21)
     × (refused (0 ∷ 1 ∷ 3 ∷ 1 ∷ 0 ∷ 7 ∷ 7 ∷ 0 ∷ 0 ∷ 0 ∷ []) 10080 ≡ 21) × (refused [] 10080 ≡ 22)
-unfolding workRefusal windowListRefusal windowsOf first
+unfolding workRefusal windowsOf first
 example-refused = (refl, refl, refl, refl, refl, refl, refl, refl, refl, refl)

@@ -1,13 +1,12 @@
 -- Planned work by the week: document 02, request U7. What is out at a minute of the week, beside any plan.
 -- Assumes nothing.
-use mathlib.Core.Bool.{Bool, cond, _&&_, _||_}
+use mathlib.Core.Bool.{Bool, cond, not, _&&_, _||_}
 use mathlib.Core.List.{List, [], _∷_}
-use Prim.Native.Nat.{ℕ, zero, suc, _+_, _*_, _/_, _^_}
-use lib.Dec.{leb, ltb}
+use Prim.Native.Nat.{ℕ, zero, suc, _+_, _/_, _%_, _^_}
+use lib.Dec.{leb, ltb, eqb}
 use lib.ListN.{length, getD, drop}
-use Rattle.mass.specs.Refusal.{refuse, first}
+use Rattle.mass.specs.Refusal.{refuse, first, each}
 use Rattle.sets.specs.Sets.{joined}
-use Rattle.refusals.specs.Tests.{roomTest}
 use Rattle.network.specs.Outage.{Outage, intact, beside}
 
 -- a window: the minutes from `start` up to, but not with, `end`, "with a set of nodes and links taken out"
@@ -60,17 +59,12 @@ windowTest nodes links w =
 abbrev pub minuteTest : ℕ → ℕ
 minuteTest minute = refuse (ltb 10079 minute) 22
 
--- each window, 21, "tested in list order"
-unfoldable pub windowListRefusal : ℕ → ℕ → List Window → ℕ
-windowListRefusal nodes links [] = 0
-windowListRefusal nodes links (w ∷ later) = first (windowTest nodes links w ∷ windowListRefusal nodes links later ∷ [])
-
--- 12 where the list is too short for the window that its last words begin: its whole windows have fewer words than it; then each window,
--- 21; then 22
+-- 12 for words that make no whole window, so that the list is too short for the last one; then each window, 21, "tested in list order";
+-- then 22
 unfoldable pub workRefusal : ℕ → ℕ → List ℕ → ℕ → ℕ
 workRefusal nodes links words minute =
     first
-    (roomTest (5 * (length words / 5)) (length words)
-    ∷ windowListRefusal nodes links (windowsIn words)
+    (refuse (not (eqb (length words % 5) 0)) 12
+    ∷ each (windowTest nodes links) (windowsIn words)
     ∷ minuteTest minute
     ∷ [])

@@ -3,13 +3,14 @@
 // Assumes nothing.
 use network::Failed;
 ghost use mathlib.Core.Path.{_≡_};
-ghost use mathlib.Core.Bool.{_&&_};
-ghost use Prim.Native.Nat.{_+_, _*_, _≤_};
-ghost use lib.Dec.{leb, ltb};
+ghost use mathlib.Core.Bool.{not, _&&_};
+ghost use Prim.Native.Nat.{_+_, _*_, _%_, _≤_};
+ghost use lib.Dec.{leb, ltb, eqb};
 ghost use lib.ListN.{length};
+ghost use Rattle.mass.specs.Refusal.{refuse, each};
 ghost use Rattle.network.specs.Code.{outage};
 ghost use Rattle.windows.specs.Windows.{windowOf, windowAt, windowsOf, withWindow, takenOut};
-ghost use Rattle.windows.specs.Windows.{windowTest, minuteTest, windowListRefusal, workRefusal};
+ghost use Rattle.windows.specs.Windows.{windowTest, minuteTest, workRefusal};
 
 // 21: the window breaks its range, or names a node or link that is not there.
 fn window_test(nodes: u64, links: u64, start: u64, end: u64, set: u64, low: u64, high: u64) -> u32
@@ -41,10 +42,20 @@ fn minute_test(minute: u64) -> u32
     0
 }
 
+// 12: of so many words some are left over, which make no whole window.
+fn tail_test(words: usize) -> u32
+    ensures { λ r. ⌜ r ≡ refuse (not (eqb (words % 5) 0)) 12 ⌝ }
+{
+    if words % 5 != 0 {
+        return 12;
+    }
+    0
+}
+
 // Each window, 21.
 fn window_list_refusal(words: &[u64], count: usize, nodes: u64, links: u64) -> u32
     requires { ⌜ (5 * count ≤ length (now words)) × ((nodes ≤ 64) × (links ≤ 128)) ⌝ }
-    ensures { λ r. ⌜ r ≡ windowListRefusal nodes links (windowsOf count (now (words .entry))) ⌝ }
+    ensures { λ r. ⌜ r ≡ each (windowTest nodes links) (windowsOf count (now (words .entry))) ⌝ }
 {
     let mut at = 0;
     let mut left = count;
@@ -73,16 +84,12 @@ pub fn work_refusal(nodes: u64, links: u64, words: &[u64], minute: u64) -> u32
     requires { ⌜ (nodes ≤ 64) × (links ≤ 128) ⌝ }
     ensures { λ r. ⌜ r ≡ workRefusal nodes links (now (words .entry)) minute ⌝ }
 {
-    let count = words.len() / 5;
-    let tail = refusals::room_test(5 * count, words.len());
-    if tail != 0 {
-        return tail;
-    }
-    let wrong = window_list_refusal(words, count, nodes, links);
-    if wrong != 0 {
-        return wrong;
-    }
-    minute_test(minute)
+    let tests = [
+        tail_test(words.len()),
+        window_list_refusal(words, words.len() / 5, nodes, links),
+        minute_test(minute),
+    ];
+    refusals::first_of(&tests)
 }
 
 // Whether the minutes from `start` up to `end` hold a minute.

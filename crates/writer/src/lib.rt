@@ -1,7 +1,7 @@
 // Writing a plan file from a header and lent lists: document 01, section "Plan file". All tests are made before the first byte is laid
 // down, so that a refusal changes nothing.
 // Assumes nothing.
-use lent::accept;
+use lent::lists_refusal;
 use lent::put_bytes;
 use plan::Header;
 use plan::Writing;
@@ -15,8 +15,8 @@ ghost use lib.ListN.{length};
 ghost use lib.Seq.{sets};
 ghost use Rattle.plan.specs.Lists.{eventOf, eventsOf};
 ghost use Rattle.plan.specs.Layout.{little, elements, memberBytes, eventBytes, layout};
-ghost use Rattle.plan.specs.LentLists.{planOfLists};
-ghost use Rattle.plan.specs.Calls.{filled, writeNumber, writeAnswer};
+ghost use Rattle.plan.specs.LentLists.{planOfLists, inWords};
+ghost use Rattle.plan.specs.Calls.{filled, writeNumber, writeAnswer, writtenNumber};
 
 // Lays down a number in `width` bytes, the lowest byte first.
 pub fn put_number(out: &mut [u8], at: usize, width: usize, x: u64)
@@ -140,23 +140,20 @@ fn put_plan(h: Header, links: &[u8], words: &[u64], out: &mut [u8])
 // Writes a plan from lent lists: links two bytes each, events four words each. All tests, then its bytes.
 pub fn write(h: Header, links: &[u8], events: &[u64], out: &mut [u8]) -> Writing
     ensures { λ r. ⌜ r ≡ writeAnswer
-        (writeNumber h (now (links .entry)) (now (events .entry)) (now (out .entry)))
+        (writeNumber (inWords h (now (links .entry)) (now (events .entry))) (length (now (out .entry))))
         (length (layout (planOfLists h (now (links .entry)) (now (events .entry))))) ⌝ }
-    ensures { λ r. ⌜ now (out .exit) ≡ filled
-        (writeNumber h (now (links .entry)) (now (events .entry)) (now (out .entry)))
+    ensures { λ r. ⌜ now (out .exit) ≡ filled (writtenNumber r)
         (layout (planOfLists h (now (links .entry)) (now (events .entry)))) (now (out .entry)) ⌝ }
 {
-    let mut bytes = [0u8; 256];
-    let mut words = [0u64; 512];
-    let number = accept(h, links, events, &mut bytes, &mut words);
+    let number = lists_refusal(h, links, events);
     if number != 0 {
         return Writing::Refused(number);
     }
-    let size = 20 + 2 * (h.links as usize) + events_size(&words, h.events);
+    let size = 20 + 2 * (h.links as usize) + events_size(events, h.events);
     let short = room_test(out.len(), size);
     if short != 0 {
         return Writing::Refused(short);
     }
-    put_plan(h, &bytes, &words, out);
+    put_plan(h, links, events, out);
     Writing::Written(size)
 }

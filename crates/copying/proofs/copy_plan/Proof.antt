@@ -51,7 +51,7 @@ use Rattle.plan.specs.Lists.{linkBytes}
 use Rattle.plan.specs.Layout.{layout, Bytes}
 use Rattle.plan.specs.File.{planOf}
 use Rattle.plan.specs.LentLists.{planOfLists}
-use Rattle.plan.specs.Calls.{filled, headerOf, headerIn, readRefusal, readAnswer, writeRefusal, writeAnswer}
+use Rattle.plan.specs.Calls.{filled, headerOf, headerIn, readNumber, readAnswer, writeNumber, writeAnswer, writtenNumber}
 use Rattle.plan.specs.declared.Header.{Header}
 use Rattle.plan.specs.declared.Reading.{Reading}
 use Rattle.plan.specs.declared.Writing.{Writing}
@@ -65,14 +65,14 @@ use Rattle.files.proofs.header_in as head
 use Rattle.files.proofs.header_in.Symbol as head-def
 use Rattle.files.proofs.header_in.Symbol.{name as #head}
 use Rattle.files.proofs.header_in.Met as head-thm
-use Rattle.records.specs.Events.{wordsOf}
+use Rattle.records.specs.Events.{wordsOf, inRecords}
 use Rattle.reader.specs.Filled.{eventRecords, filledRecords}
-use Rattle.copying.specs.Copying.{copyRefusal, copyAnswer}
+use Rattle.copying.specs.Copying.{copyAnswer}
 use Rattle.records.specs.declared.Event.{Event}
 use Rattle.records.proofs.EventRow.{E, event, event-vals, event-tells, event-lawful}
 use Rattle.records.proofs.Lending.{array-lies, lends-mut, back-mut, Kept, lends-imm, back-imm, says2}
 use Rattle.reader.proofs.WholeLists.{no-links, no-events}
-use Rattle.copying.proofs.CopyLaws.{copied-plan}
+use Rattle.copying.proofs.CopyLaws.{Copied, copied-plan}
 use Rattle.reader.proofs.Arrays.{Bytes′, Events′, links-val, events-val, links-room, events-room, links-own, events-own, row-bytes}
 use Rattle.reader.proofs.read_records as reads
 use Rattle.reader.proofs.read_records.Symbol as reads-def
@@ -136,19 +136,19 @@ module _ {M : Type 1} (𝓤 : URA M) (H : Heap 𝓤) (A : Atoms 𝓤) (W : Given
 
   -- what the contract of `read_records` says, and that of `write_records` at a header and lists
   abbrev answered : Reading
-  answered = readAnswer (readRefusal 256 128 (s .now)) (headerOf (s .now))
+  answered = readAnswer (readNumber 256 128 (s .now)) (headerOf (s .now))
 
   abbrev links-left : List ℕ
-  links-left = filled (readRefusal 256 128 (s .now)) (linkBytes ((planOf (s .now)) .links)) no-links
+  links-left = filled (readNumber 256 128 (s .now)) (linkBytes ((planOf (s .now)) .links)) no-links
 
   abbrev records-left : List Event
-  records-left = filledRecords (readRefusal 256 128 (s .now)) (eventRecords ((planOf (s .now)) .events)) no-events
+  records-left = filledRecords (readNumber 256 128 (s .now)) (eventRecords ((planOf (s .now)) .events)) no-events
 
   abbrev told : Header → List ℕ → List Event → Writing
-  told h ks es = writeAnswer (writeRefusal h (length ks) (length es) ks (wordsOf es) (length us)) (length (layout (planOfLists h ks (wordsOf es))))
+  told h ks es = writeAnswer (writeNumber (inRecords h ks es) (length us)) (length (layout (planOfLists h ks (wordsOf es))))
 
-  abbrev laid : Header → List ℕ → List Event → List ℕ
-  laid h ks es = filled (writeRefusal h (length ks) (length es) ks (wordsOf es) (length us)) (layout (planOfLists h ks (wordsOf es))) us
+  abbrev laid : Header → List ℕ → List Event → Writing → List ℕ
+  laid h ks es r = filled (writtenNumber r) (layout (planOfLists h ks (wordsOf es))) us
 
   -- the call of `read_records`
   abbrev to-read : ℕ → ℕ → ℕ → ℕ → GName → GName → Reads 𝓤 H A mem″ run .Ghost
@@ -211,7 +211,7 @@ module _ {M : Type 1} (𝓤 : URA M) (H : Heap 𝓤) (A : Atoms 𝓤) (W : Given
   answer-said r d t = exE 𝓤 _ (λ zs. snd∗ 𝓤 (sem 𝓤 H A (lasts answer-of.ended tt (r, (d, tt)) zs)) (fact 𝓤 (t ≡ copyAnswer r d)))
 
   exits : (t : Writing) (u : Val) (left : List ℕ) → length left ≡ length us
-      → (t ≡ writeAnswer (copyRefusal (s .now) (length us)) (length (s .now))) × (left ≡ filled (copyRefusal (s .now) (length us)) (s .now) us)
+      → Copied (s .now) us left t
       → ent 𝓤 (⋆ 𝓤 H A (‵ (flft κ₀ q₀) ∷ ‵ (flft κ₁ q₁) ∷ ‵ OwnS ∷ ‵ (finally u8 γ₁ left) ∷ ‵ (O.the-row .own t (u ∷ [])) ∷ [])) (Post u)
   exits t u left len said =
       qed W (‵ (flft κ₀ q₀) ∷ ‵ (flft κ₁ q₁) ∷ ‵ OwnS ∷ ‵ (finally u8 γ₁ left) ∷ ‵ (O.the-row .own t (u ∷ [])) ∷ []) ∵
@@ -224,7 +224,8 @@ module _ {M : Type 1} (𝓤 : URA M) (H : Heap 𝓤) (A : Atoms 𝓤) (W : Given
     walk =
         qed W ((‵ (flft κ₀ q₀) ⊛ (‵ (flft κ₁ q₁) ⊛ ‵ ftrue)) ∷ ‵ (owns (ShrSlice (named 0) κ₀ u8 ∷ MutSlice (named 1) κ₁ u8 ∷ []) a at) ∷ []) ∵
         enter ! C Λ code.function (sliceVal (s .ptr) (length (s .now)) ∷ sliceVal (b₁, o₁) (length us) ∷ []) _ $
-        alloc1 ! (λ l₀. alloc1 ! (λ l₁. alloc1 ! (λ l₂. alloc1 ! (λ l₃. alloc1 ! (λ l₄. alloc1 ! (λ l₅. alloc1 ! (λ l₆. alloc1 ! (λ l₇. alloc1 ! (λ l₈. alloc1 ! (λ l₉. alloc1 ! (λ l₁₀. alloc1 ! (λ l₁₁. alloc1 ! (λ l₁₂. alloc1 ! (λ l₁₃. alloc1 ! (λ l₁₄. alloc1 ! (λ l₁₅. alloc1 ! (λ l₁₆. alloc1 ! (λ l₁₇. alloc1 ! (λ l₁₈. alloc0 ! $ params1 ! $
+        alloc1 ! (λ l₀. alloc1 ! (λ l₁. alloc1 ! (λ l₂. alloc1 ! (λ l₃. alloc1 ! (λ l₄. alloc1 ! (λ l₅. alloc1 ! (λ l₆. alloc1 ! (λ l₇. alloc1 ! (λ l₈. alloc1 ! (λ l₉. alloc1 ! (λ l₁₀.
+        alloc1 ! (λ l₁₁. alloc1 ! (λ l₁₂. alloc1 ! (λ l₁₃. alloc1 ! (λ l₁₄. alloc1 ! (λ l₁₅. alloc1 ! (λ l₁₆. alloc1 ! (λ l₁₇. alloc1 ! (λ l₁₈. alloc0 ! $ params1 ! $
         pass1 ! (init ! 34 refl (tt, (tt, (record { fits = s-room .0 }, tt)))) $ pass1 ! (init ! 32 refl (tt, (tt, (record { fits = u-room .0 }, tt)))) $ pass0 ! $ move ! (38 ∷ []) $ split ! $ move ! (1 ∷ []) $
         split ! $ move ! (41 ∷ []) $ fsplit ! $ move ! (1 ∷ []) $ fsplit ! $
         -- the file is a list of bytes
@@ -253,8 +254,10 @@ module _ {M : Type 1} (𝓤 : URA M) (H : Heap 𝓤) (A : Atoms 𝓤) (W : Given
         join ! $ nothing ! $ move ! (4 ∷ 0 ∷ []) $ fjoin ! $ move ! (5 ∷ 0 ∷ []) $ fjoin ! $ move ! (2 ∷ 0 ∷ []) $ fjoin ! $ move ! (1 ∷ 0 ∷ []) $
         use2 W (raw (Reads 𝓤 H A mem″ run .pre (to-read l₃ l₄ ν ν′ δ δ′))) (asked-read l₃ l₄ ν ν′ δ δ′) $
         calls-at ! fm (Reads 𝓤 H A mem″ run) known-read (to-read l₃ l₄ ν ν′ δ δ′) (and-then ! (load ! (from ! (stop !)) (look ! 43 refl)) (and-then ! (load ! (from ! (stop !)) (look ! 27 refl)) (and-then ! (load ! (from ! (stop !)) (look ! 23 refl)) (no-more !)))) (λ u.
-        use1 W (later (some (λ (r : Reading). ((‵ (flft κ₀ q₀) ⊛ (‵ (flft (ν ∷ []) fullShare) ⊛ (‵ (flft (ν′ ∷ []) fullShare) ⊛ ‵ ftrue))) ⊛ ‵ (R.the-row .own r (u ∷ []))) ⊛ raw (ensured 𝓤 H A reads.ended (reads.clauses 𝓤 H A mem″ run) (κ₀, (ν ∷ [], (ν′ ∷ [], tt))) ((to-read l₃ l₄ ν ν′ δ δ′) .0 .3) tt r)))) (id⊢ 𝓤 _) $ await ! tt $ pick ! (λ r.
-        split ! $ move ! (1 ∷ []) $ use1 W (some (λ (zs : Unit {0} × (List ℕ × (List Event × Unit {0}))). ‵ (lasts reads.ended (κ₀, (ν ∷ [], (ν′ ∷ [], tt))) ((to-read l₃ l₄ ν ν′ δ δ′) .0 .3) zs) ⊛ (raw (fact 𝓤 (r ≡ answered)) ⊛ (raw (fact 𝓤 (zs .1 .0 ≡ links-left)) ⊛ raw (fact 𝓤 (zs .1 .1 .0 ≡ records-left)))))) (id⊢ 𝓤 _) $ pick ! (λ zs. split ! $ move ! (1 ∷ []) $
+        use1 W (later (some (λ (r : Reading). ((‵ (flft κ₀ q₀) ⊛ (‵ (flft (ν ∷ []) fullShare) ⊛ (‵ (flft (ν′ ∷ []) fullShare) ⊛ ‵ ftrue))) ⊛ ‵ (R.the-row .own r (u ∷ [])))
+        ⊛ raw (ensured 𝓤 H A reads.ended (reads.clauses 𝓤 H A mem″ run) (κ₀, (ν ∷ [], (ν′ ∷ [], tt))) ((to-read l₃ l₄ ν ν′ δ δ′) .0 .3) tt r)))) (id⊢ 𝓤 _) $ await ! tt $ pick ! (λ r.
+        split ! $ move ! (1 ∷ []) $ use1 W (some (λ (zs : Unit {0} × (List ℕ × (List Event × Unit {0}))). ‵ (lasts reads.ended (κ₀, (ν ∷ [], (ν′ ∷ [], tt))) ((to-read l₃ l₄ ν ν′ δ δ′) .0 .3) zs)
+        ⊛ (raw (fact 𝓤 (r ≡ answered)) ⊛ (raw (fact 𝓤 (zs .1 .0 ≡ links-left)) ⊛ raw (fact 𝓤 (zs .1 .1 .0 ≡ records-left)))))) (id⊢ 𝓤 _) $ pick ! (λ zs. split ! $ move ! (1 ∷ []) $
         split ! $ heard ! (r ≡ answered) (λ e₁. split ! $ heard ! (zs .1 .0 ≡ links-left) (λ e₂. heard ! (zs .1 .1 .0 ≡ records-left) (λ e₃. fsplit ! $ move ! (1 ∷ []) $ fsplit ! $ fsplit ! $ move ! (2 ∷ []) $
         fsplit ! $ fsplit ! $ move ! (4 ∷ []) $ feqL ! (λ len₁. move ! (1 ∷ []) $ feqL ! (λ len₂. move ! (4 ∷ []) $ split ! $ move ! (1 ∷ []) $ peeks ! R.the-row (Is R.the-row) (shows 𝓤 H A R.the-row) r (u ∷ []) (λ is.
         land ! (from ! (stop !)) (init ! 42 refl (EL.lawful R.the-type R′.the-laws 𝓤 H A W tt .typed r _ is .0)) $ move ! (1 ∷ []) $ split ! $ move ! (1 ∷ []) $ split ! $ move ! (1 ∷ []) $ split ! $ move ! (2 ∷ []) $
@@ -274,16 +277,25 @@ module _ {M : Type 1} (𝓤 : URA M) (H : Heap 𝓤) (A : Atoms 𝓤) (W : Given
         assigns ! (agg ! (and-then ! (load ! (from ! (stop !)) (look ! 18 refl)) (and-then ! (load ! (from ! (fld ! refl (stop !))) (look-in ! 46 (sub ! 1 refl (whole !)))) (no-more !)))) (from ! (stop !)) (init ! 16 refl (tt, (tt, (record { fits = u-room .0 }, tt)))) $
         -- the arrays are lent by `&` to `write_records`, for lifetimes of the call; the output is given up for good
         lft-new ! tt (λ μ. lft-new ! tt (λ μ′. move ! (5 ∷ []) $
-        use1 W (later (some (λ (ε : GName). ‵ (ShrSlice (named 0) (μ ∷ []) u8 .own (x l₃ ε (zs .1 .0)) (sliceVal (l₃, 0) 256 ∷ [])) ⊛ ‵ (flent (μ ∷ []) (Kept 𝓤 H A W u8 256 tt (named 0) (μ ∷ []) l₃ (zs .1 .0)))))) (lends-imm 𝓤 H A W u8 256 tt (named 0) (μ ∷ []) l₃ (zs .1 .0) links-room) $ await ! tt $ pick ! (λ ε. split ! $
+        use1 W (later (some (λ (ε : GName). ‵ (ShrSlice (named 0) (μ ∷ []) u8 .own (x l₃ ε (zs .1 .0)) (sliceVal (l₃, 0) 256 ∷ []))
+        ⊛ ‵ (flent (μ ∷ []) (Kept 𝓤 H A W u8 256 tt (named 0) (μ ∷ []) l₃ (zs .1 .0)))))) (lends-imm 𝓤 H A W u8 256 tt (named 0) (μ ∷ []) l₃ (zs .1 .0) links-room) $ await ! tt $
+        pick ! (λ ε. split ! $
         move ! (6 ∷ []) $
-        use1 W (later (some (λ (ε′ : GName). ‵ (ShrSlice (named 1) (μ′ ∷ []) E .own (y l₄ ε′ (zs .1 .1 .0)) (sliceVal (l₄, 0) 128 ∷ [])) ⊛ ‵ (flent (μ′ ∷ []) (Kept 𝓤 H A W E 128 tt (named 1) (μ′ ∷ []) l₄ (zs .1 .1 .0)))))) (lends-imm 𝓤 H A W E 128 tt (named 1) (μ′ ∷ []) l₄ (zs .1 .1 .0) events-room) $ await ! tt $ pick ! (λ ε′. split ! $
+        use1 W (later (some (λ (ε′ : GName). ‵ (ShrSlice (named 1) (μ′ ∷ []) E .own (y l₄ ε′ (zs .1 .1 .0)) (sliceVal (l₄, 0) 128 ∷ []))
+        ⊛ ‵ (flent (μ′ ∷ []) (Kept 𝓤 H A W E 128 tt (named 1) (μ′ ∷ []) l₄ (zs .1 .1 .0)))))) (lends-imm 𝓤 H A W E 128 tt (named 1) (μ′ ∷ []) l₄ (zs .1 .1 .0) events-room) $ await ! tt $
+        pick ! (λ ε′. split ! $
         nothing ! $ move ! (19 ∷ 0 ∷ []) $ join ! $ move ! (5 ∷ 0 ∷ []) $ join ! $ move ! (5 ∷ 0 ∷ []) $ join ! $ nothing ! $ move ! (16 ∷ 0 ∷ []) $ fjoin ! $ move ! (2 ∷ 0 ∷ []) $ fjoin ! $ move ! (3 ∷ 0 ∷ []) $
         fjoin ! $ move ! (4 ∷ 0 ∷ []) $ fjoin ! $ move ! (1 ∷ 0 ∷ []) $
         use2 W (raw (Writes 𝓤 H A mem″ run .pre (to-write l₃ l₄ μ μ′ ε ε′ h w (zs .1 .0) (zs .1 .1 .0)))) (asked-write l₃ l₄ μ μ′ ε ε′ h w (zs .1 .0) (zs .1 .1 .0)) $
-        calls-at ! fm (Writes 𝓤 H A mem″ run) known-write (to-write l₃ l₄ μ μ′ ε ε′ h w (zs .1 .0) (zs .1 .1 .0)) (and-then ! (load ! (from ! (stop !)) (look ! 38 refl)) (and-then ! (load ! (from ! (stop !)) (look ! 22 refl)) (and-then ! (load ! (from ! (stop !)) (look ! 18 refl)) (and-then ! (load ! (from ! (stop !)) (look ! 14 refl)) (no-more !))))) (λ w′.
-        use1 W (later (some (λ (d : Writing). ((‵ (flft (μ ∷ []) fullShare) ⊛ (‵ (flft (μ′ ∷ []) fullShare) ⊛ (‵ (flft κ₁ q₁) ⊛ ‵ ftrue))) ⊛ ‵ (O.the-row .own d (w′ ∷ []))) ⊛ raw (ensured 𝓤 H A writes.ended (writes.clauses 𝓤 H A mem″ run) (μ ∷ [], (μ′ ∷ [], (κ₁, tt))) ((to-write l₃ l₄ μ μ′ ε ε′ h w (zs .1 .0) (zs .1 .1 .0)) .0 .3) tt d)))) (id⊢ 𝓤 _) $ await ! tt $ pick ! (λ d.
-        split ! $ move ! (1 ∷ []) $ use1 W (some (λ (vs : Unit {0} × (Unit {0} × (Unit {0} × (List ℕ × Unit {0})))). ‵ (lasts writes.ended (μ ∷ [], (μ′ ∷ [], (κ₁, tt))) ((to-write l₃ l₄ μ μ′ ε ε′ h w (zs .1 .0) (zs .1 .1 .0)) .0 .3) vs) ⊛ (raw (fact 𝓤 (d ≡ told h (zs .1 .0) (zs .1 .1 .0))) ⊛ raw (fact 𝓤 (vs .1 .1 .1 .0 ≡ laid h (zs .1 .0) (zs .1 .1 .0)))))) (id⊢ 𝓤 _) $ pick ! (λ vs. split ! $ move ! (1 ∷ []) $
-        split ! $ heard ! (d ≡ told h (zs .1 .0) (zs .1 .1 .0)) (λ e₅. heard ! (vs .1 .1 .1 .0 ≡ laid h (zs .1 .0) (zs .1 .1 .0)) (λ e₆. fsplit ! $ move ! (1 ∷ []) $ fsplit ! $ move ! (1 ∷ []) $ fsplit ! $
+        calls-at ! fm (Writes 𝓤 H A mem″ run) known-write (to-write l₃ l₄ μ μ′ ε ε′ h w (zs .1 .0) (zs .1 .1 .0)) (and-then ! (load ! (from ! (stop !)) (look ! 38 refl))
+        (and-then ! (load ! (from ! (stop !)) (look ! 22 refl)) (and-then ! (load ! (from ! (stop !)) (look ! 18 refl)) (and-then ! (load ! (from ! (stop !)) (look ! 14 refl)) (no-more !))))) (λ w′.
+        use1 W (later (some (λ (d : Writing). ((‵ (flft (μ ∷ []) fullShare) ⊛ (‵ (flft (μ′ ∷ []) fullShare) ⊛ (‵ (flft κ₁ q₁) ⊛ ‵ ftrue))) ⊛ ‵ (O.the-row .own d (w′ ∷ [])))
+        ⊛ raw (ensured 𝓤 H A writes.ended (writes.clauses 𝓤 H A mem″ run) (μ ∷ [], (μ′ ∷ [], (κ₁, tt))) ((to-write l₃ l₄ μ μ′ ε ε′ h w (zs .1 .0) (zs .1 .1 .0)) .0 .3) tt d)))) (id⊢ 𝓤 _) $
+        await ! tt $ pick ! (λ d.
+        split ! $ move ! (1 ∷ []) $ use1 W (some (λ (vs : Unit {0} × (Unit {0} × (Unit {0} × (List ℕ × Unit {0})))).
+        ‵ (lasts writes.ended (μ ∷ [], (μ′ ∷ [], (κ₁, tt))) ((to-write l₃ l₄ μ μ′ ε ε′ h w (zs .1 .0) (zs .1 .1 .0)) .0 .3) vs) ⊛ (raw (fact 𝓤 (d ≡ told h (zs .1 .0) (zs .1 .1 .0)))
+        ⊛ raw (fact 𝓤 (vs .1 .1 .1 .0 ≡ laid h (zs .1 .0) (zs .1 .1 .0) d))))) (id⊢ 𝓤 _) $ pick ! (λ vs. split ! $ move ! (1 ∷ []) $
+        split ! $ heard ! (d ≡ told h (zs .1 .0) (zs .1 .1 .0)) (λ e₅. heard ! (vs .1 .1 .1 .0 ≡ laid h (zs .1 .0) (zs .1 .1 .0) d) (λ e₆. fsplit ! $ move ! (1 ∷ []) $ fsplit ! $ move ! (1 ∷ []) $ fsplit ! $
         move ! (1 ∷ []) $ fsplit ! $ fsplit ! $ move ! (1 ∷ []) $ feqL ! (λ len₃. move ! (5 ∷ []) $ split ! $ move ! (1 ∷ []) $ peeks ! O.the-row (Is O.the-row) (shows 𝓤 H A O.the-row) d (w′ ∷ []) (λ is₃.
         land ! (from ! (stop !)) (init ! 42 refl (EL.lawful O.the-type O′.the-laws 𝓤 H A W tt .typed d _ is₃ .0)) $ move ! (1 ∷ []) $ split ! $ move ! (1 ∷ []) $ split ! $ move ! (1 ∷ []) $ split ! $ move ! (3 ∷ []) $
         lft-end ! tt $ move ! (0 ∷ 11 ∷ []) $ use2 W (later (‵ (froom (tyArray (tyInt w8) 256) l₃ 0))) (back-imm 𝓤 H A W u8 256 tt (named 0) (μ ∷ []) l₃ (uint-vals w8) (uint-tells w8) (zs .1 .0)) $ await ! tt $

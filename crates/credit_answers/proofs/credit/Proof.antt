@@ -1,5 +1,5 @@
 -- `credit_answers::credit` meets its contract: the answer of the call is handed out. Assumes nothing.
-use Rattle.credit_answers.proofs.NumberLaws.{credit-back}
+use Rattle.credits.proofs.CreditPromise.{credited-number}
 use borrow.Author.Needs.{needs}
 use Rattle.credit_answers.proofs.credit.Statement.{statement}
 use Rattle.credit_answers.proofs.credit.Tie as tie
@@ -8,7 +8,7 @@ returns : tie.Need-returns
 returns c =
     let f = c .before .before .give-credits .ensures in
     let e = c .before .before .before .before .credit .ensures .0 in
-    (rw (e, credit-back) at (f .0), rw e at (f .1))
+    (rw (e, credited-number) at (f .0), rw e at (f .1))
 
 pub credit-spec : {M : Type 1} → statement M
 credit-spec =

@@ -4,12 +4,14 @@ use mathlib.Core.Path.{sym, _∙_}
 use native.Mathlib.Omega.{arith}
 use mir.Syntax.{w64}
 use mir.Facts.{toZ-ofZ}
-use Rattle.credits.proofs.CreditPromise.{terms-none, refused-is, seconds-fit, given-is}
+use Rattle.mass.proofs.RefusalLaws.{refuses}
+use Rattle.credits.specs.declared.Credited.the-variants as credited
+use Rattle.credits.proofs.CreditPromise.{terms-none, seconds-fit, given-is}
 use Rattle.credits.proofs.credit_of.Statement.{statement}
 use Rattle.credits.proofs.credit_of.Tie as tie
 
 returns : tie.Need-returns
-returns c = refused-is _ _ _ (c .before .terms-test .ensures) (c .if1 .taken)
+returns c = refuses credited.Refused _ (c .before .terms-test .ensures) (c .if1 .taken)
 
 headroom-of-requires : tie.Need-headroom-of-requires
 headroom-of-requires c κs =

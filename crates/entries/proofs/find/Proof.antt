@@ -26,12 +26,6 @@ returns c =
     let l = c .before .before .before .loop in
     record { within = omega arith; before = l .inv .1; there = λ h. sym (c .before .is-at .ensures) ∙ c .if1 .taken }
 
-add-i : tie.Need-add-i Inv-loop μ-loop
-add-i c = omega arith
-
-loop-less : tie.Need-loop-less Inv-loop μ-loop
-loop-less c = omega arith
-
 loop-again : tie.Need-loop-again Inv-loop μ-loop
 loop-again c =
     let l = c .before .before .before .loop in
@@ -51,7 +45,7 @@ find-spec =
     loop-holds
     is-at-requires
     returns
-    add-i
-    loop-less
+    (λ c. omega arith)  -- add-i
+    (λ c. omega arith)  -- loop-less
     loop-again
     returns-2)

@@ -1,7 +1,7 @@
 -- `entries::place` meets its contract, each of the three ways. Assumes nothing.
 use native.Mathlib.Omega.{arith}
 use borrow.Author.Needs.{needs}
-use Rattle.entries.proofs.PlaceLaws.{mass-fits, placed-known, placed-full, has-space, placed-new}
+use Rattle.entries.proofs.PlaceLaws.{mass-fits, placed-known, placed-full, placed-new}
 use Rattle.entries.proofs.place.Statement.{statement}
 use Rattle.entries.proofs.place.Tie as tie
 
@@ -22,9 +22,6 @@ returns-2 c =
     let start = c .before .before .before .before .before in
     placed-full _ _ _ _ _ (start .pre) (c .before .before .find .ensures) (c .before .if1 .left) (c .if2 .taken)
 
-put-requires : tie.Need-put-requires
-put-requires c κs = omega arith
-
 returns-3 : tie.Need-returns-3
 returns-3 c =
     let start = c .before .before .before .before .before .before .before .before .before in
@@ -42,7 +39,7 @@ place-spec =
     returns
     (λ c. search needs)  -- same-length-2
     returns-2
-    put-requires
+    (λ c κs. omega arith)  -- put-requires
     (λ c. search needs)  -- add-t12
     (λ c. search needs)  -- same-length-3
     returns-3)

@@ -1,6 +1,6 @@
 -- `further_answers::downtime` meets its contract: the answer of the call is handed out. Assumes nothing.
 use mathlib.Core.Path.{refl}
-use Rattle.further_answers.proofs.NumberLaws.{downtime-back}
+use Rattle.readings.proofs.NumberLaws.{timed-number}
 use borrow.Author.Needs.{needs}
 use Rattle.further_answers.proofs.downtime.Statement.{statement}
 use Rattle.further_answers.proofs.downtime.Tie as tie
@@ -9,7 +9,7 @@ returns : tie.Need-returns
 returns c =
     let f = c .before .before .give-seconds .ensures in
     let e = c .before .before .before .before .downtime .ensures .0 in
-    let n = rw (e, downtime-back) at (f .0) in
+    let n = rw (e, timed-number) at (f .0) in
     rw n (refl, rw e at (f .1))
 
 pub downtime-spec : {M : Type 1} → statement M

@@ -4,7 +4,8 @@ use Prim.Native.Nat.{ℕ}
 use native.Mathlib.Omega.{arith}
 use borrow.Author.Needs.{needs}
 use Rattle.plan.specs.Calls.{headerOf, readAnswer}
-use Rattle.input.proofs.LoadedLaws.{bytes-each, same-refusal, left-same, left-loaded}
+use Rattle.files.proofs.ReaderLawsAnswer.{full-rooms}
+use Rattle.input.proofs.LoadedLaws.{bytes-each, left-same, left-loaded}
 use Rattle.input.proofs.read_input.Statement.{statement}
 use Rattle.input.proofs.read_input.Tie as tie
 
@@ -13,7 +14,7 @@ returns c =
     let a = c .before .before .before .before .args in
     let r = c .read-core .ensures in
     let bytes = bytes-each (a .s .now) (λ i. omega (arith, c .before .before .before .shared-slice-known .given i)) in (
-      r .0 ∙ ap (λ (n : ℕ). readAnswer n (headerOf (a .s .now))) (same-refusal (a .s .now)),
+      r .0 ∙ ap (λ (n : ℕ). readAnswer n (headerOf (a .s .now))) (full-rooms (a .s .now)),
       (
         left-same (a .s .now) _ _ _ (r .1 .0),
         (

@@ -8,11 +8,6 @@ use Rattle.insertion.proofs.InsertionLaws.{room-filled}
 use borrow.Author.Needs.{needs}
 use Rattle.insertion.proofs.insert.Statement.{statement}
 use Rattle.insertion.proofs.insert.Tie as tie
-use Rattle.insertion.proofs.insert.Reads as reads
-use Rattle.insertion.proofs.insert.Lts as lts
-use Rattle.files.proofs.put_event.Reads as put-event-reads
-use Rattle.insertion.proofs.make_room.Reads as make-room-reads
-use Rattle.insertion.proofs.place_of.Reads as place-of-reads
 
 returns : tie.Need-returns
 returns c =

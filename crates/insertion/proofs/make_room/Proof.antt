@@ -20,9 +20,6 @@ abbrev μ-loop : tie.MeasureT-loop
 loop-holds : tie.Need-loop-holds Inv-loop μ-loop
 loop-holds c = (c .pre .0, omega arith, room-start (c .args .words .now) (c .args .to))
 
-loop-less : tie.Need-loop-less Inv-loop μ-loop
-loop-less c = omega arith
-
 loop-again : tie.Need-loop-again Inv-loop μ-loop
 loop-again c =
     let l = c .before .before in
@@ -51,6 +48,6 @@ make-room-spec =
     (λ c. search needs)  -- add-words
     (λ c. search needs)  -- mul-words-2
     (λ c. search needs)  -- element-write-words
-    loop-less
+    (λ c. omega arith)  -- loop-less
     loop-again
     returns)

@@ -30,9 +30,6 @@ returns c =
       l .loop .inv .0,
     )
 
-loop-less : tie.Need-loop-less Inv-loop μ-loop
-loop-less c = omega arith
-
 loop-again : tie.Need-loop-again Inv-loop μ-loop
 loop-again c =
     let l = c .before .before .before in
@@ -59,6 +56,6 @@ place-of-spec =
     (λ c. search needs)  -- shared-slice-read-if1
     returns
     (λ c. search needs)  -- add-i
-    loop-less
+    (λ c. omega arith)  -- loop-less
     loop-again
     returns-2)

@@ -28,32 +28,11 @@ ends c = rw (← c .before .before .byte-at .ensures .0, ← c .before .byte-at2
 loop-holds : tie.Need-loop-holds Inv-loop μ-loop
 loop-holds c = (omega arith, refl)
 
-byte-at-requires : tie.Need-byte-at-requires Inv-loop μ-loop
-byte-at-requires c κs = omega arith
-
-add-byte-at : tie.Need-add-byte-at Inv-loop μ-loop
-add-byte-at c = omega arith
-
-byte-at-requires-2 : tie.Need-byte-at-requires-2 Inv-loop μ-loop
-byte-at-requires-2 c κs = omega arith
-
-ends-test-requires : tie.Need-ends-test-requires Inv-loop μ-loop
-ends-test-requires c κs = tt
-
 returns : tie.Need-returns Inv-loop μ-loop
 returns c =
     let b = c .before .before .before .before .before in
     link-decides _ (b .before .before .args .links .now) (b .loop .at) _ (c .before .before .before .before .loop-test .taken) _ (ends (c .before)) (c .if1 .taken)
     ∙ b .loop .inv .1
-
-add-at : tie.Need-add-at Inv-loop μ-loop
-add-at c = omega arith
-
-sub-left : tie.Need-sub-left Inv-loop μ-loop
-sub-left c = omega arith
-
-loop-less : tie.Need-loop-less Inv-loop μ-loop
-loop-less c = omega arith
 
 loop-again : tie.Need-loop-again Inv-loop μ-loop
 loop-again c =
@@ -74,13 +53,13 @@ link-list-refusal-spec =
     Inv-loop
     μ-loop
     loop-holds
-    byte-at-requires
-    add-byte-at
-    byte-at-requires-2
-    ends-test-requires
+    (λ c κs. omega arith)  -- byte-at-requires
+    (λ c. omega arith)  -- add-byte-at
+    (λ c κs. omega arith)  -- byte-at-requires-2
+    (λ c κs. tt)  -- ends-test-requires
     returns
-    add-at
-    sub-left
-    loop-less
+    (λ c. omega arith)  -- add-at
+    (λ c. omega arith)  -- sub-left
+    (λ c. omega arith)  -- loop-less
     loop-again
     returns-2)

@@ -1,121 +1,110 @@
--- `lent::lists_refusal` meets its contract: at each `return` the tests before it did not refuse. Assumes nothing.
-use mathlib.Core.Path.{_≡_, sym, _∙_}
+-- `lent::lists_refusal` meets its contract: at each `return` the runs of tests before it did not refuse. Assumes nothing.
+use mathlib.Core.Path.{_≡_, refl, sym, ap, _∙_}
 use mathlib.Core.List.{List, [], _∷_}
-use Prim.Native.Nat.{ℕ, _*_}
+use Prim.Native.Nat.{ℕ, _*_, _/_, _≤_}
 use native.Mathlib.Omega.{arith}
-use lib.ListN.{drop}
+use lib.ListN.{length}
 use Rattle.mass.specs.Refusal.{first}
-use Rattle.mass.proofs.RefusalLaws.{first-skip}
-use Rattle.mass.specs.Split.{certain}
-use Rattle.plan.specs.Lists.{linksOf, eventsOf}
+use Rattle.mass.proofs.RefusalLaws.{first-none}
 use Rattle.refusals.specs.Tests.{countsTest, thresholdTest, limitTest, roomTest}
-use Rattle.plan.specs.LentLists.{linkListRefusal, eventListRefusal, listsRefusal}
-use Rattle.lent.proofs.ListLaws.{decides, first-last}
-use Rattle.refusals.proofs.TestLaws.{Ranges, counts-none}
+use Rattle.refusals.proofs.OrderLaws.{stop, skip, last, also, first-run}
+use Rattle.refusals.proofs.TestLaws.{Ranges, counts-none, room-none}
+use Rattle.plan.specs.LentLists.{listsNumber}
+use Rattle.plan.specs.declared.Header.{Header}
 use Rattle.lent.proofs.lists_refusal.Statement.{statement}
 use Rattle.lent.proofs.lists_refusal.Tie as tie
 
--- the tests in their order, and the number that they give
-abbrev tests : tie.Start → List ℕ
-tests c =
-    countsTest (c .args .h .nodes) (c .args .h .links) (c .args .h .events)
-    ∷ thresholdTest (c .args .h .threshold)
-    ∷ limitTest (c .args .h .limit)
-    ∷ roomTest (c .args .link-room) (2 * c .args .h .links)
-    ∷ roomTest (c .args .event-room) (c .args .h .events)
-    ∷ linkListRefusal (c .args .h .nodes) (linksOf (c .args .h .links) (c .args .links .now))
-    ∷ eventListRefusal (c .args .h .nodes) (c .args .h .links) certain (eventsOf (c .args .h .events) (c .args .words .now))
-    ∷ []
+-- the state after the first run of tests, seen from after the second
+abbrev earlier : tie.After-first-of2 → tie.Else1
+earlier k = k .before .before .before .before
 
-abbrev refusal : tie.Start → ℕ
-refusal c = listsRefusal (c .args .h) (c .args .link-room) (c .args .event-room) (c .args .links .now) (c .args .words .now)
+abbrev entry : tie.After-first-of → tie.Start
+entry k = k .before .before .before .before .before .before .before
 
--- after each test that does not refuse, the later ones decide
-after₁ : (c : tie.Else1) → (let s = c .before .before in first (drop 1 (tests s)) ≡ refusal s)
-unfolding listsRefusal
-after₁ c = sym (first-skip _ _ (sym (c .before .counts-test .ensures) ∙ c .if1 .left))
+-- the first run is 4 to 6
+header : (k : tie.After-first-of)
+    → (let h : Header = entry k .args .h in
+    k .first-of .result ≡ first (countsTest (h .nodes) (h .links) (h .events) ∷ thresholdTest (h .threshold) ∷ limitTest (h .limit) ∷ []))
+header k =
+    let t = k .before .before in
+    k .first-of .ensures
+    ∙ ap first (also (t .before .before .counts-test .ensures) (also (t .before .threshold-test .ensures) (also (t .limit-test .ensures) refl)))
 
-after₂ : (c : tie.Else2) → (let s = c .before .before .before .before in first (drop 2 (tests s)) ≡ refusal s)
-after₂ c = sym (first-skip _ _ (sym (c .before .threshold-test .ensures) ∙ c .if2 .left)) ∙ after₁ (c .before .before)
+-- the second is 12 for both lists
+rooms : (k : tie.After-first-of2)
+    → (let a = entry (earlier k .before) .args in
+    k .first-of2 .result ≡ first (roomTest (length (a .links .now)) (2 * a .h .links) ∷ roomTest (length (a .events .now) / 4) (a .h .events) ∷ []))
+rooms k =
+    k .first-of2 .ensures ∙ ap first (also (k .before .before .before .room-test .ensures) (also (k .before .before .room-test2 .ensures) refl))
 
-after₃ : (c : tie.Else3) → (let s = c .before .before .before .before .before .before in first (drop 3 (tests s)) ≡ refusal s)
-after₃ c = sym (first-skip _ _ (sym (c .before .limit-test .ensures) ∙ c .if3 .left)) ∙ after₂ (c .before .before)
-
-after₄ : (c : tie.Else4) → (let s = c .before .before .before .before .before .before .before .before in first (drop 4 (tests s)) ≡ refusal s)
-after₄ c = sym (first-skip _ _ (sym (c .before .room-test .ensures) ∙ c .if4 .left)) ∙ after₃ (c .before .before)
-
-after₅ : (c : tie.Else5) → (let s = c .before .before .before .before .before .before .before .before .before .before in first (drop 5 (tests s)) ≡ refusal s)
-after₅ c = sym (first-skip _ _ (sym (c .before .room-test2 .ensures) ∙ c .if5 .left)) ∙ after₄ (c .before .before)
-
-after₆ : (c : tie.Else6) → (let s = c .before .before .before .before .before .before .before .before .before .before .before .before .before in first (drop 6 (tests s)) ≡ refusal s)
-after₆ c = sym (first-skip _ _ (sym (c .before .link-list-refusal .ensures) ∙ c .if6 .left)) ∙ after₅ (c .before .before .before)
-
-counts : (c : tie.Else1)
-    → Ranges (c .before .before .args .h .nodes) (c .before .before .args .h .links) (c .before .before .args .h .events)
-counts c = counts-none _ _ _ (sym (c .before .counts-test .ensures) ∙ c .if1 .left)
-
-counts-test-requires : tie.Need-counts-test-requires
-counts-test-requires c κs = tt
+counts : (c : tie.Else1) → (let h : Header = entry (c .before) .args .h in Ranges (h .nodes) (h .links) (h .events))
+counts c = counts-none _ _ _ (first-none _ _ (sym (header (c .before)) ∙ c .if1 .left) .0)
 
 returns : tie.Need-returns
-unfolding listsRefusal
-returns c = decides _ _ _ (c .before .counts-test .ensures) (c .if1 .taken)
-
-threshold-test-requires : tie.Need-threshold-test-requires
-threshold-test-requires c κs = tt
+unfolding listsNumber
+returns c = stop _ (header (c .before)) (c .if1 .taken) ∙ first-run _ _
 
 returns-2 : tie.Need-returns-2
-returns-2 c = decides _ _ _ (c .before .threshold-test .ensures) (c .if2 .taken) ∙ after₁ (c .before .before)
+unfolding listsNumber
+returns-2 c =
+    let e = earlier (c .before) in
+    skip _ (header (e .before)) (e .if1 .left) (stop _ (rooms (c .before)) (c .if2 .taken) ∙ first-run _ _) ∙ first-run _ _
 
-limit-test-requires : tie.Need-limit-test-requires
-limit-test-requires c κs = tt
+-- so each list has room for its entries
+links-fit : (c : tie.Else2) → (let a = entry (earlier (c .before) .before) .args in 2 * a .h .links ≤ length (a .links .now))
+links-fit c = room-none _ _ (first-none _ _ (sym (rooms (c .before)) ∙ c .if2 .left) .0)
+
+events-fit : (c : tie.Else2) → (let a = entry (earlier (c .before) .before) .args in a .h .events ≤ length (a .events .now) / 4)
+events-fit c = room-none _ _ (first-none _ _ (first-none _ _ (sym (rooms (c .before)) ∙ c .if2 .left) .1) .0)
+
+-- both runs passed, and what is left decides
+decided : (c : tie.Else2) (r : ℕ) (later : List ℕ)
+    → r ≡ first later
+    → (let a = entry (earlier (c .before) .before) .args in
+    r ≡ first
+    (countsTest (a .h .nodes) (a .h .links) (a .h .events)
+    ∷ thresholdTest (a .h .threshold)
+    ∷ limitTest (a .h .limit)
+    ∷ roomTest (length (a .links .now)) (2 * a .h .links)
+    ∷ roomTest (length (a .events .now) / 4) (a .h .events)
+    ∷ later))
+decided c r later e =
+    let f = earlier (c .before) in
+    skip _ (header (f .before)) (f .if1 .left) (skip _ (rooms (c .before)) (c .if2 .left) e ∙ first-run _ _) ∙ first-run _ _
 
 returns-3 : tie.Need-returns-3
-returns-3 c = decides _ _ _ (c .before .limit-test .ensures) (c .if3 .taken) ∙ after₂ (c .before .before)
-
-mul-room-test : tie.Need-mul-room-test
-mul-room-test c = omega (arith, counts (c .before .before .before .before))
-
-room-test-requires : tie.Need-room-test-requires
-room-test-requires c κs = tt
+unfolding listsNumber
+returns-3 c = decided (c .before .before) _ _ (stop _ (c .before .link-list-refusal .ensures) (c .if3 .taken))
 
 returns-4 : tie.Need-returns-4
-returns-4 c = decides _ _ _ (c .before .room-test .ensures) (c .if4 .taken) ∙ after₃ (c .before .before)
-
-room-test-requires-2 : tie.Need-room-test-requires-2
-room-test-requires-2 c κs = tt
-
-returns-5 : tie.Need-returns-5
-returns-5 c = decides _ _ _ (c .before .room-test2 .ensures) (c .if5 .taken) ∙ after₄ (c .before .before)
+unfolding listsNumber
+returns-4 c =
+    let k = c .before .before in decided (k .before) _ _ (skip _ (k .link-list-refusal .ensures) (c .before .if3 .left) (last (c .event-list-refusal .ensures)))
 
 link-list-refusal-requires : tie.Need-link-list-refusal-requires
-link-list-refusal-requires c κs = omega (arith, counts (c .before .before .before .before .before .before .before .before .before))
-
-returns-6 : tie.Need-returns-6
-returns-6 c = decides _ _ _ (c .before .link-list-refusal .ensures) (c .if6 .taken) ∙ after₅ (c .before .before .before)
+link-list-refusal-requires c κs = omega (arith, links-fit c, counts (earlier (c .before)))
 
 event-list-refusal-requires : tie.Need-event-list-refusal-requires
-event-list-refusal-requires c κs = omega (arith, counts (c .before .before .before .before .before .before .before .before .before .before .before .before))
-
-returns-7 : tie.Need-returns-7
-returns-7 c = c .event-list-refusal .ensures ∙ (sym (first-last _) ∙ after₆ (c .before .before))
+event-list-refusal-requires c κs =
+    let e = c .before .before in omega (arith, events-fit e, counts (earlier (e .before)))
 
 pub lists-refusal-spec : {M : Type 1} → statement M
 lists-refusal-spec =
     tie.close
     (tie.spec
-    counts-test-requires
+    (λ c κs. tt)  -- counts-test-requires
+    (λ c κs. tt)  -- threshold-test-requires
+    (λ c κs. tt)  -- limit-test-requires
+    (λ c. refl)  -- slice-aggregate-first-of
+    (λ c κs. tt)  -- first-of-requires
     returns
-    threshold-test-requires
+    (λ c. omega (arith, counts c))  -- mul-room-test
+    (λ c κs. tt)  -- room-test-requires
+    (λ c κs. tt)  -- room-test-requires-2
+    (λ c. refl)  -- slice-aggregate-first-of-2
+    (λ c κs. tt)  -- first-of-requires-2
     returns-2
-    limit-test-requires
-    returns-3
-    mul-room-test
-    room-test-requires
-    returns-4
-    room-test-requires-2
-    returns-5
     link-list-refusal-requires
-    returns-6
+    returns-3
     event-list-refusal-requires
-    returns-7)
+    returns-4)

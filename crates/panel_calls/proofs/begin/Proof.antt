@@ -1,7 +1,7 @@
 -- `panel_calls::begin` meets its contract: at each `return` the tests that led there decide the number. Assumes nothing.
 use borrow.Author.Needs.{needs}
 use mathlib.Core.Path.{_≡_, sym, ap, subst, _∙_}
-use Rattle.plan.specs.LentLists.{planOfLists, listsNumber}
+use Rattle.plan.specs.LentLists.{planOfLists, inWords, listsNumber}
 use Rattle.plan.proofs.FilledLaws.{filled-none}
 use Rattle.network.specs.Outage.{intact}
 use Rattle.panel.specs.Walks.{WalkAt, rootWalk}
@@ -14,7 +14,7 @@ use Rattle.panel_calls.proofs.begin.Tie as tie
 abbrev entry : tie.After-begin → tie.Start
 entry c = c .before .before .before .before
 
-lists : (c : tie.After-begin) → (let a = entry c .args in c .begin .result .number ≡ listsNumber (a .h) (a .links .now) (a .events .now))
+lists : (c : tie.After-begin) → (let a = entry c .args in c .begin .result .number ≡ listsNumber (inWords (a .h) (a .links .now) (a .events .now)))
 lists c = ap (λ (r : WalkAnswer). r .number) (c .begin .ensures .0) ∙ answer-number _ _
 
 returns : tie.Need-returns
@@ -31,7 +31,7 @@ returns-2 c =
     let one = c .before .before .before .before .before in
     let b = one .before in
     let a = entry b .args in
-    let none : listsNumber (a .h) (a .links .now) (a .events .now) ≡ 0 = sym (lists b) ∙ one .if1 .left in
+    let none : listsNumber (inWords (a .h) (a .links .now) (a .events .now)) ≡ 0 = sym (lists b) ∙ one .if1 .left in
     let root : b .begin .result .walk ≡ rootWalk (a .h) (a .links .now) (a .events .now) =
     ap (λ (r : WalkAnswer). r .walk) (b .begin .ensures .0) ∙ answer-walk _ _ none in (
       room-decides (a .h) (a .links .now) (a .events .now) (a .state .now) _ (lists b) (one .if1 .left) (packed .0),

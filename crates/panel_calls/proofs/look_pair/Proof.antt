@@ -7,7 +7,7 @@ use Rattle.refusals.proofs.TestLaws.{room-none}
 use Rattle.pairs.specs.Pairs.{pairTest}
 use Rattle.walk_words.specs.WalkWords.{walkOf}
 use Rattle.answers.specs.Laid.{laid}
-use Rattle.answers.proofs.NumberLaws.{pair-back}
+use Rattle.bounds.proofs.Answers.{paired-number}
 use Rattle.panel_calls.proofs.WordLaws.{no-bounds, room-refuses, pair-decides}
 use Rattle.panel_calls.proofs.look_pair.Statement.{statement}
 use Rattle.panel_calls.proofs.look_pair.Tie as tie
@@ -34,7 +34,7 @@ returns-2 c =
     let one = seen .before .before in
     let a = entry (one .before) .args in
     let answer = rw (seen .before .walk-of .ensures) at (seen .look-pair .ensures .0) in
-    let number : _ ≡ pairTest (walkOf (a .state .now) .header .nodes) (a .v) (a .w) = rw (answer, pair-back) at (given .0) in (
+    let number : _ ≡ pairTest (walkOf (a .state .now) .header .nodes) (a .v) (a .w) = rw (answer, paired-number) at (given .0) in (
       pair-decides (a .state .now) (a .v) (a .w) _ (one .before .room-test .ensures) (one .if1 .left) number,
       rw number (rw answer at (given .1)),
     )

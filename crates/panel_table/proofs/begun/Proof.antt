@@ -1,7 +1,7 @@
 -- `panel_table::begun` meets its contract: the begin's answer has the header that `header` gives. Assumes the contract of C's `write`.
 use mathlib.Core.Path.{ap, _∙_}
 use borrow.Author.Needs.{needs}
-use Rattle.plan.specs.LentLists.{listsNumber}
+use Rattle.plan.specs.LentLists.{inWords, listsNumber}
 use Rattle.plan.specs.declared.Header.{Header}
 use Rattle.walk_state.specs.States.{walkAnswer}
 use Rattle.walk_state.specs.declared.WalkAnswer.{WalkAnswer}
@@ -15,7 +15,7 @@ returns c =
     let b = c .before .before .before .before in
     let same = b .before .before .before .header .ensures in
     let answer =
-    b .begin .ensures .0 ∙ ap (λ (h : Header). walkAnswer (listsNumber h tableLinks tableEvents) (rootWalk h tableLinks tableEvents)) same in
+    b .begin .ensures .0 ∙ ap (λ (h : Header). walkAnswer (listsNumber (inWords h tableLinks tableEvents)) (rootWalk h tableLinks tableEvents)) same in
     ap (λ (a : WalkAnswer). a .walk) answer
 
 pub begun-spec : {M : Type 1} → statement M

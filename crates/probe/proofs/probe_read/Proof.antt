@@ -1,6 +1,6 @@
 -- `probe::probe_read` meets its contract: the answer of the call is handed out. Assumes nothing.
 use mathlib.Core.Path.{refl}
-use Rattle.answers.proofs.NumberLaws.{read-back}
+use Rattle.plan.proofs.AnswerLaws.{reading-number}
 use borrow.Author.Needs.{needs}
 use Rattle.probe.proofs.probe_read.Statement.{statement}
 use Rattle.probe.proofs.probe_read.Tie as tie
@@ -10,8 +10,8 @@ returns c =
     let f = c .before .before .give-header .ensures in
     let k = c .before .before .before .before .before .before .before .before in
     let e = k .read .ensures .0 in
-    let n = rw (e, read-back) at (f .0) in
-    rw n (refl, (rw e at (f .1), (k .read .ensures .1 .0, (k .read .ensures .1 .1))))
+    let n = rw (e, reading-number) at (f .0) in
+    rw n (refl, (rw e at (f .1), (rw (e, reading-number) at (k .read .ensures .1 .0), rw (e, reading-number) at (k .read .ensures .1 .1))))
 
 pub probe-read-spec : {M : Type 1} → statement M
 probe-read-spec =

@@ -1,5 +1,8 @@
--- `reader::read_member` meets its contract: a walk of its MIR, by hand. A `Reader` that one call returns is held in a local and passed to the next, and of the struct that this one answers the step and the position of the reader inside are handed back. All that the proof knows of `new` and of `next_member` is that each meets its contract.
--- The machine value that `new` returns is stored and passed on as it is. In a local of a body MIR erases the lifetime of the struct's type, so the value is shown to have the type at `erased`: what the struct owns does not say the lifetime's name.
+-- `reader::read_member` meets its contract: a walk of its MIR, by hand. A `Reader` that one call returns is held in a local and passed to the next, and of
+-- the struct that this one answers the step and the position of the reader inside are handed back. All that the proof knows of `new` and of `next_member` is
+-- that each meets its contract.
+-- The machine value that `new` returns is stored and passed on as it is. In a local of a body MIR erases the lifetime of the struct's type, so the value is
+-- shown to have the type at `erased`: what the struct owns does not say the lifetime's name.
 -- Assumes nothing.
 use mathlib.Core.Path.{_≡_, refl, ap, _∙_}
 use Prim.Native.Nat.{ℕ, _<_, _^_}
@@ -188,7 +191,9 @@ module _ {M : Type 1} (𝓤 : URA M) (H : Heap 𝓤) (A : Atoms 𝓤) (W : Given
       walk p =
           qed W (raw (onEntry 𝓤 H A reads.signature (κ, tt) (q, tt) (s, (n, nums)) vals) ∷ []) ∵ enter ! C Λ code.function (v ∷ vint w64 n ∷ vint w64 nodes ∷ vint w64 links ∷ vint w64 least ∷ []) _ $
           alloc1 ! (λ l₀. alloc1 ! (λ l₁. alloc1 ! (λ l₂. alloc1 ! (λ l₃. alloc1 ! (λ l₄. alloc1 ! (λ l₅. alloc1 ! (λ l₆. alloc1 ! (λ l₇. alloc1 ! (λ l₈. alloc1 ! (λ l₉. alloc0 ! $ params1 ! $
-          pass1 ! (init ! 16 refl (shr-slice-lawful 𝓤 H A W (named 0) κ u8 .typed s (v ∷ []) p .0)) $ pass1 ! (init ! 14 refl (tt, record { fits = at-fits })) $ pass1 ! (init ! 12 refl (tt, record { fits = fits .0 })) $ pass1 ! (init ! 10 refl (tt, record { fits = fits .1 .0 })) $ pass1 ! (init ! 8 refl (tt, record { fits = fits .1 .1 })) $ pass0 ! $
+          pass1 ! (init ! 16 refl (shr-slice-lawful 𝓤 H A W (named 0) κ u8 .typed s (v ∷ []) p .0)) $ pass1 ! (init ! 14 refl (tt, record { fits = at-fits })) $
+          pass1 ! (init ! 12 refl (tt, record { fits = fits .0 })) $ pass1 ! (init ! 10 refl (tt, record { fits = fits .1 .0 })) $ pass1 ! (init ! 8 refl (tt, record { fits = fits .1 .1 })) $
+          pass0 ! $
           move ! (20 ∷ []) $ use1 W (raw (New 𝓤 H A mem run .pre to-new) ⊛ ‵ Own) goes-new $ split ! $
           calls-at ! fm (New 𝓤 H A mem run) known-new to-new (and-then ! (load ! (from ! (stop !)) (look ! 18 refl)) (and-then ! (load ! (from ! (stop !)) (look ! 16 refl)) (no-more !))) (λ u.
           use1 W (later (some (λ (r : Reader). ((‵ (flft κ q) ⊛ ‵ ftrue) ⊛ ‵ (B (κ, tt) .own r (u ∷ []))) ⊛ raw (ensured 𝓤 H A new.ended (new.clauses 𝓤 H A mem run) (κ, tt) (s, (n, tt)) tt r)))) (id⊢ 𝓤 _) $ await ! tt $ pick ! (λ r.
@@ -197,7 +202,8 @@ module _ {M : Type 1} (𝓤 : URA M) (H : Heap 𝓤) (A : Atoms 𝓤) (W : Given
           peeks ! (B (κ, tt)) (Is (B (κ, tt))) (shows 𝓤 H A (B (κ, tt))) r (u ∷ []) (λ is.
           land ! (from ! (stop !)) (init ! 7 refl (LL.lawful (T.the-type αᵉ) (T′.the-laws αᵉ) 𝓤 H A W .typed r _ is .0)) $
           use2 W (raw (Next 𝓤 H A mem run .pre (to-next r u))) (goes-next r u) $
-          calls-at ! fm (Next 𝓤 H A mem run) known-next (to-next r u) (and-then ! (load ! (from ! (stop !)) (look ! 6 refl)) (and-then ! (load ! (from ! (stop !)) (look ! 14 refl)) (and-then ! (load ! (from ! (stop !)) (look ! 12 refl)) (and-then ! (load ! (from ! (stop !)) (look ! 10 refl)) (no-more !))))) (λ w.
+          calls-at ! fm (Next 𝓤 H A mem run) known-next (to-next r u) (and-then ! (load ! (from ! (stop !)) (look ! 6 refl)) (and-then ! (load ! (from ! (stop !)) (look ! 14 refl))
+          (and-then ! (load ! (from ! (stop !)) (look ! 12 refl)) (and-then ! (load ! (from ! (stop !)) (look ! 10 refl)) (no-more !))))) (λ w.
           use1 W (later (some (λ (t : Stepped). ((‵ (flft κ q) ⊛ ‵ ftrue) ⊛ ‵ (P.the-row αᵉ .own t (w ∷ []))) ⊛ raw (ensured 𝓤 H A next.ended (next.clauses 𝓤 H A mem run) (κ, tt) (r, nums) tt t)))) (id⊢ 𝓤 _) $ await ! tt $ pick ! (λ t.
           split ! $ move ! (1 ∷ []) $ use1 W (some (λ (zs : Unit {0} × (Unit {0} × (Unit {0} × (Unit {0} × Unit {0})))). ‵ (lasts next.ended (κ, tt) (r, nums) zs) ⊛ (raw (fact 𝓤 (answered r t)) ⊛ raw (fact 𝓤 (moved r t))))) (id⊢ 𝓤 _) $ pick ! (λ zs.
           split ! $ forgo ! $ split ! $ heard ! (answered r t) (λ e₁. heard ! (moved r t) (λ e₂. split ! $ move ! (1 ∷ []) $ peeks ! (P.the-row αᵉ) (Is (P.the-row αᵉ)) (shows 𝓤 H A (P.the-row αᵉ)) t (w ∷ []) (λ is′. forgo ! $
@@ -207,12 +213,16 @@ module _ {M : Type 1} (𝓤 : URA M) (H : Heap 𝓤) (A : Atoms 𝓤) (W : Given
           assigns ! (of-opd ! (load ! (from ! (fld ! refl (fld ! refl (stop !)))) (look-in ! 8 (sub ! 1 refl (sub ! 1 refl (whole !)))))) (from ! (stop !)) (init ! 2 refl (tt, record { fits = t-fits t w is′ })) $
           assigns ! (agg ! (and-then ! (load ! (from ! (stop !)) (look ! 4 refl)) (and-then ! (load ! (from ! (stop !)) (look ! 2 refl)) (no-more !)))) (from ! (stop !)) (init ! 20 refl (LL.lawful R.the-type R′.the-laws 𝓤 H A W .typed (kept t) _ (is-kept t w is′) .0)) $
           returns ! (look ! 20 refl) $ forget ! 2 refl $ forget ! 4 refl $ forget ! 6 refl $ forget ! 8 refl $ forget ! 10 refl $ forget ! 12 refl $ forget ! 14 refl $ forget ! 16 refl $ forget ! 18 refl $ forget ! 20 refl $
-          move ! (20 ∷ 21 ∷ []) $ free1 ! $ move ! (18 ∷ 19 ∷ []) $ free1 ! $ move ! (16 ∷ 17 ∷ []) $ free1 ! $ move ! (14 ∷ 15 ∷ []) $ free1 ! $ move ! (12 ∷ 13 ∷ []) $ free1 ! $ move ! (10 ∷ 11 ∷ []) $ free1 ! $ move ! (8 ∷ 9 ∷ []) $ free1 ! $ move ! (6 ∷ 7 ∷ []) $ free1 ! $ move ! (4 ∷ 5 ∷ []) $ free1 ! $ move ! (2 ∷ 3 ∷ []) $ free1 ! $ free0 ! $ by ! (exits t w is′ (e₁ ∙ (λ i. found (e .0 i) (e .1 i))) (e₂ .1 ∙ (λ i. after (e .0 i) (e .1 i))))))))))))))))))))))))
+          move ! (20 ∷ 21 ∷ []) $ free1 ! $ move ! (18 ∷ 19 ∷ []) $ free1 ! $ move ! (16 ∷ 17 ∷ []) $ free1 ! $ move ! (14 ∷ 15 ∷ []) $ free1 ! $ move ! (12 ∷ 13 ∷ []) $ free1 ! $
+          move ! (10 ∷ 11 ∷ []) $ free1 ! $ move ! (8 ∷ 9 ∷ []) $ free1 ! $ move ! (6 ∷ 7 ∷ []) $ free1 ! $ move ! (4 ∷ 5 ∷ []) $ free1 ! $ move ! (2 ∷ 3 ∷ []) $ free1 ! $ free0 ! $
+          by ! (exits t w is′ (e₁ ∙ (λ i. found (e .0 i) (e .1 i))) (e₂ .1 ∙ (λ i. after (e .0 i) (e .1 i))))))))))))))))))))))))
 
 module _ {M : Type 1} (𝓤 : URA M) (H : Heap 𝓤) (A : Atoms 𝓤) (W : Given 𝓤 H A) (mem : Memory → SProp 𝓤) (run : Routine → Fun 𝓤) where
   read-walks : (C : Calls 𝓤 H) (Λ : Loops 𝓤 H) → FmC 𝓤 H (W .laws) C → Triple 𝓤 (C #new) (New 𝓤 H A mem run) → Triple 𝓤 (C #next-member) (Next 𝓤 H A mem run)
       → Walks 𝓤 H A reads.ended stayed (WpFn 𝓤 H C Λ code.function) (reads.clauses 𝓤 H A mem run)
-  read-walks C Λ fm known-new known-next = walked 𝓤 H A reads.ended stayed (reads.clauses 𝓤 H A mem run) (WpFn 𝓤 H C Λ code.function) (λ κs. (slice-vals, (uint-vals w64, (uint-vals w64, (uint-vals w64, (uint-vals w64, tt)))))) (λ κs. (shr-slice-tells (named 0) (κs .0) u8, (uint-tells w64, (uint-tells w64, (uint-tells w64, (uint-tells w64, tt))))))
+  read-walks C Λ fm known-new known-next = walked 𝓤 H A reads.ended stayed (reads.clauses 𝓤 H A mem run) (WpFn 𝓤 H C Λ code.function)
+      (λ κs. (slice-vals, (uint-vals w64, (uint-vals w64, (uint-vals w64, (uint-vals w64, tt))))))
+      (λ κs. (shr-slice-tells (named 0) (κs .0) u8, (uint-tells w64, (uint-tells w64, (uint-tells w64, (uint-tells w64, tt))))))
       (λ κs qs bounds a g are. via 𝓤 _ (fst∗ 𝓤 _ (emp 𝓤)) (walk 𝓤 H A W mem run (κs .0) (qs .0) (a .0) (a .1 .0) (a .1 .1 .0) (a .1 .1 .1 .0) (a .1 .1 .1 .1 .0) (are .1 .0 .1) (are .1 .1 .0 .1, (are .1 .1 .1 .0 .1, are .1 .1 .1 .1 .0 .1)) C Λ fm known-new known-next (are .0)))
 
 read-meets : {M : Type 1} (𝓤 : URA M) (H : Heap 𝓤) (A : Atoms 𝓤) (W : Given 𝓤 H A) (mem : Memory → SProp 𝓤) (run : Routine → Fun 𝓤) (𝓣 : Tables 𝓤 H)

@@ -43,7 +43,7 @@ use denote.Triple.Walked.{Stays, stay-none-slice, gave-slice, walkOf, Walks, end
 use denote.Exit.{yes}
 use Rattle.plan.specs.Lists.{linkBytes}
 use Rattle.plan.specs.File.{planOf}
-use Rattle.plan.specs.Calls.{filled, headerOf, readRefusal, readAnswer}
+use Rattle.plan.specs.Calls.{filled, headerOf, readNumber, readAnswer}
 use Rattle.plan.specs.declared.Reading.{Reading}
 use Rattle.plan.proofs.Reading as R
 use Rattle.plan.proofs.Reading.Laws as R′
@@ -111,13 +111,13 @@ module _ {M : Type 1} (𝓤 : URA M) (H : Heap 𝓤) (A : Atoms 𝓤) (W : Given
 
   -- what the contracts say of the bytes: the answer, and what is left in the links and the records
   abbrev answered : List ℕ → Reading
-  answered b = readAnswer (readRefusal (length ks) (length es) b) (headerOf b)
+  answered b = readAnswer (readNumber (length ks) (length es) b) (headerOf b)
 
   abbrev links-left : List ℕ → List ℕ
-  links-left b = filled (readRefusal (length ks) (length es) b) (linkBytes ((planOf b) .links)) ks
+  links-left b = filled (readNumber (length ks) (length es) b) (linkBytes ((planOf b) .links)) ks
 
   abbrev records-left : List ℕ → List Event
-  records-left b = filledRecords (readRefusal (length ks) (length es) b) (eventRecords ((planOf b) .events)) es
+  records-left b = filledRecords (readNumber (length ks) (length es) b) (eventRecords ((planOf b) .events)) es
 
   -- the bytes that a reader has before it; those of a reader at the start are all
   abbrev left : Reader → List ℕ

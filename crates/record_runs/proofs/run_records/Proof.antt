@@ -1,4 +1,5 @@
--- `record_runs::run_records` meets its contract: a walk of its MIR, by hand. An array of words of its own is lent to `flatten`, which lays the records' words down, and
+-- `record_runs::run_records` meets its contract: a walk of its MIR, by hand. An array of words of its own is lent to `flatten`, which lays the records'
+-- words down, and
 -- then to `run_words`, which makes the run; the two lists of bounds are given up for good to that call.
 -- Assumes nothing.
 use mathlib.Core.Path.{_≡_, refl, ap, subst, _∙_}
@@ -47,18 +48,18 @@ use denote.Triple.Table.{entered, cited}
 use denote.Triple.Walked.{Stays, stay-none, stay-none-slice, gave-slice, walkOf, Walks, ends-at, walked, goes-none, goes-none-slice}
 use denote.Triple.Walked.{goes-gave-slice, walk-meets}
 use denote.Exit.{yes}
-use Rattle.plan.specs.LentLists.{planOfLists}
+use Rattle.plan.specs.LentLists.{planOfLists, inWords}
 use Rattle.plan.specs.Calls.{filled}
 use Rattle.plan.specs.declared.Header.{Header}
 use Rattle.plan.proofs.Header as T
 use Rattle.plan.proofs.Header.Laws as T′
 use Rattle.network.specs.Outage.{intact}
 use Rattle.bounds.specs.Bounds.{lowerList, upperList, EnclosesAll}
-use Rattle.bounds.specs.Calls.{runNumber, ranAnswer, totalsOf, totalsIn}
+use Rattle.bounds.specs.Calls.{runNumber, ranAnswer, ranNumber, totalsOf, totalsIn}
 use Rattle.bounds.specs.declared.Ran.{Ran}
 use Rattle.bounds.proofs.Ran as R
 use Rattle.bounds.proofs.Ran.Laws as R′
-use Rattle.records.specs.Events.{wordsOf}
+use Rattle.records.specs.Events.{wordsOf, inRecords}
 use Rattle.records.specs.declared.Event.{Event}
 use Rattle.records.proofs.EventRow.{E, words-ty, Words}
 use Rattle.records.proofs.Lending.{zeros, zeros-val, zeros-own, words-lawful, array-lies, words-gone, says4}
@@ -135,24 +136,21 @@ module _ {M : Type 1} (𝓤 : URA M) (H : Heap 𝓤) (A : Atoms 𝓤) (W : Given
   abbrev taken : List ℕ → List ℕ
   taken ws = take (4 * min (length es) 128) ws
 
-  abbrev number : List ℕ → ℕ
-  number ws = runNumber h (k .now) ws lo up
-
   abbrev answered : List ℕ → Ran
-  answered ws = ranAnswer (number ws) (totalsOf (planOfLists h (k .now) ws))
+  answered ws = ranAnswer (runNumber (inWords h (k .now) ws) (length lo) (length up)) (totalsOf (planOfLists h (k .now) ws))
 
-  abbrev lower-left : List ℕ → List ℕ
-  lower-left ws = filled (number ws) (lowerList intact (planOfLists h (k .now) ws)) lo
+  abbrev lower-left : List ℕ → Ran → List ℕ
+  lower-left ws r = filled (ranNumber r) (lowerList intact (planOfLists h (k .now) ws)) lo
 
-  abbrev upper-left : List ℕ → List ℕ
-  upper-left ws = filled (number ws) (upperList intact (planOfLists h (k .now) ws)) up
+  abbrev upper-left : List ℕ → Ran → List ℕ
+  upper-left ws r = filled (ranNumber r) (upperList intact (planOfLists h (k .now) ws)) up
 
   abbrev enclosed : List ℕ → Ran → List ℕ → List ℕ → Type 0
-  enclosed ws r lo′ up′ = number ws ≡ 0 → EnclosesAll intact (planOfLists h (k .now) ws) lo′ up′ (totalsIn r .count)
+  enclosed ws r lo′ up′ = ranNumber r ≡ 0 → EnclosesAll intact (planOfLists h (k .now) ws) lo′ up′ (totalsIn r .count)
 
-  concluded : (ws : List ℕ) (r : Ran) (lo′ up′ : List ℕ) → ws ≡ flattened → Outcome h (k .now) lo up (taken ws) r lo′ up′ → Outcome h (k .now) lo up (wordsOf es) r lo′ up′
+  concluded : (ws : List ℕ) (r : Ran) (lo′ up′ : List ℕ) → ws ≡ flattened → Outcome (inWords h (k .now) (taken ws)) lo up r lo′ up′ → Outcome (inRecords h (k .now) es) lo up r lo′ up′
   concluded ws r lo′ up′ e said =
-      run-concluded h (k .now) es lo up r lo′ up′ (subst (λ (l : List ℕ). Outcome h (k .now) lo up l r lo′ up′) (ap taken e ∙ used-words es zeros refl) said)
+      run-concluded h (k .now) es lo up r lo′ up′ (subst (λ (l : List ℕ). Outcome (inWords h (k .now) l) lo up r lo′ up′) (ap taken e ∙ used-words es zeros refl) said)
 
   -- the call of `flatten`
   abbrev to-flatten : ℕ → ℕ → GName → Flatten 𝓤 H A mem″ run .Ghost
@@ -183,7 +181,7 @@ module _ {M : Type 1} (𝓤 : URA M) (H : Heap 𝓤) (A : Atoms 𝓤) (W : Given
   abbrev Items : Ran → Val → List ℕ → List ℕ → List (Item 𝓤)
   Items r u lo′ up′ = ‵ (flft κ₀ q₀) ∷ ‵ (flft κ₁ q₁) ∷ ‵ (flft κ₂ q₂) ∷ ‵ (flft κ₃ q₃) ∷ ‵ OwnH ∷ ‵ OwnK ∷ ‵ OwnV ∷ ‵ (finally u64 γ₂ lo′) ∷ ‵ (finally u64 γ₃ up′) ∷ ‵ (R.the-row .own r (u ∷ [])) ∷ []
 
-  exits : (r : Ran) (u : Val) (lo′ up′ : List ℕ) → length lo′ ≡ length lo → length up′ ≡ length up → Outcome h (k .now) lo up (wordsOf es) r lo′ up′ → ent 𝓤 (⋆ 𝓤 H A (Items r u lo′ up′)) (Post u)
+  exits : (r : Ran) (u : Val) (lo′ up′ : List ℕ) → length lo′ ≡ length lo → length up′ ≡ length up → Outcome (inRecords h (k .now) es) lo up r lo′ up′ → ent 𝓤 (⋆ 𝓤 H A (Items r u lo′ up′)) (Post u)
   exits r u lo′ up′ l₁ l₂ said =
       qed W (Items r u lo′ up′) ∵
       suffices ! _ (ends-at 𝓤 H A runs.ended stayed (runs.clauses 𝓤 H A mem″ run) W bound u r (tt, (tt, (tt, (lo′, (up′, tt))))) (tt, (tt, (tt, (l₁, (l₂, tt)))))) $
@@ -199,7 +197,9 @@ module _ {M : Type 1} (𝓤 : URA M) (H : Heap 𝓤) (A : Atoms 𝓤) (W : Given
         qed W ((‵ (flft κ₀ q₀) ⊛ (‵ (flft κ₁ q₁) ⊛ (‵ (flft κ₂ q₂) ⊛ (‵ (flft κ₃ q₃) ⊛ ‵ ftrue)))) ∷ ‵ (owns (T.the-row ∷ ShrSlice (named 0) κ₀ u8 ∷ ShrSlice (named 1) κ₁ E ∷ MutSlice (named 2) κ₂ u64 ∷ MutSlice (named 3) κ₃ u64 ∷ []) a at) ∷ []) ∵
         enter ! C Λ code.function (T′.lowered h ∷ sliceVal (k .ptr) (length (k .now)) ∷ sliceVal (b₁, o₁) (length es) ∷ sliceVal (b₂, o₂) (length lo) ∷ sliceVal (b₃, o₃) (length up) ∷ []) _ $
         alloc1 ! (λ l₀. alloc1 ! (λ l₁. alloc1 ! (λ l₂. alloc1 ! (λ l₃. alloc1 ! (λ l₄. alloc1 ! (λ l₅. alloc1 ! (λ l₆. alloc1 ! (λ l₇. alloc1 ! (λ l₈. alloc1 ! (λ l₉. alloc1 ! (λ l₁₀. alloc1 ! (λ l₁₁. alloc1 ! (λ l₁₂. alloc1 ! (λ l₁₃. alloc1 ! (λ l₁₄. alloc0 ! $ params1 ! $
-        pass1 ! (init ! 26 refl (LL.lawful T.the-type T′.the-laws 𝓤 H A W .typed h _ h-is .0)) $ pass1 ! (init ! 24 refl (tt, (tt, (record { fits = k-room .0 }, tt)))) $ pass1 ! (init ! 22 refl (tt, (tt, (record { fits = v-room .0 }, tt)))) $ pass1 ! (init ! 20 refl (tt, (tt, (record { fits = lo-room .0 }, tt)))) $ pass1 ! (init ! 18 refl (tt, (tt, (record { fits = up-room .0 }, tt)))) $ pass0 ! $
+        pass1 ! (init ! 26 refl (LL.lawful T.the-type T′.the-laws 𝓤 H A W .typed h _ h-is .0)) $ pass1 ! (init ! 24 refl (tt, (tt, (record { fits = k-room .0 }, tt)))) $
+        pass1 ! (init ! 22 refl (tt, (tt, (record { fits = v-room .0 }, tt)))) $ pass1 ! (init ! 20 refl (tt, (tt, (record { fits = lo-room .0 }, tt)))) $
+        pass1 ! (init ! 18 refl (tt, (tt, (record { fits = up-room .0 }, tt)))) $ pass0 ! $
         move ! (30 ∷ []) $ split ! $ move ! (1 ∷ []) $ split ! $ move ! (1 ∷ []) $ split ! $ move ! (1 ∷ []) $ split ! $ move ! (35 ∷ []) $ fsplit ! $ move ! (1 ∷ []) $ fsplit ! $ move ! (1 ∷ []) $ fsplit ! $
         move ! (1 ∷ []) $ fsplit ! $ move ! (1 ∷ []) $ fsplit ! $
         -- the array of words
@@ -225,15 +225,23 @@ module _ {M : Type 1} (𝓤 : URA M) (H : Heap 𝓤) (A : Atoms 𝓤) (W : Given
         assigns ! (agg ! (and-then ! (load ! (from ! (stop !)) (look ! 18 refl)) (and-then ! (load ! (from ! (fld ! refl (stop !))) (look-in ! 33 (sub ! 1 refl (whole !)))) (no-more !)))) (from ! (stop !)) (init ! 16 refl (tt, (tt, (record { fits = up-room .0 }, tt)))) $
         -- the words are lent by `&` to `run_words`, for a lifetime ν′ of the call; the lists of bounds are given up for good
         lft-new ! tt (λ ν′. move ! (1 ∷ []) $
-        use1 W (later (some (λ (δ′ : GName). ‵ (ShrRef (named 1) (ν′ ∷ []) Words .own (x l₆ δ′ (zs .1 .0)) (vptr l₆ 0 ∷ [])) ⊛ ‵ (flent (ν′ ∷ []) (partAt Words fullShare (zs .1 .0) l₆ 0))))) (lends-shr 𝓤 H A W Words (named 1) (ν′ ∷ []) fullShare (zs .1 .0) l₆ 0) $ await ! tt $ pick ! (λ δ′. split ! $
+        use1 W (later (some (λ (δ′ : GName). ‵ (ShrRef (named 1) (ν′ ∷ []) Words .own (x l₆ δ′ (zs .1 .0)) (vptr l₆ 0 ∷ [])) ⊛ ‵ (flent (ν′ ∷ []) (partAt Words fullShare (zs .1 .0) l₆ 0)))))
+        (lends-shr 𝓤 H A W Words (named 1) (ν′ ∷ []) fullShare (zs .1 .0) l₆ 0) $ await ! tt $ pick ! (λ δ′. split ! $
         move ! (12 ∷ []) $ use1 W (‵ OwnK ⊛ ‵ OwnK) (shr-slice-copy 𝓤 H A W (named 0) κ₀ u8 .twice k (at .1 .0)) $ split ! $ nothing ! $ move ! (16 ∷ 0 ∷ []) $ join ! $ move ! (17 ∷ 0 ∷ []) $ join ! $
         move ! (5 ∷ 0 ∷ []) $ join ! $ move ! (16 ∷ 0 ∷ []) $ join ! $ nothing ! $ move ! (12 ∷ 0 ∷ []) $ fjoin ! $ move ! (13 ∷ 0 ∷ []) $ fjoin ! $ move ! (4 ∷ 0 ∷ []) $ fjoin ! $
         owned ! usize (Is usize) (uint-makes 𝓤 H A W w64) (length es) _ (refl, v-room .0) $ fjoin ! $ move ! (2 ∷ 0 ∷ []) $ fjoin ! $ owned ! T.the-row (Is T.the-row) header-makes h _ h-is $ fjoin ! $
         move ! (1 ∷ 0 ∷ []) $ use2 W (raw (RunWords 𝓤 H A mem″ run .pre (to-run l₆ ν′ δ′ (zs .1 .0)))) (asked-run l₆ ν′ δ′ (zs .1 .0)) $
-        calls-at ! fm (RunWords 𝓤 H A mem″ run) known-run (to-run l₆ ν′ δ′ (zs .1 .0)) (and-then ! (load ! (from ! (stop !)) (look ! 37 refl)) (and-then ! (load ! (from ! (stop !)) (look ! 35 refl)) (and-then ! (load ! (from ! (stop !)) (look ! 22 refl)) (and-then ! (load ! (from ! (stop !)) (look ! 20 refl)) (and-then ! (load ! (from ! (stop !)) (look ! 16 refl)) (and-then ! (load ! (from ! (stop !)) (look ! 12 refl)) (no-more !))))))) (λ u.
-        use1 W (later (some (λ (r : Ran). ((‵ (flft κ₀ q₀) ⊛ (‵ (flft (ν′ ∷ []) fullShare) ⊛ (‵ (flft κ₂ q₂) ⊛ (‵ (flft κ₃ q₃) ⊛ ‵ ftrue)))) ⊛ ‵ (R.the-row .own r (u ∷ []))) ⊛ raw (ensured 𝓤 H A run-words.ended (run-words.clauses 𝓤 H A mem″ run) (κ₀, (ν′ ∷ [], (κ₂, (κ₃, tt)))) ((to-run l₆ ν′ δ′ (zs .1 .0)) .0 .3) tt r)))) (id⊢ 𝓤 _) $ await ! tt $ pick ! (λ r.
-        split ! $ move ! (1 ∷ []) $ use1 W (some (λ (vs : Unit {0} × (Unit {0} × (Unit {0} × (Unit {0} × (List ℕ × (List ℕ × Unit {0})))))). ‵ (lasts run-words.ended (κ₀, (ν′ ∷ [], (κ₂, (κ₃, tt)))) ((to-run l₆ ν′ δ′ (zs .1 .0)) .0 .3) vs) ⊛ (raw (fact 𝓤 (r ≡ answered (taken (zs .1 .0)))) ⊛ (raw (fact 𝓤 ((vs .1 .1 .1 .1 .0) ≡ lower-left (taken (zs .1 .0)))) ⊛ (raw (fact 𝓤 ((vs .1 .1 .1 .1 .1 .0) ≡ upper-left (taken (zs .1 .0)))) ⊛ raw (fact 𝓤 (enclosed (taken (zs .1 .0)) r (vs .1 .1 .1 .1 .0) (vs .1 .1 .1 .1 .1 .0)))))))) (id⊢ 𝓤 _) $ pick ! (λ vs. split ! $ move ! (1 ∷ []) $
-        split ! $ heard ! (r ≡ answered (taken (zs .1 .0))) (λ e₂. split ! $ heard ! ((vs .1 .1 .1 .1 .0) ≡ lower-left (taken (zs .1 .0))) (λ e₃. split ! $ heard ! ((vs .1 .1 .1 .1 .1 .0) ≡ upper-left (taken (zs .1 .0))) (λ e₄. heard ! (enclosed (taken (zs .1 .0)) r (vs .1 .1 .1 .1 .0) (vs .1 .1 .1 .1 .1 .0)) (λ e₅.
+        calls-at ! fm (RunWords 𝓤 H A mem″ run) known-run (to-run l₆ ν′ δ′ (zs .1 .0)) (and-then ! (load ! (from ! (stop !)) (look ! 37 refl)) (and-then ! (load ! (from ! (stop !)) (look ! 35 refl))
+        (and-then ! (load ! (from ! (stop !)) (look ! 22 refl)) (and-then ! (load ! (from ! (stop !)) (look ! 20 refl)) (and-then ! (load ! (from ! (stop !)) (look ! 16 refl))
+        (and-then ! (load ! (from ! (stop !)) (look ! 12 refl)) (no-more !))))))) (λ u.
+        use1 W (later (some (λ (r : Ran). ((‵ (flft κ₀ q₀) ⊛ (‵ (flft (ν′ ∷ []) fullShare) ⊛ (‵ (flft κ₂ q₂) ⊛ (‵ (flft κ₃ q₃) ⊛ ‵ ftrue)))) ⊛ ‵ (R.the-row .own r (u ∷ [])))
+        ⊛ raw (ensured 𝓤 H A run-words.ended (run-words.clauses 𝓤 H A mem″ run) (κ₀, (ν′ ∷ [], (κ₂, (κ₃, tt)))) ((to-run l₆ ν′ δ′ (zs .1 .0)) .0 .3) tt r)))) (id⊢ 𝓤 _) $ await ! tt $ pick ! (λ r.
+        split ! $ move ! (1 ∷ []) $ use1 W (some (λ (vs : Unit {0} × (Unit {0} × (Unit {0} × (Unit {0} × (List ℕ × (List ℕ × Unit {0})))))).
+        ‵ (lasts run-words.ended (κ₀, (ν′ ∷ [], (κ₂, (κ₃, tt)))) ((to-run l₆ ν′ δ′ (zs .1 .0)) .0 .3) vs) ⊛ (raw (fact 𝓤 (r ≡ answered (taken (zs .1 .0))))
+        ⊛ (raw (fact 𝓤 ((vs .1 .1 .1 .1 .0) ≡ lower-left (taken (zs .1 .0)) r)) ⊛ (raw (fact 𝓤 ((vs .1 .1 .1 .1 .1 .0) ≡ upper-left (taken (zs .1 .0)) r))
+        ⊛ raw (fact 𝓤 (enclosed (taken (zs .1 .0)) r (vs .1 .1 .1 .1 .0) (vs .1 .1 .1 .1 .1 .0)))))))) (id⊢ 𝓤 _) $ pick ! (λ vs. split ! $ move ! (1 ∷ []) $
+        split ! $ heard ! (r ≡ answered (taken (zs .1 .0))) (λ e₂. split ! $ heard ! ((vs .1 .1 .1 .1 .0) ≡ lower-left (taken (zs .1 .0)) r) (λ e₃. split ! $
+        heard ! ((vs .1 .1 .1 .1 .1 .0) ≡ upper-left (taken (zs .1 .0)) r) (λ e₄. heard ! (enclosed (taken (zs .1 .0)) r (vs .1 .1 .1 .1 .0) (vs .1 .1 .1 .1 .1 .0)) (λ e₅.
         fsplit ! $ move ! (1 ∷ []) $ fsplit ! $ move ! (1 ∷ []) $ fsplit ! $ move ! (1 ∷ []) $ fsplit ! $ move ! (1 ∷ []) $ fsplit ! $ fsplit ! $ move ! (2 ∷ []) $ fsplit ! $ fsplit ! $ move ! (4 ∷ []) $
         feqL ! (λ len₁. move ! (1 ∷ []) $ feqL ! (λ len₂. move ! (7 ∷ []) $ split ! $ move ! (1 ∷ []) $ peeks ! R.the-row (Is R.the-row) (shows 𝓤 H A R.the-row) r (u ∷ []) (λ is.
         land ! (from ! (stop !)) (init ! 47 refl (EL.lawful R.the-type R′.the-laws 𝓤 H A W tt .typed r _ is .0)) $ move ! (1 ∷ []) $ split ! $ move ! (1 ∷ []) $ split ! $ move ! (1 ∷ []) $ split ! $ move ! (1 ∷ []) $
@@ -248,9 +256,12 @@ module _ {M : Type 1} (𝓤 : URA M) (H : Heap 𝓤) (A : Atoms 𝓤) (W : Given
     (known-flatten : Triple 𝓤 (𝓣 .C #flatten) (Flatten 𝓤 H A mem run)) (known-run : Triple 𝓤 (𝓣 .C #run-words) (RunWords 𝓤 H A mem run)) where
   run-walks : Walks 𝓤 H A runs.ended stayed (WpFn 𝓤 H (𝓣 .C) (𝓣 .Λ) code.function) (runs.clauses 𝓤 H A mem run)
   run-walks = walked 𝓤 H A runs.ended stayed (runs.clauses 𝓤 H A mem run) (WpFn 𝓤 H (𝓣 .C) (𝓣 .Λ) code.function)
-      (λ κs. (LL.vals T.the-type T′.the-laws, (slice-vals, (slice-vals, (slice-vals, (slice-vals, tt)))))) (λ κs. (LL.tells T.the-type T′.the-laws, (shr-slice-tells (named 0) (κs .0) u8, (shr-slice-tells (named 1) (κs .1 .0) E, (mut-slice-tells (named 2) (κs .1 .1 .0) u64, (mut-slice-tells (named 3) (κs .1 .1 .1 .0) u64, tt))))))
+      (λ κs. (LL.vals T.the-type T′.the-laws, (slice-vals, (slice-vals, (slice-vals, (slice-vals, tt))))))
+      (λ κs. (LL.tells T.the-type T′.the-laws, (shr-slice-tells (named 0) (κs .0) u8, (shr-slice-tells (named 1) (κs .1 .0) E, (mut-slice-tells (named 2) (κs .1 .1 .0) u64, (mut-slice-tells (named 3) (κs .1 .1 .1 .0) u64, tt))))))
       (λ κs qs bounds a g are. via 𝓤 _ (fst∗ 𝓤 _ (emp 𝓤))
-      (walk 𝓤 H A W mem run (κs .0) (κs .1 .0) (κs .1 .1 .0) (κs .1 .1 .1 .0) (qs .0) (qs .1 .0) (qs .1 .1 .0) (qs .1 .1 .1 .0) (a .0) (a .1 .0) (a .1 .1 .0 .ptr .0) (a .1 .1 .0 .ptr .1) (a .1 .1 .0 .name) (a .1 .1 .0 .now) (a .1 .1 .1 .0 .ptr .0) (a .1 .1 .1 .0 .ptr .1) (a .1 .1 .1 .0 .name) (a .1 .1 .1 .0 .now) (a .1 .1 .1 .1 .0 .ptr .0) (a .1 .1 .1 .1 .0 .ptr .1) (a .1 .1 .1 .1 .0 .name) (a .1 .1 .1 .1 .0 .now)
+      (walk 𝓤 H A W mem run (κs .0) (κs .1 .0) (κs .1 .1 .0) (κs .1 .1 .1 .0) (qs .0) (qs .1 .0) (qs .1 .1 .0) (qs .1 .1 .1 .0) (a .0) (a .1 .0) (a .1 .1 .0 .ptr .0) (a .1 .1 .0 .ptr .1)
+      (a .1 .1 .0 .name) (a .1 .1 .0 .now) (a .1 .1 .1 .0 .ptr .0) (a .1 .1 .1 .0 .ptr .1) (a .1 .1 .1 .0 .name) (a .1 .1 .1 .0 .now) (a .1 .1 .1 .1 .0 .ptr .0) (a .1 .1 .1 .1 .0 .ptr .1)
+      (a .1 .1 .1 .1 .0 .name) (a .1 .1 .1 .1 .0 .now)
       (are .0) (are .1 .0 .0 .1) (are .1 .1 .0 .0 .1) (are .1 .1 .1 .0 .0 .1) (are .1 .1 .1 .1 .0 .0 .1) (𝓣 .C) (𝓣 .Λ) (fmOf 𝓤 H (W .laws) 𝓣) known-flatten known-run))
 
   run-meets : Meets 𝓤 H A runs.signature (WpFn 𝓤 H (𝓣 .C) (𝓣 .Λ) code.function) (runs.spec 𝓤 H A mem run)

@@ -3,6 +3,7 @@ use mathlib.Core.Path.{subst}
 use mathlib.Core.List.{List}
 use Prim.Native.Nat.{ℕ}
 use borrow.Author.Needs.{needs}
+use Rattle.plan.specs.LentLists.{inWords}
 use Rattle.record_runs.proofs.RunLaws.{Outcome}
 use Rattle.record_runs.proofs.run_words.Statement.{statement}
 use Rattle.record_runs.proofs.run_words.Tie as tie
@@ -11,7 +12,7 @@ returns : tie.Need-returns
 returns c =
     let a = c .before .before .before .before .before .before .before .before .before .before .before .args in
     let r = c .before .before .before .before .run in
-    subst (λ (ws : List ℕ). Outcome (a .h) (a .links .now) (a .lower .now) (a .upper .now) ws (r .result) (r .last .1 .1 .1 .0) (r .last .1 .1 .1 .1 .0))
+    subst (λ (ws : List ℕ). Outcome (inWords (a .h) (a .links .now) ws) (a .lower .now) (a .upper .now) (r .result) (r .last .1 .1 .1 .0) (r .last .1 .1 .1 .1 .0))
     (c .before .before .before .before .before .before .before .used-words .ensures) (r .ensures)
 
 pub run-words-spec : {M : Type 1} → statement M

@@ -4,17 +4,8 @@ use borrow.Author.Tests.{lt-ltb, le-ltb, le-leb, lt-leb}
 use Rattle.refusals.proofs.member_test.Statement.{statement}
 use Rattle.refusals.proofs.member_test.Tie as tie
 
-count-of-kind-requires : tie.Need-count-of-kind-requires
-count-of-kind-requires c κs = tt
-
 returns : tie.Need-returns
 returns c = simp (← c .before .count-of-kind .ensures, le-leb _ _ (c .if1 .taken))
-
-mul-rank : tie.Need-mul-rank
-mul-rank c = omega arith
-
-add-rank : tie.Need-add-rank
-add-rank c = omega arith
 
 returns-2 : tie.Need-returns-2
 returns-2 c =
@@ -24,4 +15,11 @@ returns-3 : tie.Need-returns-3
 returns-3 c = simp (← c .before .before .count-of-kind .ensures, lt-leb _ _ (c .before .if1 .left), le-ltb _ _ (c .if2 .left))
 
 pub member-test-spec : {M : Type 1} → statement M
-member-test-spec = tie.close (tie.spec count-of-kind-requires returns mul-rank add-rank returns-2 returns-3)
+member-test-spec = tie.close
+    (tie.spec
+    (λ c κs. tt)  -- count-of-kind-requires
+    returns
+    (λ c. omega arith)  -- mul-rank
+    (λ c. omega arith)  -- add-rank
+    returns-2
+    returns-3)

@@ -1,7 +1,7 @@
 -- `run_answers::pair` meets its contract: the answer of the call is handed out. Assumes nothing.
 use mathlib.Core.Path.{refl}
 use borrow.Author.Needs.{needs}
-use Rattle.answers.proofs.NumberLaws.{pair-back}
+use Rattle.bounds.proofs.Answers.{paired-number}
 use Rattle.run_answers.proofs.pair.Statement.{statement}
 use Rattle.run_answers.proofs.pair.Tie as tie
 
@@ -9,7 +9,7 @@ returns : tie.Need-returns
 returns c =
     let f = c .before .before .give-bounds .ensures in
     let e = c .before .before .before .before .pair .ensures .0 in
-    let n = rw (e, pair-back) at (f .0) in
+    let n = rw (e, paired-number) at (f .0) in
     rw n (refl, rw e at (f .1))
 
 pub pair-spec : {M : Type 1} → statement M

@@ -1,7 +1,7 @@
 -- `run_answers::run_at` meets its contract: the answer of the call is handed out. Assumes nothing.
 use mathlib.Core.Path.{refl}
 use borrow.Author.Needs.{needs}
-use Rattle.answers.proofs.NumberLaws.{run-back}
+use Rattle.bounds.proofs.Answers.{ran-number}
 use Rattle.run_answers.proofs.run_at.Statement.{statement}
 use Rattle.run_answers.proofs.run_at.Tie as tie
 
@@ -10,8 +10,8 @@ returns c =
     let f = c .before .before .give-totals .ensures in
     let k = c .before .before .before .before .before .before .before .before in
     let e = k .run-at .ensures .0 in
-    let n = rw (e, run-back) at (f .0) in
-    rw n (refl, (k .run-at .ensures .1 .0, (k .run-at .ensures .1 .1 .0, rw e at (f .1))))
+    let n = rw (e, ran-number) at (f .0) in
+    rw n (refl, (rw (e, ran-number) at (k .run-at .ensures .1 .0), (rw (e, ran-number) at (k .run-at .ensures .1 .1 .0), rw e at (f .1))))
 
 pub run-at-spec : {M : Type 1} → statement M
 run-at-spec =

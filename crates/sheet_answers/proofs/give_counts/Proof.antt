@@ -2,11 +2,6 @@
 use borrow.Author.Needs.{needs}
 use Rattle.sheet_answers.proofs.give_counts.Statement.{statement}
 use Rattle.sheet_answers.proofs.give_counts.Tie as tie
-use Rattle.sheet_answers.proofs.give_counts.Reads as reads
-use Rattle.sheet_answers.proofs.give_counts.Lts as lts
-use Rattle.answers.proofs.give_three.Reads as give-three-reads
-use Rattle.sheets.proofs.counts_in.Reads as counts-in-reads
-use Rattle.sheets.proofs.number_in.Reads as number-in-reads
 
 returns : tie.Need-returns
 returns c =

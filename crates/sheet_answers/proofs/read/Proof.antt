@@ -1,6 +1,6 @@
 -- `sheet_answers::read` meets its contract: the answer of the call is handed out. Assumes nothing.
 use mathlib.Core.Path.{refl}
-use Rattle.sheet_answers.proofs.NumberLaws.{sheet-back}
+use Rattle.sheets.proofs.ReadLaws.{sheet-number}
 use borrow.Author.Needs.{needs}
 use Rattle.sheet_answers.proofs.read.Statement.{statement}
 use Rattle.sheet_answers.proofs.read.Tie as tie
@@ -10,7 +10,7 @@ returns c =
     let f = c .before .before .give-counts .ensures in
     let k = c .before .before .before .before .before .before in
     let e = k .read .ensures .0 in
-    let n = rw (e, sheet-back) at (f .0) in
+    let n = rw (e, sheet-number) at (f .0) in
     rw n (refl, (k .read .ensures .1, rw e at (f .1)))
 
 pub read-spec : {M : Type 1} → statement M

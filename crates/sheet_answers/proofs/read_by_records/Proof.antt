@@ -1,6 +1,6 @@
 -- `sheet_answers::read_by_records` meets its contract: the answer of the call is handed out. Assumes nothing.
 use mathlib.Core.Path.{refl}
-use Rattle.sheet_answers.proofs.NumberLaws.{sheet-back}
+use Rattle.sheets.proofs.ReadLaws.{sheet-number}
 use borrow.Author.Needs.{needs}
 use Rattle.sheet_answers.proofs.read_by_records.Statement.{statement}
 use Rattle.sheet_answers.proofs.read_by_records.Tie as tie
@@ -10,7 +10,7 @@ returns c =
     let f = c .before .before .give-counts .ensures in
     let k = c .before .before .before .before .before .before in
     let e = k .read-by-records .ensures .0 in
-    let n = rw (e, sheet-back) at (f .0) in
+    let n = rw (e, sheet-number) at (f .0) in
     rw n (refl, (k .read-by-records .ensures .1, rw e at (f .1)))
 
 pub read-by-records-spec : {M : Type 1} → statement M

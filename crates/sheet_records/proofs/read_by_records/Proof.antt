@@ -217,7 +217,8 @@ module _ {M : Type 1} (𝓤 : URA M) (H : Heap 𝓤) (A : Atoms 𝓤) (W : Given
         await ! tt $ pick ! (λ ε′. split ! $ nothing ! $ move ! (5 ∷ 0 ∷ []) $ join ! $ move ! (5 ∷ 0 ∷ []) $ join ! $ nothing ! $ move ! (2 ∷ 0 ∷ []) $ fjoin ! $ move ! (3 ∷ 0 ∷ []) $ fjoin ! $ move ! (1 ∷ 0 ∷ []) $
         use2 W (raw (Flatten 𝓤 H A mem″ run .pre (to-flatten l₃ l₄ μ μ′ ε ε′ (zs .1 .0)))) (asked-flatten l₃ l₄ μ μ′ ε ε′ (zs .1 .0)) $
         calls-at ! fm (Flatten 𝓤 H A mem″ run) known-flatten (to-flatten l₃ l₄ μ μ′ ε ε′ (zs .1 .0)) (and-then ! (load ! (from ! (stop !)) (look ! 22 refl)) (and-then ! (load ! (from ! (stop !)) (look ! 20 refl)) (no-more !))) (λ w.
-        use1 W (later (some (λ (g : Unit {0}). ((‵ (flft (μ ∷ []) fullShare) ⊛ (‵ (flft (μ′ ∷ []) fullShare) ⊛ ‵ ftrue)) ⊛ ‵ (unit .own g (w ∷ []))) ⊛ raw (ensured 𝓤 H A flatten.ended (flatten.clauses 𝓤 H A mem″ run) (μ ∷ [], (μ′ ∷ [], tt)) ((to-flatten l₃ l₄ μ μ′ ε ε′ (zs .1 .0)) .0 .3) tt g)))) (id⊢ 𝓤 _) $
+        use1 W (later (some (λ (g : Unit {0}). ((‵ (flft (μ ∷ []) fullShare) ⊛ (‵ (flft (μ′ ∷ []) fullShare) ⊛ ‵ ftrue)) ⊛ ‵ (unit .own g (w ∷ [])))
+        ⊛ raw (ensured 𝓤 H A flatten.ended (flatten.clauses 𝓤 H A mem″ run) (μ ∷ [], (μ′ ∷ [], tt)) ((to-flatten l₃ l₄ μ μ′ ε ε′ (zs .1 .0)) .0 .3) tt g)))) (id⊢ 𝓤 _) $
         await ! tt $ pick ! (λ g. split ! $ move ! (1 ∷ []) $
         use1 W (some (λ (vs : Unit {0} × (List ℕ × Unit {0})). ‵ (lasts flatten.ended (μ ∷ [], (μ′ ∷ [], tt)) ((to-flatten l₃ l₄ μ μ′ ε ε′ (zs .1 .0)) .0 .3) vs) ⊛ raw (fact 𝓤 (vs .1 .0 ≡ sets zeros 0 (wordsOf (take 128 (zs .1 .0))))))) (id⊢ 𝓤 _) $
         pick ! (λ vs. split ! $ move ! (1 ∷ []) $ heard ! (vs .1 .0 ≡ sets zeros 0 (wordsOf (take 128 (zs .1 .0)))) (λ e₃. fsplit ! $ move ! (1 ∷ []) $ fsplit ! $ move ! (3 ∷ []) $ split ! $ move ! (1 ∷ []) $

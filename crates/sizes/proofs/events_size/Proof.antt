@@ -39,53 +39,8 @@ few c =
 loop-holds : tie.Need-loop-holds Inv-loop μ-loop
 loop-holds c = (omega arith, omega arith)
 
-add-member-count : tie.Need-add-member-count Inv-loop μ-loop
-add-member-count c = omega arith
-
-mul-member-count : tie.Need-mul-member-count Inv-loop μ-loop
-mul-member-count c = omega arith
-
-shared-slice-read-member-count : tie.Need-shared-slice-read-member-count Inv-loop μ-loop
-shared-slice-read-member-count c = omega arith
-
-add-member-count-2 : tie.Need-add-member-count-2 Inv-loop μ-loop
-add-member-count-2 c = omega arith
-
-mul-member-count-2 : tie.Need-mul-member-count-2 Inv-loop μ-loop
-mul-member-count-2 c = omega arith
-
-shared-slice-read-member-count-2 : tie.Need-shared-slice-read-member-count-2 Inv-loop μ-loop
-shared-slice-read-member-count-2 c = omega arith
-
-add-member-count-3 : tie.Need-add-member-count-3 Inv-loop μ-loop
-add-member-count-3 c = omega arith
-
-mul-member-count-3 : tie.Need-mul-member-count-3 Inv-loop μ-loop
-mul-member-count-3 c = omega arith
-
-shared-slice-read-member-count-3 : tie.Need-shared-slice-read-member-count-3 Inv-loop μ-loop
-shared-slice-read-member-count-3 c = omega arith
-
-member-count-requires : tie.Need-member-count-requires Inv-loop μ-loop
-member-count-requires c κs = tt
-
-mul-size : tie.Need-mul-size Inv-loop μ-loop
-mul-size c = omega arith
-
-add-size : tie.Need-add-size Inv-loop μ-loop
-add-size c = omega arith
-
 add-size-2 : tie.Need-add-size-2 Inv-loop μ-loop
 add-size-2 c = omega (arith, next c, few (c .before .before .before .before .before .before .before))
-
-add-at : tie.Need-add-at Inv-loop μ-loop
-add-at c = omega arith
-
-sub-left : tie.Need-sub-left Inv-loop μ-loop
-sub-left c = omega arith
-
-loop-less : tie.Need-loop-less Inv-loop μ-loop
-loop-less c = omega arith
 
 loop-again : tie.Need-loop-again Inv-loop μ-loop
 loop-again c = (omega arith, omega (arith, next c))
@@ -102,21 +57,21 @@ events-size-spec =
     Inv-loop
     μ-loop
     loop-holds
-    add-member-count
-    mul-member-count
-    shared-slice-read-member-count
-    add-member-count-2
-    mul-member-count-2
-    shared-slice-read-member-count-2
-    add-member-count-3
-    mul-member-count-3
-    shared-slice-read-member-count-3
-    member-count-requires
-    mul-size
-    add-size
+    (λ c. omega arith)  -- add-member-count
+    (λ c. omega arith)  -- mul-member-count
+    (λ c. omega arith)  -- shared-slice-read-member-count
+    (λ c. omega arith)  -- add-member-count-2
+    (λ c. omega arith)  -- mul-member-count-2
+    (λ c. omega arith)  -- shared-slice-read-member-count-2
+    (λ c. omega arith)  -- add-member-count-3
+    (λ c. omega arith)  -- mul-member-count-3
+    (λ c. omega arith)  -- shared-slice-read-member-count-3
+    (λ c κs. tt)  -- member-count-requires
+    (λ c. omega arith)  -- mul-size
+    (λ c. omega arith)  -- add-size
     add-size-2
-    add-at
-    sub-left
-    loop-less
+    (λ c. omega arith)  -- add-at
+    (λ c. omega arith)  -- sub-left
+    (λ c. omega arith)  -- loop-less
     loop-again
     returns)

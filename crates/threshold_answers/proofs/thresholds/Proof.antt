@@ -1,7 +1,7 @@
 -- `threshold_answers::thresholds` meets its contract: the answer of the call is handed out. Assumes nothing.
 use mathlib.Core.Path.{refl}
 use borrow.Author.Needs.{needs}
-use Rattle.threshold_answers.proofs.PlaceLaws.{thresholds-back}
+use Rattle.thresholds.proofs.Outcome.{answered-with}
 use Rattle.threshold_answers.proofs.thresholds.Statement.{statement}
 use Rattle.threshold_answers.proofs.thresholds.Tie as tie
 
@@ -10,8 +10,8 @@ returns c =
     let f = c .before .before .give-places .ensures in
     let k = c .before .before .before .before .before .before .before .before in
     let e = k .thresholds .ensures .0 in
-    let n = rw (e, thresholds-back) at (f .0) in
-    rw n (refl, (k .thresholds .ensures .1 .0, (k .thresholds .ensures .1 .1 .0, rw e at (f .1))))
+    let n = rw (e, answered-with) at (f .0) in
+    rw n (refl, (rw (e, answered-with) at (k .thresholds .ensures .1 .0), (rw (e, answered-with) at (k .thresholds .ensures .1 .1 .0), rw e at (f .1))))
 
 pub thresholds-spec : {M : Type 1} → statement M
 thresholds-spec =

@@ -4,25 +4,25 @@ use Rattle.walk.proofs.Words.{low-fits, low-joined, high-fits, high-joi
 use Rattle.walk.proofs.with_event.Statement.{statement}
 use Rattle.walk.proofs.with_event.Tie as tie
 
-add-t6 : tie.Need-add-t6
-add-t6 c = record { fits = low-fits _ _ _ (c .before .pre .2) (c .if1 .taken) }
+add-t5 : tie.Need-add-t5
+add-t5 c = record { fits = low-fits _ _ _ (c .before .before .pre .2) (c .before .if1 .taken) }
 
 returns : tie.Need-returns
-returns c = low-joined _ _ _ (c .before .pre .2) (c .if1 .taken)
+returns c = low-joined _ _ _ (c .before .before .pre .2) (c .before .if1 .taken)
 
-add-t9 : tie.Need-add-t9
-add-t9 c = record { fits = high-fits _ _ _ (c .before .pre .2) (c .if1 .left) (c .before .pre .1) }
+add-t8 : tie.Need-add-t8
+add-t8 c = record { fits = high-fits _ _ _ (c .before .before .pre .2) (c .before .if1 .left) (c .before .before .pre .1) }
 
 returns-2 : tie.Need-returns-2
-returns-2 c = high-joined _ _ _ (c .before .pre .2) (c .if1 .left) (c .before .pre .1)
+returns-2 c = high-joined _ _ _ (c .before .before .pre .2) (c .before .if1 .left) (c .before .before .pre .1)
 
 pub with-event-spec : {M : Type 1} → statement M
 with-event-spec =
     tie.close
     (tie.spec
-    (λ c. search needs)  -- shl-t5
-    add-t6
+    (λ c. search needs)  -- shl-t4
+    add-t5
     returns
-    (λ c. search needs)  -- shl-t8
-    add-t9
+    (λ c. search needs)  -- shl-t7
+    add-t8
     returns-2)

@@ -1,14 +1,14 @@
 -- `walk_words::unpack` meets its contract: a refusal has a walk of zeros. Assumes nothing.
 use borrow.Author.Needs.{needs}
-use mathlib.Core.Path.{_≡_, sym, ap, _∙_}
+use mathlib.Core.Path.{_≡_, sym, _∙_}
 use Prim.Native.Nat.{ℕ}
 use lib.ListN.{length}
+use Rattle.mass.proofs.RefusalLaws.{refuses}
 use Rattle.refusals.specs.Tests.{roomTest}
 use Rattle.refusals.proofs.TestLaws.{room-none}
 use Rattle.walk_state.specs.States.{walkAnswer}
 use Rattle.walk_state.specs.declared.Walk.{Walk}
-use Rattle.walk_state.proofs.AnswerLaws.{refused}
-use Rattle.walk_words.specs.WalkWords.{walkLength, walkOf}
+use Rattle.walk_words.specs.WalkWords.{walkLength}
 use Rattle.walk_words.proofs.unpack.Statement.{statement}
 use Rattle.walk_words.proofs.unpack.Tie as tie
 
@@ -22,8 +22,7 @@ long c = sym (c .before .room-test .ensures) ∙ c .if1 .left
 
 returns : tie.Need-returns
 returns c =
-    let walk = walkOf (c .before .before .before .before .args .state .now) in
-    rw (c .no-walk .ensures) (refused _ walk (c .before .if1 .taken)) ∙ ap (λ (n : ℕ). walkAnswer n walk) (c .before .before .room-test .ensures)
+    rw (c .no-walk .ensures) (refuses _ _ (c .before .before .room-test .ensures) (c .before .if1 .taken))
 
 walk-of-requires : tie.Need-walk-of-requires
 walk-of-requires c κs = room-none _ _ (long c)

@@ -19,18 +19,6 @@ abbrev μ-loop : tie.MeasureT-loop
 loop-holds : tie.Need-loop-holds Inv-loop μ-loop
 loop-holds c = (omega arith, out-start (c .before .args .minute) (c .before .args .words .now) (length (c .before .args .words .now) / 5))
 
-sub-left : tie.Need-sub-left Inv-loop μ-loop
-sub-left c = omega arith
-
-mul-with-window : tie.Need-mul-with-window Inv-loop μ-loop
-mul-with-window c = omega arith
-
-with-window-requires : tie.Need-with-window-requires Inv-loop μ-loop
-with-window-requires c κs = omega arith
-
-loop-less : tie.Need-loop-less Inv-loop μ-loop
-loop-less c = omega arith
-
 loop-again : tie.Need-loop-again Inv-loop μ-loop
 loop-again c =
     let b = c .before .before in
@@ -45,4 +33,15 @@ returns c =
     c .before .loop .inv .1 ∙ out-all (a .minute) (a .words .now) _ (c .before .loop .left) (c .loop-test .left)
 
 pub out-at-spec : {M : Type 1} → statement M
-out-at-spec = tie.close (tie.spec Inv-loop μ-loop loop-holds sub-left mul-with-window with-window-requires loop-less loop-again returns)
+out-at-spec =
+    tie.close
+    (tie.spec
+    Inv-loop
+    μ-loop
+    loop-holds
+    (λ c. omega arith)  -- sub-left
+    (λ c. omega arith)  -- mul-with-window
+    (λ c κs. omega arith)  -- with-window-requires
+    (λ c. omega arith)  -- loop-less
+    loop-again
+    returns)

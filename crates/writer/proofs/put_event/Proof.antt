@@ -52,9 +52,6 @@ put-number-requires c κs = omega (arith, size (c .before .before), c .before .b
 add-put-number : tie.Need-add-put-number
 add-put-number c = let s = entry (c .before .before .before) in omega (arith, size s, s .pre)
 
-member-count-requires : tie.Need-member-count-requires
-member-count-requires c κs = tt
-
 put-number-requires-2 : tie.Need-put-number-requires-2
 put-number-requires-2 c κs = let one = c .before .before .before .before in omega (arith, size (entry one), entry one .pre, long₁ one)
 
@@ -104,7 +101,7 @@ put-event-spec =
     (tie.spec
     put-number-requires
     add-put-number
-    member-count-requires
+    (λ c κs. tt)  -- member-count-requires
     put-number-requires-2
     add-put-members
     put-members-requires

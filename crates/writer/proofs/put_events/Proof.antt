@@ -26,39 +26,6 @@ abbrev μ-loop : tie.MeasureT-loop
 loop-holds : tie.Need-loop-holds Inv-loop μ-loop
 loop-holds c = (omega arith, (refl, (refl, refl)))
 
-mul-put-event : tie.Need-mul-put-event Inv-loop μ-loop
-mul-put-event c = omega arith
-
-shared-slice-read-put-event : tie.Need-shared-slice-read-put-event Inv-loop μ-loop
-shared-slice-read-put-event c = omega arith
-
-add-put-event : tie.Need-add-put-event Inv-loop μ-loop
-add-put-event c = omega arith
-
-mul-put-event-2 : tie.Need-mul-put-event-2 Inv-loop μ-loop
-mul-put-event-2 c = omega arith
-
-shared-slice-read-put-event-2 : tie.Need-shared-slice-read-put-event-2 Inv-loop μ-loop
-shared-slice-read-put-event-2 c = omega arith
-
-add-put-event-2 : tie.Need-add-put-event-2 Inv-loop μ-loop
-add-put-event-2 c = omega arith
-
-mul-put-event-3 : tie.Need-mul-put-event-3 Inv-loop μ-loop
-mul-put-event-3 c = omega arith
-
-shared-slice-read-put-event-3 : tie.Need-shared-slice-read-put-event-3 Inv-loop μ-loop
-shared-slice-read-put-event-3 c = omega arith
-
-add-put-event-3 : tie.Need-add-put-event-3 Inv-loop μ-loop
-add-put-event-3 c = omega arith
-
-mul-put-event-4 : tie.Need-mul-put-event-4 Inv-loop μ-loop
-mul-put-event-4 c = omega arith
-
-shared-slice-read-put-event-4 : tie.Need-shared-slice-read-put-event-4 Inv-loop μ-loop
-shared-slice-read-put-event-4 c = omega arith
-
 next : (c : tie.In-loop Inv-loop μ-loop)
     → (let words = c .before .before .before .before .args .words .now in
     length (eventBytes (eventsOf (c .before .loop .left) (drop (c .before .loop .at) words)))
@@ -68,15 +35,6 @@ next c = length-bytes-next (c .before .before .before .before .args .words .now)
 
 put-event-requires : tie.Need-put-event-requires Inv-loop μ-loop
 put-event-requires c κs = omega (arith, next (c .before .before .before .before .before), c .before .before .before .before .before .before .before .before .before .pre)
-
-add-at : tie.Need-add-at Inv-loop μ-loop
-add-at c = omega arith
-
-sub-left : tie.Need-sub-left Inv-loop μ-loop
-sub-left c = omega arith
-
-loop-less : tie.Need-loop-less Inv-loop μ-loop
-loop-less c = omega arith
 
 loop-again : tie.Need-loop-again Inv-loop μ-loop
 loop-again c =
@@ -107,21 +65,21 @@ put-events-spec =
     Inv-loop
     μ-loop
     loop-holds
-    mul-put-event
-    shared-slice-read-put-event
-    add-put-event
-    mul-put-event-2
-    shared-slice-read-put-event-2
-    add-put-event-2
-    mul-put-event-3
-    shared-slice-read-put-event-3
-    add-put-event-3
-    mul-put-event-4
-    shared-slice-read-put-event-4
+    (λ c. omega arith)  -- mul-put-event
+    (λ c. omega arith)  -- shared-slice-read-put-event
+    (λ c. omega arith)  -- add-put-event
+    (λ c. omega arith)  -- mul-put-event-2
+    (λ c. omega arith)  -- shared-slice-read-put-event-2
+    (λ c. omega arith)  -- add-put-event-2
+    (λ c. omega arith)  -- mul-put-event-3
+    (λ c. omega arith)  -- shared-slice-read-put-event-3
+    (λ c. omega arith)  -- add-put-event-3
+    (λ c. omega arith)  -- mul-put-event-4
+    (λ c. omega arith)  -- shared-slice-read-put-event-4
     put-event-requires
-    add-at
-    sub-left
-    loop-less
+    (λ c. omega arith)  -- add-at
+    (λ c. omega arith)  -- sub-left
+    (λ c. omega arith)  -- loop-less
     loop-again
     same-length
     returns)

@@ -23,9 +23,6 @@ long₁ c = c .put-number .kept .0 ∙ simp length-set
 long₂ : (c : tie.After-put-number2) → length (c .put-number2 .last .0) ≡ length (entry (first c) .args .out .now)
 long₂ c = c .put-number2 .kept .0 ∙ simp length-set (long₁ (first c))
 
-slice-write-out : tie.Need-slice-write-out
-slice-write-out c = omega arith
-
 slice-write-out-2 : tie.Need-slice-write-out-2
 slice-write-out-2 c = simp length-set (omega arith)
 
@@ -35,20 +32,11 @@ slice-write-out-3 c = simp length-set (omega arith)
 put-number-requires : tie.Need-put-number-requires
 put-number-requires c κs = simp length-set (omega arith)
 
-cast-out : tie.Need-cast-out
-cast-out c = omega arith
-
 slice-write-out-4 : tie.Need-slice-write-out-4
 slice-write-out-4 c = omega (arith, long₁ (c .before .before .before))
 
-cast-out-2 : tie.Need-cast-out-2
-cast-out-2 c = omega arith
-
 slice-write-out-5 : tie.Need-slice-write-out-5
 slice-write-out-5 c = simp length-set (omega (arith, long₁ (c .before .before .before .before)))
-
-cast-out-3 : tie.Need-cast-out-3
-cast-out-3 c = omega arith
 
 slice-write-out-6 : tie.Need-slice-write-out-6
 slice-write-out-6 c = simp length-set (omega (arith, long₁ (c .before .before .before .before .before)))
@@ -73,15 +61,15 @@ pub put-header-spec : {M : Type 1} → statement M
 put-header-spec =
     tie.close
     (tie.spec
-    slice-write-out
+    (λ c. omega arith)  -- slice-write-out
     slice-write-out-2
     slice-write-out-3
     put-number-requires
-    cast-out
+    (λ c. omega arith)  -- cast-out
     slice-write-out-4
-    cast-out-2
+    (λ c. omega arith)  -- cast-out-2
     slice-write-out-5
-    cast-out-3
+    (λ c. omega arith)  -- cast-out-3
     slice-write-out-6
     put-number-requires-2
     put-number-requires-3

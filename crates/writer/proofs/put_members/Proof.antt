@@ -32,15 +32,6 @@ next c = length-members-left _ _ _ (c .loop-test .taken)
 put-member-requires : tie.Need-put-member-requires Inv-loop μ-loop
 put-member-requires c κs = omega (arith, next (c .before))
 
-add-number : tie.Need-add-number Inv-loop μ-loop
-add-number c = omega arith
-
-sub-left : tie.Need-sub-left Inv-loop μ-loop
-sub-left c = omega arith
-
-loop-less : tie.Need-loop-less Inv-loop μ-loop
-loop-less c = omega arith
-
 loop-again : tie.Need-loop-again Inv-loop μ-loop
 loop-again c =
     let b = c .before .before .before .before .before in
@@ -72,9 +63,9 @@ put-members-spec =
     μ-loop
     loop-holds
     put-member-requires
-    add-number
-    sub-left
-    loop-less
+    (λ c. omega arith)  -- add-number
+    (λ c. omega arith)  -- sub-left
+    (λ c. omega arith)  -- loop-less
     loop-again
     same-length
     returns)

@@ -32,9 +32,6 @@ long₁ c = c .put-header .kept .0
 long₂ : (c : tie.After-put-bytes) → length (c .put-bytes .last .1 .0) ≡ length (entry (first c) .args .out .now)
 long₂ c = c .put-bytes .kept .1 .0 ∙ long₁ (first c)
 
-mul-count : tie.Need-mul-count
-mul-count c = omega arith
-
 put-header-requires : tie.Need-put-header-requires
 put-header-requires c κs = let s = c .before .before .before .before in omega (arith, room s, s .pre)
 
@@ -71,7 +68,7 @@ pub put-plan-spec : {M : Type 1} → statement M
 put-plan-spec =
     tie.close
     (tie.spec
-    mul-count
+    (λ c. omega arith)  -- mul-count
     put-header-requires
     put-bytes-requires
     add-put-events

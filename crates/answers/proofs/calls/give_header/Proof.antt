@@ -1,6 +1,6 @@
 -- `answers::calls::give_header` meets its contract: the five numbers one after the other. Assumes nothing.
 use mathlib.Core.Path.{sym, ap}
-use Rattle.answers.specs.Answers.{readingNumber}
+use Rattle.plan.specs.Calls.{readingNumber}
 use borrow.Author.Needs.{needs}
 use Rattle.answers.proofs.calls.give_header.Statement.{statement}
 use Rattle.answers.proofs.calls.give_header.Tie as tie

@@ -2,6 +2,7 @@
 use native.Mathlib.Omega.{arith}
 use borrow.Author.Tests.{not-true, not-false}
 use Rattle.network.specs.Code.{outage}
+use Rattle.bounds.specs.Tallied.{walkedPlan, runState}
 use Rattle.bounds.proofs.Examining.{first-fits, examined}
 use Rattle.bounds.proofs.Turn.{Turn, stopped, mass-fits, number-fits, room, less, turned}
 use Rattle.bounds.proofs.ends.go_on.Statement.{statement}
@@ -9,23 +10,15 @@ use Rattle.bounds.proofs.ends.go_on.Tie as tie
 
 abbrev Inv-loop : tie.InvT-loop
 Inv-loop h links words table out stack₀ lower₀ at₀ left₀ number₀ mass₀ stack lower at left number mass =
-    Turn
-    (outage out)
-    h
-    links
-    words
-    stack₀
-    lower₀
-    (record { at = at₀; left = left₀; number = number₀; mass = mass₀ })
-    stack
-    lower
-    (record { at = at; left = left; number = number; mass = mass })
+    Turn (walkedPlan (outage out) h links words)
+    (runState stack₀ lower₀ (record { at = at₀; left = left₀; number = number₀; mass = mass₀ }))
+    (runState stack lower (record { at = at; left = left; number = number; mass = mass }))
 
 abbrev μ-loop : tie.MeasureT-loop
 μ-loop h links words table out stack₀ lower₀ at₀ left₀ number₀ mass₀ stack lower at left number mass = left
 
 loop-holds : tie.Need-loop-holds Inv-loop μ-loop
-loop-holds c = record { ready = c .pre .1; goes = λ stack lower r t. t }
+loop-holds c = record { ready = c .pre .1; goes = λ r t. t }
 
 next-relevant-requires : tie.Need-next-relevant-requires Inv-loop μ-loop
 next-relevant-requires c κs =
@@ -34,38 +27,43 @@ next-relevant-requires c κs =
 
 returns : tie.Need-returns Inv-loop μ-loop
 returns c =
-    let t = c .before .before .before .before .loop .inv in
-    t .goes _ _ _ (stopped _ _ _ _ _ _ (t .ready) _ _ (c .before .before .next-relevant .ensures) _ (not-true _ (c .if1 .taken)))
+    stopped _ _ _ (c .before .before .before .before .loop .inv) _ _ (c .before .before .next-relevant .ensures) (not-true _ (c .if1 .taken))
 
 examine-requires : tie.Need-examine-requires Inv-loop μ-loop
 examine-requires c κs =
-    let ready = c .before .before .before .before .before .loop .inv .ready in
+    let g = c .before .before .before .before .before .loop .inv in
+    let held = g .ready .held in
     let s = c .before .before .before .next-relevant .ensures in (
-      ready .held,
+      held,
       (
         c .before .before .before .before .before .before .pre .0,
-        (s .decided, first-fits _ _ _ (ready .held .links-held .nodes-fit) (room _ _ _ _ _ _ ready _ _ s (not-false _ (c .before .if1 .left)))),
+        (s .decided, first-fits _ _ _ (held .links-held .nodes-fit) (room _ _ _ g _ _ s (not-false _ (c .before .if1 .left)))),
       ),
     )
 
 add-number : tie.Need-add-number Inv-loop μ-loop
 add-number c =
-    omega (arith, number-fits _ _ _ _ _ _ (c .before .before .before .before .before .before .loop .inv .ready) _ _ (c .before .before .before .before .next-relevant .ensures) (not-false _ (c .before .before .if1 .left)))
+    let next = c .before .before .before .before in
+    omega (arith, number-fits _ _ _ (next .before .before .loop .inv) _ _ (next .next-relevant .ensures) (not-false _ (c .before .before .if1 .left)))
 
 add-mass : tie.Need-add-mass Inv-loop μ-loop
 add-mass c =
-    omega (arith, mass-fits _ _ _ _ _ _ (c .before .before .before .before .before .before .before .loop .inv .ready) _ _ (c .before .before .before .before .before .next-relevant .ensures) (not-false _ (c .before .before .before .if1 .left)))
+    let next = c .before .before .before .before .before in
+    omega (arith, mass-fits _ _ _ (next .before .before .loop .inv) _ _ (next .next-relevant .ensures) (not-false _ (c .before .before .before .if1 .left)))
 
 loop-less : tie.Need-loop-less Inv-loop μ-loop
-loop-less c = less _ _ _ _ _ _ (c .before .before .before .before .before .before .before .loop .inv .ready) _ _ (c .before .before .before .before .before .next-relevant .ensures) (not-false _ (c .before .before .before .if1 .left))
+loop-less c =
+    let next = c .before .before .before .before .before in
+    less _ _ _ (next .before .before .loop .inv) _ _ (next .next-relevant .ensures) (not-false _ (c .before .before .before .if1 .left))
 
 loop-again : tie.Need-loop-again Inv-loop μ-loop
 loop-again c =
-    let t = c .before .before .before .before .before .before .before .loop .inv in
-    let next = c .before .before .before .before .before .next-relevant in
+    let next = c .before .before .before .before .before in
+    let g = next .before .before .loop .inv in
+    let s = next .next-relevant .ensures in
     let found = not-false _ (c .before .before .before .if1 .left) in
-    let added = examined _ _ _ _ (next .result) _ _ (t .ready .held .links-held .nodes-fit) (room _ _ _ _ _ _ (t .ready) _ _ (next .ensures) found) (c .before .examine .ensures) in
-    turned _ _ _ _ _ _ (t .ready) _ _ (next .ensures) found _ _ added _ _ _ (t .goes)
+    turned _ _ _ g _ _ s found _
+    (examined _ _ _ _ _ (g .ready .held .links-held .nodes-fit) (room _ _ _ g _ _ s found) (c .before .examine .ensures))
 
 pub go-on-spec : {M : Type 1} → statement M
 go-on-spec =

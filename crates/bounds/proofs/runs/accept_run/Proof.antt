@@ -2,6 +2,7 @@
 use mathlib.Core.Path.{sym, _∙_}
 use borrow.Author.Needs.{needs}
 use native.Mathlib.Omega.{arith}
+use Rattle.plan.specs.LentLists.{inWords}
 use Rattle.bounds.proofs.Outcome.{lists-refuse, rooms-decide, rooms-fit}
 use Rattle.bounds.proofs.runs.accept_run.Statement.{statement}
 use Rattle.bounds.proofs.runs.accept_run.Tie as tie
@@ -9,7 +10,7 @@ use Rattle.bounds.proofs.runs.accept_run.Tie as tie
 returns : tie.Need-returns
 returns c =
     let a = c .before .before .before .before .before .before .args in (
-      lists-refuse (a .h) (a .links .now) (a .events .now) (a .lower-room) (a .upper-room) _ (c .before .accept .ensures .0) (c .if1 .taken),
+      lists-refuse (inWords (a .h) (a .links .now) (a .events .now)) (a .lower-room) (a .upper-room) _ (c .before .accept .ensures .0) (c .if1 .taken),
       λ z. absurd (c .if1 .taken z),
     )
 
@@ -23,10 +24,10 @@ returns-2 c =
     let a = f .before .before .before .before .before .before .args in
     let lists = f .before .accept .ensures in
     let short = rw pairs at (c .bounds-test .ensures) in (
-      rooms-decide (a .h) (a .links .now) (a .events .now) (a .lower-room) (a .upper-room) _ _ (lists .0) (f .if1 .left) short,
+      rooms-decide (inWords (a .h) (a .links .now) (a .events .now)) (a .lower-room) (a .upper-room) _ _ (lists .0) (f .if1 .left) short,
       λ z. (
         lists .1 .0 (f .if1 .left),
-        rooms-fit (a .h) (a .links .now) (a .events .now) (a .lower-room) (a .upper-room) (sym short ∙ z),
+        rooms-fit (inWords (a .h) (a .links .now) (a .events .now)) (a .lower-room) (a .upper-room) (sym short ∙ z),
       ),
     )
 

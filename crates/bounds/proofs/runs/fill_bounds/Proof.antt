@@ -1,5 +1,6 @@
 -- `bounds::runs::fill_bounds` meets its contract. Assumes nothing.
 use borrow.Author.Needs.{needs}
+use Rattle.lent.proofs.Accepted.{plan-held}
 use Rattle.network.specs.Code.{outage}
 use Rattle.bounds.proofs.Zeros.{cleared}
 use Rattle.bounds.proofs.Outcome.{may-give, lower-filled, upper-filled}
@@ -11,17 +12,17 @@ abbrev entry : tie.After-walk-all → tie.Start
 entry c = c .before .before .before .before
 
 walk-all-requires : tie.Need-walk-all-requires
-walk-all-requires c κs = let s = c .before .before .before in (s .pre .0, (s .pre .1 .1 .0, cleared))
+walk-all-requires c κs = (c .before .before .before .pre .0, cleared)
 
 give-bounds-requires : tie.Need-give-bounds-requires
 give-bounds-requires c κs =
     let k = c .before .before .before in
     let s = entry k in
     let a = s .args in
-    may-give (outage (a .out)) (a .h) (a .links .now) (a .words .now) (s .pre .1 .0) (s .pre .0 .links-held .nodes-fit) _ _ (k .walk-all .ensures .0) (k .walk-all .ensures .1)
+    may-give (outage (a .out)) (a .h) (a .links .now) (a .words .now) (s .pre .0) (plan-held _ _ _ (s .pre .0) .links-held .nodes-fit) _ _ (k .walk-all .ensures .0) (k .walk-all .ensures .1)
     (a .lower .now)
     (a .upper .now)
-    (s .pre .1 .1 .1)
+    (s .pre .1)
 
 returns : tie.Need-returns
 returns c =
@@ -29,13 +30,13 @@ returns c =
     let k = give .before .before .before .before in
     let s = entry k in
     let a = s .args in
-    let few = s .pre .0 .links-held .nodes-fit in
+    let few = plan-held _ _ _ (s .pre .0) .links-held .nodes-fit in
     let w = k .walk-all .ensures in (
       w .0,
       (
-        lower-filled (outage (a .out)) (a .h) (a .links .now) (a .words .now) (s .pre .1 .0) few _ _ (w .0) (w .1) (a .lower .now) (a .upper .now) _
+        lower-filled (outage (a .out)) (a .h) (a .links .now) (a .words .now) (s .pre .0) few _ _ (w .0) (w .1) (a .lower .now) (a .upper .now) _
             (give .give-bounds .ensures .0),
-        upper-filled (outage (a .out)) (a .h) (a .links .now) (a .words .now) (s .pre .1 .0) few _ _ (w .0) (w .1) (a .lower .now) (a .upper .now) _
+        upper-filled (outage (a .out)) (a .h) (a .links .now) (a .words .now) (s .pre .0) few _ _ (w .0) (w .1) (a .lower .now) (a .upper .now) _
             (give .give-bounds .ensures .1),
       ),
     )

@@ -1,6 +1,8 @@
 -- `bounds::runs::run` meets its contract: at each `return` the tests that led there decide the answer. Assumes nothing.
 use mathlib.Core.Path.{sym, _∙_}
 use borrow.Author.Needs.{needs}
+use lib.ListN.{length}
+use Rattle.plan.specs.LentLists.{inWords}
 use Rattle.network.specs.Outage.{intact}
 use Rattle.bounds.specs.Calls.{runNumber}
 use Rattle.bounds.proofs.Outcome.{arrays-valid, run-refused, run-done}
@@ -17,7 +19,7 @@ passed c = c .before .before .before .before
 returns : tie.Need-returns
 returns c =
     let a = entry (c .before) .args in
-    run-refused intact (runNumber (a .h) (a .links .now) (a .events .now) (a .lower .now) (a .upper .now)) (a .h) (a .links .now) (a .events .now) (a .lower .now) (a .upper .now) _
+    run-refused intact (runNumber (inWords (a .h) (a .links .now) (a .events .now)) (length (a .lower .now)) (length (a .upper .now))) (a .h) (a .links .now) (a .events .now) (a .lower .now) (a .upper .now) _
     (c .before .accept-run .ensures .0)
     (c .if1 .taken)
 
@@ -25,7 +27,7 @@ fill-bounds-requires : tie.Need-fill-bounds-requires
 fill-bounds-requires c κs =
     let k = passed c in
     let t = k .before .accept-run .ensures .1 (k .if1 .left) in
-    (t .0 .held, (arrays-valid _ _ _ _ _ (t .0), (t .0 .limited, t .1)))
+    (arrays-valid _ _ _ _ _ (t .0), t .1)
 
 returns-2 : tie.Need-returns-2
 returns-2 c =
@@ -34,7 +36,7 @@ returns-2 c =
     let tests = k .before .accept-run .ensures in
     let t = tests .1 (k .if1 .left) in
     let a = entry (k .before) .args in
-    let number = runNumber (a .h) (a .links .now) (a .events .now) (a .lower .now) (a .upper .now) in
+    let number = runNumber (inWords (a .h) (a .links .now) (a .events .now)) (length (a .lower .now)) (length (a .upper .now)) in
     run-done intact number (a .h) (a .links .now) (a .events .now) (a .lower .now) (a .upper .now) _ _ (t .0) _ _ _ (t .1) (fill .fill-bounds .ensures .0)
     (fill .fill-bounds .ensures .1 .0)
     (fill .fill-bounds .ensures .1 .1)

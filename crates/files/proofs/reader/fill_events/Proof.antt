@@ -71,23 +71,11 @@ members-of-requires c κs =
 number-at-requires : tie.Need-number-at-requires Inv-loop μ-loop
 number-at-requires c κs = omega (arith, head-there (c .before .before .before))
 
-put-event-requires : tie.Need-put-event-requires Inv-loop μ-loop
-put-event-requires c κs = omega arith
-
 event-size-requires : tie.Need-event-size-requires Inv-loop μ-loop
 event-size-requires c κs = head-there (c .before .before .before .before .before)
 
 add-at : tie.Need-add-at Inv-loop μ-loop
 add-at c = omega (arith, there c)
-
-add-done : tie.Need-add-done Inv-loop μ-loop
-add-done c = omega arith
-
-sub-left : tie.Need-sub-left Inv-loop μ-loop
-sub-left c = omega arith
-
-loop-less : tie.Need-loop-less Inv-loop μ-loop
-loop-less c = omega arith
 
 loop-again : tie.Need-loop-again Inv-loop μ-loop
 loop-again c =
@@ -128,11 +116,11 @@ fill-events-spec =
     byte-at-requires
     members-of-requires
     number-at-requires
-    put-event-requires
+    (λ c κs. omega arith)  -- put-event-requires
     event-size-requires
     add-at
-    add-done
-    sub-left
-    loop-less
+    (λ c. omega arith)  -- add-done
+    (λ c. omega arith)  -- sub-left
+    (λ c. omega arith)  -- loop-less
     loop-again
     returns)

@@ -21,36 +21,6 @@ abbrev μ-loop : tie.MeasureT-loop
 loop-holds : tie.Need-loop-holds Inv-loop μ-loop
 loop-holds c = (omega arith, c .pre .1, refl)
 
-shared-slice-read-links : tie.Need-shared-slice-read-links Inv-loop μ-loop
-shared-slice-read-links c = omega arith
-
-element-write-links : tie.Need-element-write-links Inv-loop μ-loop
-element-write-links c = omega arith
-
-add-links : tie.Need-add-links Inv-loop μ-loop
-add-links c = omega arith
-
-shared-slice-read-links-2 : tie.Need-shared-slice-read-links-2 Inv-loop μ-loop
-shared-slice-read-links-2 c = omega arith
-
-add-links-2 : tie.Need-add-links-2 Inv-loop μ-loop
-add-links-2 c = omega arith
-
-element-write-links-2 : tie.Need-element-write-links-2 Inv-loop μ-loop
-element-write-links-2 c = omega arith
-
-add-at : tie.Need-add-at Inv-loop μ-loop
-add-at c = omega arith
-
-add-done : tie.Need-add-done Inv-loop μ-loop
-add-done c = omega arith
-
-sub-left : tie.Need-sub-left Inv-loop μ-loop
-sub-left c = omega arith
-
-loop-less : tie.Need-loop-less Inv-loop μ-loop
-loop-less c = omega arith
-
 loop-again : tie.Need-loop-again Inv-loop μ-loop
 loop-again c =
     let l = c .before .before .before in (
@@ -72,15 +42,15 @@ fill-links-spec =
     Inv-loop
     μ-loop
     loop-holds
-    shared-slice-read-links
-    element-write-links
-    add-links
-    shared-slice-read-links-2
-    add-links-2
-    element-write-links-2
-    add-at
-    add-done
-    sub-left
-    loop-less
+    (λ c. omega arith)  -- shared-slice-read-links
+    (λ c. omega arith)  -- element-write-links
+    (λ c. omega arith)  -- add-links
+    (λ c. omega arith)  -- shared-slice-read-links-2
+    (λ c. omega arith)  -- add-links-2
+    (λ c. omega arith)  -- element-write-links-2
+    (λ c. omega arith)  -- add-at
+    (λ c. omega arith)  -- add-done
+    (λ c. omega arith)  -- sub-left
+    (λ c. omega arith)  -- loop-less
     loop-again
     returns)

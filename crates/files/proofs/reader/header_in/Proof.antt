@@ -4,8 +4,6 @@ use borrow.Author.Needs.{needs}
 use Rattle.plan.specs.Calls.{headerIn}
 use Rattle.files.proofs.reader.header_in.Statement.{statement}
 use Rattle.files.proofs.reader.header_in.Tie as tie
-use Rattle.files.proofs.reader.header_in.Reads as reads
-use Rattle.files.proofs.reader.header_in.Lts as lts
 
 enum-told : tie.Need-enum-told
 enum-told c = search needs

@@ -32,9 +32,6 @@ abbrev μ-loop : tie.MeasureT-loop
 loop-holds : tie.Need-loop-holds Inv-loop μ-loop
 loop-holds c = (c .before .pre .1, omega arith, omega arith, omega arith, omega arith, omega arith)
 
-member-at-requires : tie.Need-member-at-requires Inv-loop μ-loop
-member-at-requires c κs = tt
-
 enum-told : tie.Need-enum-told Inv-loop μ-loop
 enum-told c = search needs
 
@@ -107,12 +104,6 @@ add-least c = omega (arith, c .rank-at .ensures .1)
 add-at : tie.Need-add-at Inv-loop μ-loop
 add-at c = omega (arith, there (c .before .before .before .before .before .before))
 
-sub-left : tie.Need-sub-left Inv-loop μ-loop
-sub-left c = omega arith
-
-loop-less : tie.Need-loop-less Inv-loop μ-loop
-loop-less c = omega arith
-
 loop-again : tie.Need-loop-again Inv-loop μ-loop
 loop-again c =
     let d = c .before .before .before .before .before .before in
@@ -157,7 +148,7 @@ members-of-spec =
     Inv-loop
     μ-loop
     loop-holds
-    member-at-requires
+    (λ c κs. tt)  -- member-at-requires
     (λ c. search needs)  -- enum-known-answer
     enum-told
     returns
@@ -165,7 +156,7 @@ members-of-spec =
     rank-at-requires
     add-least
     add-at
-    sub-left
-    loop-less
+    (λ c. omega arith)  -- sub-left
+    (λ c. omega arith)  -- loop-less
     loop-again
     returns-2)

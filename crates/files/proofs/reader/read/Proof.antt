@@ -9,17 +9,12 @@ use lib.ListN.{length, take, replicate}
 use lib.Seq.{sets}
 use Rattle.plan.specs.Lists.{linkBytes, eventWords}
 use Rattle.plan.specs.File.{planOf}
-use Rattle.plan.specs.Calls.{headerOf, headerIn, readRefusal, readAnswer}
+use Rattle.plan.specs.Calls.{filled, headerOf, headerIn, readNumber, readAnswer, readingNumber}
+use Rattle.plan.proofs.AnswerLaws.{reading-number}
 use Rattle.plan.proofs.FilledLaws.{length-filled}
 use Rattle.files.proofs.ReaderLawsAnswer.{header-bounds, read-links, read-events}
 use Rattle.files.proofs.reader.read.Statement.{statement}
 use Rattle.files.proofs.reader.read.Tie as tie
-
-read-core-requires : tie.Need-read-core-requires
-read-core-requires c κs = tt
-
-header-in-requires : tie.Need-header-in-requires
-header-in-requires c κs = tt
 
 -- the arrays keep their lengths, and the header is that of the answer
 bytes-long : (c : tie.After-read-core) → 256 ≡ length (c .read-core .last .1 .1 .1 .0)
@@ -27,20 +22,20 @@ bytes-long c =
     let a = c .before .before .before .before .before .before .args in
     sym
     (ap length (c .read-core .ensures .1 .0)
-    ∙ length-filled (readRefusal (length (a .links .now)) (length (a .events .now) / 4) (a .s .now)) (linkBytes ((planOf (a .s .now)) .links)) (replicate 256 0))
+    ∙ length-filled (readNumber (length (a .links .now)) (length (a .events .now) / 4) (a .s .now)) (linkBytes ((planOf (a .s .now)) .links)) (replicate 256 0))
 
 words-long : (c : tie.After-read-core) → 512 ≡ length (c .read-core .last .1 .1 .1 .1 .0)
 words-long c =
     let a = c .before .before .before .before .before .before .args in
     sym
     (ap length (c .read-core .ensures .1 .1)
-    ∙ length-filled (readRefusal (length (a .links .now)) (length (a .events .now) / 4) (a .s .now)) (eventWords ((planOf (a .s .now)) .events)) (replicate 512 0))
+    ∙ length-filled (readNumber (length (a .links .now)) (length (a .events .now) / 4) (a .s .now)) (eventWords ((planOf (a .s .now)) .events)) (replicate 512 0))
 
 header-is :
     (c : tie.After-header-in)
     → c .header-in .result
     ≡ headerIn
-    (readAnswer (readRefusal (length (c .before .before .before .before .before .before .before .args .links .now)) (length (c .before .before .before .before .before .before .before .args .events .now) / 4) (c .before .before .before .before .before .before .before .args .s .now))
+    (readAnswer (readNumber (length (c .before .before .before .before .before .before .before .args .links .now)) (length (c .before .before .before .before .before .before .before .args .events .now) / 4) (c .before .before .before .before .before .before .before .args .s .now))
     (headerOf (c .before .before .before .before .before .before .before .args .s .now)))
 header-is c = c .header-in .ensures ∙ ap headerIn (c .before .read-core .ensures .0)
 
@@ -80,15 +75,18 @@ returns c =
     let h = c .before .before .before .before .before .before .before .before .before .before in
     let a = r .before .before .before .before .before .before .args in
     let n = length (a .links .now) in
-    let k = length (a .events .now) / 4 in (
+    let k = length (a .events .now) / 4 in
+    let own : readingNumber (r .read-core .result) ≡ readNumber n k (a .s .now) = ap readingNumber (r .read-core .ensures .0) ∙ reading-number _ _ in (
       r .read-core .ensures .0,
       (
         c .before .before .before .before .before .before .before .copy-bytes .ensures
             ∙ ap (λ (l : List ℕ). sets (a .links .now) 0 (take (2 * h .header-in .result .links) l)) (r .read-core .ensures .1 .0)
-            ∙ read-links n k (a .s .now) (h .header-in .result) (header-is h) (replicate 256 0) (a .links .now) (omega arith),
+            ∙ read-links n k (a .s .now) (h .header-in .result) (header-is h) (replicate 256 0) (a .links .now) (omega arith)
+            ∙ ap (λ (x : ℕ). filled x (linkBytes ((planOf (a .s .now)) .links)) (a .links .now)) (sym own),
         c .before .before .copy-words .ensures
             ∙ ap (λ (l : List ℕ). sets (a .events .now) 0 (take (4 * h .header-in .result .events) l)) (r .read-core .ensures .1 .1)
-            ∙ read-events n k (a .s .now) (h .header-in .result) (header-is h) (replicate 512 0) (a .events .now) (omega arith),
+            ∙ read-events n k (a .s .now) (h .header-in .result) (header-is h) (replicate 512 0) (a .events .now) (omega arith)
+            ∙ ap (λ (x : ℕ). filled x (eventWords ((planOf (a .s .now)) .events)) (a .events .now)) (sym own),
       ),
     )
 
@@ -96,8 +94,8 @@ pub read-spec : {M : Type 1} → statement M
 read-spec =
     tie.close
     (tie.spec
-    read-core-requires
-    header-in-requires
+    (λ c κs. tt)  -- read-core-requires
+    (λ c κs. tt)  -- header-in-requires
     slice-aggregate-copy-bytes
     mul-copy-bytes
     copy-bytes-requires

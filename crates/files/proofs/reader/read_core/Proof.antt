@@ -4,21 +4,20 @@ use Prim.Native.Nat.{_+_, _*_, _≤_}
 use native.Mathlib.Omega.{arith}
 use lib.ListN.{length, drop}
 use lib.Seq.{sets}
+use Rattle.mass.proofs.RefusalLaws.{refuses, gives}
 use Rattle.plan.specs.Lists.{linksOf, linkBytes, eventWords}
 use Rattle.plan.specs.File.{refusal, eventsAt, planOf}
-use Rattle.plan.specs.Calls.{headerOf, readRefusal}
+use Rattle.plan.specs.Calls.{headerOf, readNumber}
 use Rattle.plan.specs.declared.Header.{Header}
+use Rattle.plan.specs.declared.Reading.the-variants as reading
 use Rattle.plan.proofs.FileLawsAccepted.{plan-fits, accepted-events, accepted-there, accepted-counts}
 use Rattle.plan.proofs.FilledLaws.{filled-none, filled-all}
-use Rattle.files.proofs.ReaderLawsAnswer.{read-accepted, reading-stop, reading-go}
+use Rattle.files.proofs.ReaderLawsAnswer.{read-accepted}
 use Rattle.files.proofs.reader.read_core.Statement.{statement}
 use Rattle.files.proofs.reader.read_core.Tie as tie
 
-read-test-requires : tie.Need-read-test-requires
-read-test-requires c κs = tt
-
 -- the number is 0, so the plan is accepted
-none : (c : tie.Else1) → readRefusal (c .before .before .before .args .link-room) (c .before .before .before .args .event-room) (c .before .before .before .args .s .now) ≡ 0
+none : (c : tie.Else1) → readNumber (c .before .before .before .args .link-room) (c .before .before .before .args .event-room) (c .before .before .before .args .s .now) ≡ 0
 none c = sym (c .before .read-test .ensures) ∙ c .if1 .left
 
 accepted : (c : tie.Else1) → refusal (c .before .before .before .args .s .now) ≡ 0
@@ -27,7 +26,7 @@ accepted c = read-accepted (c .before .before .before .args .link-room) (c .befo
 returns : tie.Need-returns
 returns c =
     let e = c .before .read-test .ensures in (
-      reading-stop _ e (c .if1 .taken),
+      refuses reading.Refused _ e (c .if1 .taken),
       (filled-none _ _ _ (λ z. c .if1 .taken (e ∙ z)), filled-none _ _ _ (λ z. c .if1 .taken (e ∙ z))),
     )
 
@@ -62,14 +61,14 @@ returns-2 c =
     let n = none (h .before) in
     let a = h .before .before .before .before .args in
     let s = a .s .now in (
-      reading-go _ n (h .header-of .ensures),
+      ap reading.Accepted (h .header-of .ensures) ∙ gives reading.Refused _ n,
       (
         c .before .before .fill-links .ensures
             ∙ ap (λ (x : Header). sets (a .links .now) 0 (linkBytes (linksOf (x .links) (drop 20 s)))) (h .header-of .ensures)
-            ∙ filled-all (readRefusal (a .link-room) (a .event-room) s) _ (a .links .now) n,
+            ∙ filled-all (readNumber (a .link-room) (a .event-room) s) _ (a .links .now) n,
         c .fill-events .ensures
             ∙ ap (λ (x : Header). sets (a .words .now) 0 (eventWords (eventsAt (x .events) (drop (20 + 2 * x .links) s)))) (h .header-of .ensures)
-            ∙ filled-all (readRefusal (a .link-room) (a .event-room) s) _ (a .words .now) n,
+            ∙ filled-all (readNumber (a .link-room) (a .event-room) s) _ (a .words .now) n,
       ),
     )
 
@@ -77,7 +76,7 @@ pub read-core-spec : {M : Type 1} → statement M
 read-core-spec =
     tie.close
     (tie.spec
-    read-test-requires
+    (λ c κs. tt)  -- read-test-requires
     returns
     header-of-requires
     fill-links-requires

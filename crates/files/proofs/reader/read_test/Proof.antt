@@ -1,67 +1,49 @@
--- `files::reader::read_test` meets its contract: the tests in their order. Assumes nothing.
-use mathlib.Core.Path.{sym, _∙_}
+-- `files::reader::read_test` meets its contract: the plan is accepted, and then the tests of the two rooms are the list that `first_of` is given.
+-- Assumes nothing.
+use mathlib.Core.Path.{refl, sym, _∙_, ap}
 use Prim.Native.Nat.{ℕ, _*_, _≤_}
 use native.Mathlib.Omega.{arith}
-use borrow.Author.Needs.{needs}
 use lib.ListN.{length}
+use Rattle.mass.specs.Refusal.{first}
 use Rattle.refusals.specs.Tests.{roomTest}
-use Rattle.plan.specs.Calls.{readRefusal}
-use Rattle.refusals.proofs.OrderLaws.{stop, skip, last, on}
+use Rattle.plan.specs.Calls.{readNumber}
+use Rattle.refusals.proofs.OrderLaws.{stop, skip, also, on}
 use Rattle.plan.proofs.FileLawsAccepted.{plan-fits}
 use Rattle.files.proofs.reader.read_test.Statement.{statement}
 use Rattle.files.proofs.reader.read_test.Tie as tie
-
-check-requires : tie.Need-check-requires
-check-requires c κs = tt
 
 -- the header's bytes are there
 there : (c : tie.Else1) → 20 ≤ length (c .before .before .before .args .s .now)
 there c = plan-fits _ (sym (c .before .check .ensures) ∙ c .if1 .left)
 
 returns : tie.Need-returns
-unfolding readRefusal
+unfolding readNumber
 returns c = stop _ (c .before .check .ensures) (c .if1 .taken)
 
-byte-at-requires : tie.Need-byte-at-requires
-byte-at-requires c κs = omega (arith, there c)
-
-room-test-requires : tie.Need-room-test-requires
-room-test-requires c κs = tt
-
 returns-2 : tie.Need-returns-2
-unfolding readRefusal
+unfolding readNumber
 returns-2 c =
-    let d = c .before .before .before in
-    let a = d .before .before .before .args in
-    skip _ (d .before .check .ensures) (d .if1 .left)
-    (stop _ (on (λ (k : ℕ). roomTest (a .link-room) (2 * k)) (c .before .room-test .ensures) (c .before .before .byte-at .ensures .0)) (c .if2 .taken))
-
-byte-at-requires-2 : tie.Need-byte-at-requires-2
-byte-at-requires-2 c κs = omega (arith, there (c .before .before .before))
-
-room-test-requires-2 : tie.Need-room-test-requires-2
-room-test-requires-2 c κs = tt
-
-returns-3 : tie.Need-returns-3
-unfolding readRefusal
-returns-3 c =
-    let f = c .before .before in
-    let d = f .before .before .before in
-    let a = d .before .before .before .args in
-    skip _ (d .before .check .ensures) (d .if1 .left)
-    (skip _ (on (λ (k : ℕ). roomTest (a .link-room) (2 * k)) (f .before .room-test .ensures) (f .before .before .byte-at .ensures .0)) (f .if2 .left)
-    (last (on (roomTest (a .event-room)) (c .room-test2 .ensures) (c .before .byte-at2 .ensures .0))))
+    let events = c .before .before in
+    let links = events .before .before in
+    let e = links .before .before in
+    let a = e .before .before .before .args in
+    skip _ (e .before .check .ensures) (e .if1 .left)
+    (c .first-of .ensures
+    ∙ ap first
+    (also (on (λ (k : ℕ). roomTest (a .link-room) (2 * k)) (links .room-test .ensures) (links .before .byte-at .ensures .0))
+    (also (on (roomTest (a .event-room)) (events .room-test2 .ensures) (events .before .byte-at2 .ensures .0)) refl)))
 
 pub read-test-spec : {M : Type 1} → statement M
 read-test-spec =
     tie.close
     (tie.spec
-    check-requires
+    (λ c κs. tt)  -- check-requires
     returns
-    byte-at-requires
-    (λ c. search needs)  -- mul-room-test
-    room-test-requires
-    returns-2
-    byte-at-requires-2
-    room-test-requires-2
-    returns-3)
+    (λ c κs. omega (arith, there c))  -- byte-at-requires
+    (λ c. omega arith)  -- mul-room-test
+    (λ c κs. tt)  -- room-test-requires
+    (λ c κs. omega (arith, there (c .before .before)))  -- byte-at-requires-2
+    (λ c κs. tt)  -- room-test-requires-2
+    (λ c. refl)  -- slice-aggregate-first-of
+    (λ c κs. tt)  -- first-of-requires
+    returns-2)

@@ -5,12 +5,6 @@ use Rattle.network.proofs.Events.{outage-two}
 use Rattle.network.proofs.failing.failed_by.Statement.{statement}
 use Rattle.network.proofs.failing.failed_by.Tie as tie
 
-failed-word-requires : tie.Need-failed-word-requires
-failed-word-requires c κs = omega arith
-
-failed-word-requires-2 : tie.Need-failed-word-requires-2
-failed-word-requires-2 c κs = omega arith
-
 returns : tie.Need-returns
 returns c =
     let a = c .before .before .args in
@@ -21,4 +15,8 @@ returns c =
     (c .failed-word2 .ensures)
 
 pub failed-by-spec : {M : Type 1} → statement M
-failed-by-spec = tie.close (tie.spec failed-word-requires failed-word-requires-2 returns)
+failed-by-spec = tie.close
+    (tie.spec
+    (λ c κs. omega arith)  -- failed-word-requires
+    (λ c κs. omega arith)  -- failed-word-requires-2
+    returns)

@@ -13,6 +13,13 @@ Inv-loop lower₀ base n rows nodes mass all left₀ lower left = CutTurn lower�
 abbrev μ-loop : tie.MeasureT-loop
 μ-loop lower₀ base n rows nodes mass all left₀ lower left = left
 
+-- the loop's head and what stands before the loop, seen from the reach of a turn
+abbrev turn : tie.After-reach Inv-loop μ-loop → tie.At-loop Inv-loop μ-loop
+turn c = c .before .before .before
+
+abbrev from : tie.After-reach Inv-loop μ-loop → tie.After-first Inv-loop μ-loop
+from c = c .before .before .before .before
+
 loop-holds : tie.Need-loop-holds Inv-loop μ-loop
 loop-holds c = cut-begins _ _ _ _ _ _ (c .before .before .pre)
 
@@ -21,22 +28,27 @@ same-length c = c .before .before .before .before .before .loop .inv .sized
 
 returns : tie.Need-returns Inv-loop μ-loop
 returns c =
-    all-joined _ _ _ _ _ _ _ _ (c .before .before .before .before .before .loop .inv) _ (c .before .before .before .before .before .before .first .ensures) _ _ (c .before .before .before .lowest .ensures .1 .1 .0) (c .before .before .reach .ensures .0) _ (c .before .less .ensures) (c .if1 .taken)
+    let r = c .before .before in
+    all-joined _ _ _ _ _ _ _ _ (turn r .loop .inv) _ (from r .first .ensures) _ _ (r .before .lowest .ensures .1 .1 .0) (r .reach .ensures .0) _ (c .before .less .ensures)
+    (c .if1 .taken)
 
 add-rows-requires : tie.Need-add-rows-requires Inv-loop μ-loop
 add-rows-requires c κs =
-    part-asked _ _ _ _ _ _ _ _ (c .before .before .before .before .before .before .loop .inv) _ (c .before .before .before .before .before .before .before .first .ensures) _ _ (c .before .before .before .before .lowest .ensures .1 .1 .0) (c .before .before .before .reach .ensures .0) _ (c .before .before .less .ensures)
+    let r = c .before .before .before in
+    part-asked _ _ _ _ _ _ _ _ (turn r .loop .inv) _ (from r .first .ensures) _ _ (r .before .lowest .ensures .1 .1 .0) (r .reach .ensures .0) _ (c .before .before .less .ensures)
 
 loop-less : tie.Need-loop-less Inv-loop μ-loop
 loop-less c =
-    let low = c .before .before .before .before .before .before .before .before .lowest in
-    let loop = c .before .before .before .before .before .before .before .before .before .before .loop in
-    shrinks (loop .left) (c .before .before .before .before .before .before .before .reach .result .set) (c .less2 .result) (low .result) (c .less2 .ensures) (low .ensures .1 .1 .0)
-    (has-first _ _ _ _ _ _ _ _ (loop .inv) _ (c .before .before .before .before .before .before .before .before .before .before .before .first .ensures) _ _ (low .ensures .1 .1 .0) (c .before .before .before .before .before .before .before .reach .ensures .0))
+    let r = c .before .before .before .before .before .before .before in
+    let low = r .before .lowest in
+    shrinks (turn r .loop .left) (r .reach .result .set) (c .less2 .result) (low .result) (c .less2 .ensures) (low .ensures .1 .1 .0)
+    (has-first _ _ _ _ _ _ _ _ (turn r .loop .inv) _ (from r .first .ensures) _ _ (low .ensures .1 .1 .0) (r .reach .ensures .0))
 
 loop-again : tie.Need-loop-again Inv-loop μ-loop
 loop-again c =
-    cut-turned _ _ _ _ _ _ _ _ (c .before .before .before .before .before .before .before .before .before .before .loop .inv) _ (c .before .before .before .before .before .before .before .before .before .before .before .first .ensures) _ _ (c .before .before .before .before .before .before .before .before .lowest .ensures .1 .1 .0) (c .before .before .before .before .before .before .before .reach .ensures .0) _ (c .before .before .before .before .before .before .less .ensures) _ (c .before .before .before .add-rows .ensures) _ (c .less2 .ensures)
+    let r = c .before .before .before .before .before .before .before in
+    cut-turned _ _ _ _ _ _ _ _ (turn r .loop .inv) _ (from r .first .ensures) _ _ (r .before .lowest .ensures .1 .1 .0) (r .reach .ensures .0) _
+    (c .before .before .before .before .before .before .less .ensures) _ (c .before .before .before .add-rows .ensures) _ (c .less2 .ensures)
 
 add-rows-requires-2 : tie.Need-add-rows-requires-2 Inv-loop μ-loop
 add-rows-requires-2 c κs =
@@ -47,7 +59,9 @@ same-length-2 c = c .before .before .add-rows2 .ensures .sized ∙ c .before .be
 
 returns-2 : tie.Need-returns-2 Inv-loop μ-loop
 returns-2 c =
-    cut-done _ _ _ _ _ _ _ _ (c .before .before .before .before .before .before .loop .inv) _ (c .before .before .before .before .before .before .before .first .ensures) _ (c .before .before .before .less3 .ensures) _ (c .before .before .add-rows2 .ensures) (c .before .before .before .before .before .loop-test .left)
+    let k = c .before .before .before .before .before .before in
+    cut-done _ _ _ _ _ _ _ _ (k .loop .inv) _ (k .before .first .ensures) _ (c .before .before .before .less3 .ensures) _ (c .before .before .add-rows2 .ensures)
+    (c .before .before .before .before .before .loop-test .left)
 
 pub add-cut-spec : {M : Type 1} → statement M
 add-cut-spec =

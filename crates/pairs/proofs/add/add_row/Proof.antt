@@ -1,6 +1,6 @@
 -- `pairs::add::add_row` meets its contract: the invariant is `RowTurn`, the measure what is left of the set. Assumes nothing.
-use mathlib.Core.Path.{_≡_, refl, ap, sym, _∙_}
-use mathlib.Core.Bool.{Bool, not, _&&_}
+use mathlib.Core.Path.{refl, ap, sym, _∙_}
+use mathlib.Core.Bool.{not, _&&_}
 use Prim.Native.Nat.{ℕ}
 use native.Mathlib.Omega.{arith}
 use lib.Dec.{eqb}
@@ -8,10 +8,6 @@ use Rattle.sets.specs.Sets.{bit}
 use Rattle.pairs.proofs.Row.{RowTurn, row-done, high, inside, room, row-turned}
 use Rattle.pairs.proofs.add.add_row.Statement.{statement}
 use Rattle.pairs.proofs.add.add_row.Tie as tie
-use Rattle.pairs.proofs.add.add_row.Reads as reads
-use Rattle.pairs.proofs.add.add_row.Lts as lts
-use Rattle.sets.proofs.lowest.Reads as lowest-reads
-use Rattle.sets.proofs.rest.Reads as rest-reads
 
 abbrev Inv-loop : tie.InvT-loop
 Inv-loop lower₀ start skip set mass left₀ lower left = RowTurn lower₀ start skip set mass lower left
@@ -21,9 +17,6 @@ abbrev μ-loop : tie.MeasureT-loop
 
 loop-holds : tie.Need-loop-holds Inv-loop μ-loop
 loop-holds c = record { asked = c .before .pre; sized = refl; sub = λ w e. e; each = λ i. refl }
-
-lowest-requires : tie.Need-lowest-requires Inv-loop μ-loop
-lowest-requires c κs = omega arith
 
 add-i : tie.Need-add-i Inv-loop μ-loop
 add-i c = omega (arith, c .before .before .loop .inv .asked .low, c .lowest .ensures .1 .0)
@@ -73,7 +66,7 @@ add-row-spec =
     Inv-loop
     μ-loop
     loop-holds
-    lowest-requires
+    (λ c κs. omega arith)  -- lowest-requires
     add-i
     sub-i
     mul-lower

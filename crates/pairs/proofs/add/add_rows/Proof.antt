@@ -17,6 +17,10 @@ Inv-loop lower₀ base n set others mass left₀ lower left = RowsTurn lower₀ 
 abbrev μ-loop : tie.MeasureT-loop
 μ-loop lower₀ base n set others mass left₀ lower left = left
 
+-- the loop's head, seen from the nodes that are left of a turn
+abbrev turn : tie.After-less Inv-loop μ-loop → tie.At-loop Inv-loop μ-loop
+turn c = c .before .before .before .before
+
 loop-holds : tie.Need-loop-holds Inv-loop μ-loop
 loop-holds c = rows-begin _ _ _ _ _ _ (c .before .pre)
 
@@ -25,8 +29,9 @@ same-length c = c .before .before .before .before .before .loop .inv .sized
 
 returns : tie.Need-returns Inv-loop μ-loop
 returns c =
-    let low = c .before .before .before .lowest in
-    rows-stopped _ _ _ _ _ _ _ _ (c .before .before .before .before .before .loop .inv) _ (low .ensures .1 .1 .0) _ (c .before .before .first .ensures) _ (c .before .less .ensures) (c .if1 .taken) (low .ensures .1 .1 .1)
+    let k = c .before in
+    let low = k .before .before .lowest .ensures .1 .1 in
+    rows-stopped _ _ _ _ _ _ _ _ (turn k .loop .inv) _ (low .0) _ (k .before .first .ensures) _ (k .less .ensures) (c .if1 .taken) (low .1)
 
 start-of-requires : tie.Need-start-of-requires Inv-loop μ-loop
 start-of-requires c κs =
@@ -40,21 +45,21 @@ add-add-row c =
 
 add-row-requires : tie.Need-add-row-requires Inv-loop μ-loop
 add-row-requires c κs =
+    let k = c .before .before .before in
     rw (c .start-of .ensures)
-    (row-asked _ _ _ _ _ _ _ _ (c .before .before .before .before .before .before .before .loop .inv) _ (c .before .before .before .before .before .lowest .ensures .1 .1 .0) _ (c .before .before .before .before .first .ensures) _ (c .before .before .before .less .ensures))
+    (row-asked _ _ _ _ _ _ _ _ (turn k .loop .inv) _ (k .before .before .lowest .ensures .1 .1 .0) _ (k .before .first .ensures) _ (k .less .ensures))
 
 loop-less : tie.Need-loop-less Inv-loop μ-loop
 loop-less c = c .rest .ensures .0
 
 loop-again : tie.Need-loop-again Inv-loop μ-loop
 loop-again c =
-    let low = c .before .before .before .before .before .before .before .before .before .lowest in
-    rows-turned _ _ _ _ _ _ _ _ (c .before .before .before .before .before .before .before .before .before .before .before .loop .inv) _ (low .ensures .1 .1 .0) _ (c .before .before .before .before .before .before .before .before .first .ensures) _ (c .before .before .before .before .before .before .before .less .ensures) _
+    let k = c .before .before .before .before .before .before .before in
+    let low = k .before .before .lowest .ensures in
+    rows-turned _ _ _ _ _ _ _ _ (turn k .loop .inv) _ (low .1 .1 .0) _ (k .before .first .ensures) _ (k .less .ensures) _
     (rw (c .before .before .before .before .start-of .ensures) at (c .before .before .before .add-row .ensures))
     _
-    (λ j.
-    c .rest .ensures .1 j
-    ∙ ap (λ (x : ℕ). bit (c .before .before .before .before .before .before .before .before .before .before .before .loop .left) j && not (eqb j x)) (sym (low .ensures .0)))
+    (λ j. c .rest .ensures .1 j ∙ ap (λ (x : ℕ). bit (turn k .loop .left) j && not (eqb j x)) (sym (low .0)))
 
 same-length-2 : tie.Need-same-length-2 Inv-loop μ-loop
 same-length-2 c = c .before .loop .inv .sized

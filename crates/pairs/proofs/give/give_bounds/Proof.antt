@@ -9,11 +9,6 @@ use Rattle.mass.specs.Split.{whole}
 use Rattle.pairs.proofs.PairLaws.{pairs-most}
 use Rattle.pairs.proofs.give.give_bounds.Statement.{statement}
 use Rattle.pairs.proofs.give.give_bounds.Tie as tie
-use Rattle.pairs.proofs.give.give_bounds.Reads as reads
-use Rattle.pairs.proofs.give.give_bounds.Lts as lts
-use Rattle.pairs.proofs.give.copy_raised.Reads as copy-raised-reads
-use Rattle.pairs.proofs.places.start_of.Reads as start-of-reads
-use Rattle.lent.proofs.copy_words.Reads as copy-words-reads
 
 start-of-requires : tie.Need-start-of-requires
 start-of-requires c κs = (c .before .before .pre .few, omega arith)

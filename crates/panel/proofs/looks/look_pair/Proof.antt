@@ -2,10 +2,11 @@
 use borrow.Author.Needs.{needs}
 use mathlib.Core.Path.{_≡_, sym, ap, _∙_}
 use Prim.Native.Nat.{ℕ}
+use Rattle.mass.proofs.RefusalLaws.{refuses}
 use Rattle.pairs.specs.Pairs.{pairTest}
 use Rattle.bounds.specs.Calls.{pairAnswer}
 use Rattle.bounds.specs.declared.Paired.the-variants as paired
-use Rattle.bounds.proofs.Answers.{pair-refuses, pair-inside}
+use Rattle.bounds.proofs.Answers.{pair-inside}
 use Rattle.panel.specs.Calls.{lookPairOf}
 use Rattle.panel.proofs.Shown.{shown-same, looked-pair}
 use Rattle.panel.proofs.looks.look_pair.Statement.{statement}
@@ -14,7 +15,7 @@ use Rattle.panel.proofs.looks.look_pair.Tie as tie
 returns : tie.Need-returns
 returns c =
     let a = c .before .before .args in
-    let e = pair-refuses _ (pairTest (a .w .header .nodes) (a .v) (a .x)) (lookPairOf (a .w) (a .v) (a .x)) (c .before .pair-test .ensures) (c .if1 .taken) in
+    let e = refuses paired.Refused (paired.Done (lookPairOf (a .w) (a .v) (a .x))) (c .before .pair-test .ensures) (c .if1 .taken) in
     (e, λ p n at. e ∙ looked-pair p n (a .w) at (a .v) (a .x))
 
 sum-of-requires : tie.Need-sum-of-requires

@@ -19,15 +19,6 @@ loop-holds : tie.Need-loop-holds Inv-loop μ-loop
 loop-holds c =
     let z = number-start (c .before .args .s .now) (c .before .args .at) (c .before .args .width) in (omega arith, z .0, z .1)
 
-sub-i : tie.Need-sub-i Inv-loop μ-loop
-sub-i c = omega arith
-
-add-byte-at : tie.Need-add-byte-at Inv-loop μ-loop
-add-byte-at c = omega arith
-
-byte-at-requires : tie.Need-byte-at-requires Inv-loop μ-loop
-byte-at-requires c κs = omega arith
-
 sum-fits : (c : tie.In-loop Inv-loop μ-loop) → c .before .loop .sum < 2 ^ 56
 sum-fits c = number-fits _ _ _ (c .before .before .before .pre .0) (c .loop-test .taken) (c .before .loop .inv .0) (c .before .loop .inv .2)
 
@@ -36,9 +27,6 @@ mul-sum c = omega (arith, sum-fits (c .before))
 
 add-sum : tie.Need-add-sum Inv-loop μ-loop
 add-sum c = omega (arith, sum-fits (c .before))
-
-loop-less : tie.Need-loop-less Inv-loop μ-loop
-loop-less c = omega arith
 
 loop-again : tie.Need-loop-again Inv-loop μ-loop
 loop-again c = (
@@ -58,11 +46,11 @@ number-at-spec =
     Inv-loop
     μ-loop
     loop-holds
-    sub-i
-    add-byte-at
-    byte-at-requires
+    (λ c. omega arith)  -- sub-i
+    (λ c. omega arith)  -- add-byte-at
+    (λ c κs. omega arith)  -- byte-at-requires
     mul-sum
     add-sum
-    loop-less
+    (λ c. omega arith)  -- loop-less
     loop-again
     returns)

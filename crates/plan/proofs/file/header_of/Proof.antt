@@ -4,21 +4,6 @@ use Rattle.plan.specs.Calls.{headerOf}
 use Rattle.plan.proofs.file.header_of.Statement.{statement}
 use Rattle.plan.proofs.file.header_of.Tie as tie
 
-byte-at-requires : tie.Need-byte-at-requires
-byte-at-requires c κs = omega arith
-
-byte-at-requires-2 : tie.Need-byte-at-requires-2
-byte-at-requires-2 c κs = omega arith
-
-byte-at-requires-3 : tie.Need-byte-at-requires-3
-byte-at-requires-3 c κs = omega arith
-
-number-at-requires : tie.Need-number-at-requires
-number-at-requires c κs = omega arith
-
-number-at-requires-2 : tie.Need-number-at-requires-2
-number-at-requires-2 c κs = omega arith
-
 returns : tie.Need-returns
 unfolding headerOf
 returns c =
@@ -35,9 +20,9 @@ pub header-of-spec : {M : Type 1} → statement M
 header-of-spec =
     tie.close
     (tie.spec
-    byte-at-requires
-    byte-at-requires-2
-    byte-at-requires-3
-    number-at-requires
-    number-at-requires-2
+    (λ c κs. omega arith)  -- byte-at-requires
+    (λ c κs. omega arith)  -- byte-at-requires-2
+    (λ c κs. omega arith)  -- byte-at-requires-3
+    (λ c κs. omega arith)  -- number-at-requires
+    (λ c κs. omega arith)  -- number-at-requires-2
     returns)

@@ -1,15 +1,16 @@
+-- `plan::file::header_refusal` meets its contract: the header's bytes are there, and then its tests are the list that `first_of` is given.
+-- Assumes nothing.
+use mathlib.Core.Path.{refl, _∙_, ap}
 use Prim.Native.Nat.{_≤_}
 use native.Mathlib.Omega.{arith}
 use lib.ListN.{length}
+use Rattle.mass.specs.Refusal.{first}
 use Rattle.refusals.specs.Tests.{markTest, versionTest, countsTest, thresholdTest, limitTest}
 use Rattle.plan.specs.File.{headerRefusal}
-use Rattle.refusals.proofs.OrderLaws.{stop, skip, last, on, on3}
+use Rattle.refusals.proofs.OrderLaws.{stop, skip, also, on, on3}
 use Rattle.plan.proofs.FileLawsAccepted.{enough}
 use Rattle.plan.proofs.file.header_refusal.Statement.{statement}
 use Rattle.plan.proofs.file.header_refusal.Tie as tie
-
-short-test-requires : tie.Need-short-test-requires
-short-test-requires c κs = tt
 
 returns : tie.Need-returns
 unfolding headerRefusal
@@ -19,110 +20,51 @@ returns c = stop _ (c .before .short-test .ensures) (c .if1 .taken)
 there : (c : tie.Else1) → 20 ≤ length (c .before .before .before .args .s .now)
 there c = enough _ 20 (c .before .short-test .ensures) (c .if1 .left)
 
-byte-at-requires : tie.Need-byte-at-requires
-byte-at-requires c κs = omega (arith, there c)
-
-byte-at-requires-2 : tie.Need-byte-at-requires-2
-byte-at-requires-2 c κs = omega (arith, there (c .before))
-
-byte-at-requires-3 : tie.Need-byte-at-requires-3
-byte-at-requires-3 c κs = omega (arith, there (c .before .before))
-
-mark-test-requires : tie.Need-mark-test-requires
-mark-test-requires c κs = tt
+number-at-requires-3 : tie.Need-number-at-requires-3
+number-at-requires-3 c κs = omega (arith, there (c .before .before .before .before .before .before .before .before .before .before .before .before))
 
 returns-2 : tie.Need-returns-2
 unfolding headerRefusal
 returns-2 c =
-    skip _ (c .before .before .before .before .before .before .short-test .ensures) (c .before .before .before .before .before .if1 .left)
-    (stop _ (on3 (markTest 82 83 71) (c .before .mark-test .ensures) (c .before .before .before .before .byte-at .ensures .0) (c .before .before .before .byte-at2 .ensures .0) (c .before .before .byte-at3 .ensures .0)) (c .if2 .taken))
-
-number-at-requires : tie.Need-number-at-requires
-number-at-requires c κs = omega (arith, there (c .before .before .before .before .before))
-
-version-test-requires : tie.Need-version-test-requires
-version-test-requires c κs = tt
-
-returns-3 : tie.Need-returns-3
-unfolding headerRefusal
-returns-3 c =
-    skip _ (c .before .before .before .before .before .before .before .before .before .short-test .ensures) (c .before .before .before .before .before .before .before .before .if1 .left)
-    (skip _ (on3 (markTest 82 83 71) (c .before .before .before .before .mark-test .ensures) (c .before .before .before .before .before .before .before .byte-at .ensures .0) (c .before .before .before .before .before .before .byte-at2 .ensures .0) (c .before .before .before .before .before .byte-at3 .ensures .0)) (c .before .before .before .if2 .left)
-    (stop _ (on versionTest (c .before .version-test .ensures) (c .before .before .number-at .ensures)) (c .if3 .taken)))
-
-byte-at-requires-4 : tie.Need-byte-at-requires-4
-byte-at-requires-4 c κs = omega (arith, there (c .before .before .before .before .before .before .before .before))
-
-byte-at-requires-5 : tie.Need-byte-at-requires-5
-byte-at-requires-5 c κs = omega (arith, there (c .before .before .before .before .before .before .before .before .before))
-
-byte-at-requires-6 : tie.Need-byte-at-requires-6
-byte-at-requires-6 c κs = omega (arith, there (c .before .before .before .before .before .before .before .before .before .before))
-
-counts-test-requires : tie.Need-counts-test-requires
-counts-test-requires c κs = tt
-
-returns-4 : tie.Need-returns-4
-unfolding headerRefusal
-returns-4 c =
-    skip _ (c .before .before .before .before .before .before .before .before .before .before .before .before .before .before .short-test .ensures) (c .before .before .before .before .before .before .before .before .before .before .before .before .before .if1 .left)
-    (skip _ (on3 (markTest 82 83 71) (c .before .before .before .before .before .before .before .before .before .mark-test .ensures) (c .before .before .before .before .before .before .before .before .before .before .before .before .byte-at .ensures .0) (c .before .before .before .before .before .before .before .before .before .before .before .byte-at2 .ensures .0) (c .before .before .before .before .before .before .before .before .before .before .byte-at3 .ensures .0)) (c .before .before .before .before .before .before .before .before .if2 .left)
-    (skip _ (on versionTest (c .before .before .before .before .before .before .version-test .ensures) (c .before .before .before .before .before .before .before .number-at .ensures)) (c .before .before .before .before .before .if3 .left)
-    (stop _ (on3 countsTest (c .before .counts-test .ensures) (c .before .before .before .before .byte-at4 .ensures .0) (c .before .before .before .byte-at5 .ensures .0) (c .before .before .byte-at6 .ensures .0)) (c .if4 .taken))))
-
-number-at-requires-2 : tie.Need-number-at-requires-2
-number-at-requires-2 c κs = omega (arith, there (c .before .before .before .before .before .before .before .before .before .before .before .before .before))
-
-threshold-test-requires : tie.Need-threshold-test-requires
-threshold-test-requires c κs = tt
-
-returns-5 : tie.Need-returns-5
-unfolding headerRefusal
-returns-5 c =
-    skip _ (c .before .before .before .before .before .before .before .before .before .before .before .before .before .before .before .before .before .short-test .ensures) (c .before .before .before .before .before .before .before .before .before .before .before .before .before .before .before .before .if1 .left)
-    (skip _ (on3 (markTest 82 83 71) (c .before .before .before .before .before .before .before .before .before .before .before .before .mark-test .ensures) (c .before .before .before .before .before .before .before .before .before .before .before .before .before .before .before .byte-at .ensures .0) (c .before .before .before .before .before .before .before .before .before .before .before .before .before .before .byte-at2 .ensures .0) (c .before .before .before .before .before .before .before .before .before .before .before .before .before .byte-at3 .ensures .0)) (c .before .before .before .before .before .before .before .before .before .before .before .if2 .left)
-    (skip _ (on versionTest (c .before .before .before .before .before .before .before .before .before .version-test .ensures) (c .before .before .before .before .before .before .before .before .before .before .number-at .ensures)) (c .before .before .before .before .before .before .before .before .if3 .left)
-    (skip _ (on3 countsTest (c .before .before .before .before .counts-test .ensures) (c .before .before .before .before .before .before .before .byte-at4 .ensures .0) (c .before .before .before .before .before .before .byte-at5 .ensures .0) (c .before .before .before .before .before .byte-at6 .ensures .0)) (c .before .before .before .if4 .left)
-    (stop _ (on thresholdTest (c .before .threshold-test .ensures) (c .before .before .number-at2 .ensures)) (c .if5 .taken)))))
-
-number-at-requires-3 : tie.Need-number-at-requires-3
-number-at-requires-3 c κs = omega (arith, there (c .before .before .before .before .before .before .before .before .before .before .before .before .before .before .before .before))
-
-limit-test-requires : tie.Need-limit-test-requires
-limit-test-requires c κs = tt
-
-returns-6 : tie.Need-returns-6
-unfolding headerRefusal
-returns-6 c =
-    skip _ (c .before .before .before .before .before .before .before .before .before .before .before .before .before .before .before .before .before .before .before .short-test .ensures) (c .before .before .before .before .before .before .before .before .before .before .before .before .before .before .before .before .before .before .if1 .left)
-    (skip _ (on3 (markTest 82 83 71) (c .before .before .before .before .before .before .before .before .before .before .before .before .before .before .mark-test .ensures) (c .before .before .before .before .before .before .before .before .before .before .before .before .before .before .before .before .before .byte-at .ensures .0) (c .before .before .before .before .before .before .before .before .before .before .before .before .before .before .before .before .byte-at2 .ensures .0) (c .before .before .before .before .before .before .before .before .before .before .before .before .before .before .before .byte-at3 .ensures .0)) (c .before .before .before .before .before .before .before .before .before .before .before .before .before .if2 .left)
-    (skip _ (on versionTest (c .before .before .before .before .before .before .before .before .before .before .before .version-test .ensures) (c .before .before .before .before .before .before .before .before .before .before .before .before .number-at .ensures)) (c .before .before .before .before .before .before .before .before .before .before .if3 .left)
-    (skip _ (on3 countsTest (c .before .before .before .before .before .before .counts-test .ensures) (c .before .before .before .before .before .before .before .before .before .byte-at4 .ensures .0) (c .before .before .before .before .before .before .before .before .byte-at5 .ensures .0) (c .before .before .before .before .before .before .before .byte-at6 .ensures .0)) (c .before .before .before .before .before .if4 .left)
-    (skip _ (on thresholdTest (c .before .before .before .threshold-test .ensures) (c .before .before .before .before .number-at2 .ensures)) (c .before .before .if5 .left)
-    (last (on limitTest (c .limit-test .ensures) (c .before .number-at3 .ensures)))))))
+    let limit = c .before .before in
+    let threshold = limit .before .before in
+    let counts = threshold .before .before in
+    let version = counts .before .before .before .before in
+    let mark = version .before .before in
+    let short = mark .before .before .before .before in
+    skip _ (short .before .short-test .ensures) (short .if1 .left)
+    (c .first-of .ensures
+    ∙ ap first
+    (also
+    (on3 (markTest 82 83 71) (mark .mark-test .ensures)
+    (mark .before .before .before .byte-at .ensures .0) (mark .before .before .byte-at2 .ensures .0) (mark .before .byte-at3 .ensures .0))
+    (also (on versionTest (version .version-test .ensures) (version .before .number-at .ensures))
+    (also
+    (on3 countsTest (counts .counts-test .ensures)
+    (counts .before .before .before .byte-at4 .ensures .0) (counts .before .before .byte-at5 .ensures .0) (counts .before .byte-at6 .ensures .0))
+    (also (on thresholdTest (threshold .threshold-test .ensures) (threshold .before .number-at2 .ensures))
+    (also (on limitTest (limit .limit-test .ensures) (limit .before .number-at3 .ensures)) refl))))))
 
 pub header-refusal-spec : {M : Type 1} → statement M
 header-refusal-spec =
     tie.close
     (tie.spec
-    short-test-requires
+    (λ c κs. tt)  -- short-test-requires
     returns
-    byte-at-requires
-    byte-at-requires-2
-    byte-at-requires-3
-    mark-test-requires
-    returns-2
-    number-at-requires
-    version-test-requires
-    returns-3
-    byte-at-requires-4
-    byte-at-requires-5
-    byte-at-requires-6
-    counts-test-requires
-    returns-4
-    number-at-requires-2
-    threshold-test-requires
-    returns-5
+    (λ c κs. omega (arith, there c))  -- byte-at-requires
+    (λ c κs. omega (arith, there (c .before)))  -- byte-at-requires-2
+    (λ c κs. omega (arith, there (c .before .before)))  -- byte-at-requires-3
+    (λ c κs. tt)  -- mark-test-requires
+    (λ c κs. omega (arith, there (c .before .before .before .before)))  -- number-at-requires
+    (λ c κs. tt)  -- version-test-requires
+    (λ c κs. omega (arith, there (c .before .before .before .before .before .before)))  -- byte-at-requires-4
+    (λ c κs. omega (arith, there (c .before .before .before .before .before .before .before)))  -- byte-at-requires-5
+    (λ c κs. omega (arith, there (c .before .before .before .before .before .before .before .before)))  -- byte-at-requires-6
+    (λ c κs. tt)  -- counts-test-requires
+    (λ c κs. omega (arith, there (c .before .before .before .before .before .before .before .before .before .before)))  -- number-at-requires-2
+    (λ c κs. tt)  -- threshold-test-requires
     number-at-requires-3
-    limit-test-requires
-    returns-6)
+    (λ c κs. tt)  -- limit-test-requires
+    (λ c. refl)  -- slice-aggregate-first-of
+    (λ c κs. tt)  -- first-of-requires
+    returns-2)

@@ -22,12 +22,6 @@ abbrev μ-loop : tie.MeasureT-loop
 loop-holds : tie.Need-loop-holds Inv-loop μ-loop
 loop-holds c = refl
 
-left-of-requires : tie.Need-left-of-requires Inv-loop μ-loop
-left-of-requires c κs = tt
-
-short-test-requires : tie.Need-short-test-requires Inv-loop μ-loop
-short-test-requires c κs = tt
-
 -- what the tests of a link returned, and that its bytes are there
 short-is :
     (c : tie.After-short-test Inv-loop μ-loop)
@@ -71,9 +65,6 @@ add-byte-at c = omega (arith, there (c .before))
 byte-at-requires-2 : tie.Need-byte-at-requires-2 Inv-loop μ-loop
 byte-at-requires-2 c κs = omega (arith, there (c .before))
 
-ends-test-requires : tie.Need-ends-test-requires Inv-loop μ-loop
-ends-test-requires c κs = tt
-
 returns-2 : tie.Need-returns-2 Inv-loop μ-loop
 returns-2 c =
     let d = c .before .before .before .before .before in
@@ -85,12 +76,6 @@ returns-2 c =
 
 add-at : tie.Need-add-at Inv-loop μ-loop
 add-at c = omega (arith, there (c .before .before .before .before))
-
-sub-left : tie.Need-sub-left Inv-loop μ-loop
-sub-left c = omega arith
-
-loop-less : tie.Need-loop-less Inv-loop μ-loop
-loop-less c = omega arith
 
 loop-again : tie.Need-loop-again Inv-loop μ-loop
 loop-again c =
@@ -111,16 +96,16 @@ links-refusal-spec =
     Inv-loop
     μ-loop
     loop-holds
-    left-of-requires
-    short-test-requires
+    (λ c κs. tt)  -- left-of-requires
+    (λ c κs. tt)  -- short-test-requires
     returns
     byte-at-requires
     add-byte-at
     byte-at-requires-2
-    ends-test-requires
+    (λ c κs. tt)  -- ends-test-requires
     returns-2
     add-at
-    sub-left
-    loop-less
+    (λ c. omega arith)  -- sub-left
+    (λ c. omega arith)  -- loop-less
     loop-again
     returns-3)

@@ -10,12 +10,6 @@ use Rattle.plan.proofs.FileLawsAccepted.{short-fits}
 use Rattle.plan.proofs.file.member_at.Statement.{statement}
 use Rattle.plan.proofs.file.member_at.Tie as tie
 
-left-of-requires : tie.Need-left-of-requires
-left-of-requires c κs = tt
-
-short-test-requires : tie.Need-short-test-requires
-short-test-requires c κs = tt
-
 -- what the tests of the member returned, and that its bytes are there
 short-is :
     (c : tie.After-short-test)
@@ -70,9 +64,6 @@ returns-2 c =
     ∙ sym (member-step _ _ _ (a .at) (a .s .now)))
     (c .if2 .taken)
 
-element-of-requires : tie.Need-element-of-requires
-element-of-requires c κs = tt
-
 returns-3 : tie.Need-returns-3
 returns-3 c =
     let d = c .before .before .before .before .before .before in
@@ -86,13 +77,13 @@ pub member-at-spec : {M : Type 1} → statement M
 member-at-spec =
     tie.close
     (tie.spec
-    left-of-requires
-    short-test-requires
+    (λ c κs. tt)  -- left-of-requires
+    (λ c κs. tt)  -- short-test-requires
     returns
     byte-at-requires
     add-byte-at
     byte-at-requires-2
     member-test-requires
     returns-2
-    element-of-requires
+    (λ c κs. tt)  -- element-of-requires
     returns-3)

@@ -22,12 +22,6 @@ abbrev μ-loop : tie.MeasureT-loop
 loop-holds : tie.Need-loop-holds Inv-loop μ-loop
 loop-holds c = refl
 
-member-at-requires : tie.Need-member-at-requires Inv-loop μ-loop
-member-at-requires c κs = tt
-
-step-number-requires : tie.Need-step-number-requires Inv-loop μ-loop
-step-number-requires c κs = tt
-
 -- what the test of a member returned, and that its bytes are there
 number-is :
     (c : tie.After-step-number Inv-loop μ-loop)
@@ -63,12 +57,6 @@ add-least c = omega (arith, c .rank-at .ensures .1)
 add-at : tie.Need-add-at Inv-loop μ-loop
 add-at c = omega (arith, there (c .before))
 
-sub-left : tie.Need-sub-left Inv-loop μ-loop
-sub-left c = omega arith
-
-loop-less : tie.Need-loop-less Inv-loop μ-loop
-loop-less c = omega arith
-
 loop-again : tie.Need-loop-again Inv-loop μ-loop
 loop-again c =
     let l = c .before .before .before .before .before in
@@ -88,13 +76,13 @@ members-refusal-spec =
     Inv-loop
     μ-loop
     loop-holds
-    member-at-requires
-    step-number-requires
+    (λ c κs. tt)  -- member-at-requires
+    (λ c κs. tt)  -- step-number-requires
     returns
     rank-at-requires
     add-least
     add-at
-    sub-left
-    loop-less
+    (λ c. omega arith)  -- sub-left
+    (λ c. omega arith)  -- loop-less
     loop-again
     returns-2)

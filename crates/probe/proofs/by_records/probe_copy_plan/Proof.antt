@@ -1,6 +1,6 @@
 -- `probe::by_records::probe_copy_plan` meets its contract: the answer of the call is handed out. Assumes nothing.
 use mathlib.Core.Path.{refl}
-use Rattle.answers.proofs.NumberLaws.{write-back}
+use Rattle.plan.proofs.AnswerLaws.{written-number}
 use borrow.Author.Needs.{needs}
 use Rattle.probe.proofs.by_records.probe_copy_plan.Statement.{statement}
 use Rattle.probe.proofs.by_records.probe_copy_plan.Tie as tie
@@ -10,8 +10,8 @@ returns c =
     let f = c .before .before .give-size .ensures in
     let k = c .before .before .before .before .before .before in
     let e = k .copy-plan .ensures .0 in
-    let n = rw (e, write-back) at (f .0) in
-    rw n (refl, (k .copy-plan .ensures .1, rw e at (f .1)))
+    let n = rw (e, written-number) at (f .0) in
+    rw n (refl, (rw (e, written-number) at (k .copy-plan .ensures .1), rw e at (f .1)))
 
 pub probe-copy-plan-spec : {M : Type 1} → statement M
 probe-copy-plan-spec =

@@ -1,6 +1,6 @@
 -- `probe::by_records::probe_run_plan` meets its contract: the answer of the call is handed out. Assumes nothing.
 use mathlib.Core.Path.{refl}
-use Rattle.answers.proofs.NumberLaws.{run-back}
+use Rattle.bounds.proofs.Answers.{ran-number}
 use borrow.Author.Needs.{needs}
 use Rattle.probe.proofs.by_records.probe_run_plan.Statement.{statement}
 use Rattle.probe.proofs.by_records.probe_run_plan.Tie as tie
@@ -10,8 +10,8 @@ returns c =
     let f = c .before .before .give-totals .ensures in
     let k = c .before .before .before .before .before .before .before .before in
     let e = k .run-plan .ensures .0 in
-    let n = rw (e, run-back) at (f .0) in
-    rw n (refl, (k .run-plan .ensures .1 .0, (k .run-plan .ensures .1 .1 .0, rw e at (f .1))))
+    let n = rw (e, ran-number) at (f .0) in
+    rw n (refl, (rw (e, ran-number) at (k .run-plan .ensures .1 .0), (rw (e, ran-number) at (k .run-plan .ensures .1 .1 .0), rw e at (f .1))))
 
 pub probe-run-plan-spec : {M : Type 1} → statement M
 probe-run-plan-spec =

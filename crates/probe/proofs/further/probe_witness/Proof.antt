@@ -1,5 +1,5 @@
 -- `probe::further::probe_witness` meets its contract: the answer of the call is handed out. Assumes nothing.
-use Rattle.probe.proofs.Handing.{witness-back}
+use Rattle.readings.proofs.NumberLaws.{witnessed-number}
 use borrow.Author.Needs.{needs}
 use Rattle.probe.proofs.further.probe_witness.Statement.{statement}
 use Rattle.probe.proofs.further.probe_witness.Tie as tie
@@ -10,7 +10,7 @@ returns c =
     let k = c .before .before .before .before in
     let same = k .before .header .ensures in
     let e = rw same at (k .witness .ensures) in
-    (rw (e, witness-back) at (f .0), rw e at (f .1))
+    (rw (e, witnessed-number) at (f .0), rw e at (f .1))
 
 pub probe-witness-spec : {M : Type 1} → statement M
 probe-witness-spec =

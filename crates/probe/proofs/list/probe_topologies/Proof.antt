@@ -1,6 +1,6 @@
 -- `probe::list::probe_topologies` meets its contract: the answer of the call is handed out. Assumes nothing.
 use mathlib.Core.Path.{refl}
-use Rattle.probe.proofs.Handing.{list-back}
+use Rattle.topology_list.proofs.Answers.{listed-number}
 use borrow.Author.Needs.{needs}
 use Rattle.probe.proofs.list.probe_topologies.Statement.{statement}
 use Rattle.probe.proofs.list.probe_topologies.Tie as tie
@@ -11,7 +11,7 @@ returns c =
     let k = c .before .before .before .before .before .before in
     let same = k .before .before .header .ensures in
     let e = rw same at (k .topologies .ensures .0) in
-    let n = rw (e, list-back) at (f .0) in
+    let n = rw (e, listed-number) at (f .0) in
     rw n (refl, (rw same at (k .topologies .ensures .1), rw e at (f .1)))
 
 pub probe-topologies-spec : {M : Type 1} → statement M

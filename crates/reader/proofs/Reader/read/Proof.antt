@@ -1,5 +1,6 @@
 -- `reader::Reader::read` meets its contract: a walk of its MIR, by hand. The struct is taken apart. An array of words of its own is lent to `read_words_at`,
--- which reads the plan at the position, and then to `fill`, which lays the records down. The two lent lists are given up for good, each to the call that fills it.
+-- which reads the plan at the position, and then to `fill`, which lays the records down. The two lent lists are given up for good, each to the call that
+-- fills it.
 -- The struct is Copy: what it owns is had twice, one copy is kept whole for the exit, and of the other what src owns goes to the callee.
 -- Assumes nothing.
 use mathlib.Core.Path.{_≡_, refl, ap, _∙_}
@@ -52,7 +53,7 @@ use denote.Triple.Walked.{says, Stays, stay-none, gave-slice, walkOf, Walks, end
 use denote.Exit.{yes}
 use Rattle.plan.specs.Lists.{linkBytes, eventWords}
 use Rattle.plan.specs.File.{planOf}
-use Rattle.plan.specs.Calls.{filled, headerOf, headerIn, readRefusal, readAnswer}
+use Rattle.plan.specs.Calls.{filled, headerOf, headerIn, readNumber, readAnswer}
 use Rattle.plan.specs.declared.Reading.{Reading}
 use Rattle.plan.proofs.Reading as R
 use Rattle.plan.proofs.Reading.Laws as R′
@@ -146,7 +147,7 @@ module _ {M : Type 1} (𝓤 : URA M) (H : Heap 𝓤) (A : Atoms 𝓤) (W : Given
 
   -- what the contract says: the number of the refusal, the answer, and what is left in the links, the words and the records
   abbrev number : ℕ
-  number = readRefusal (length ks) (length es) left
+  number = readNumber (length ks) (length es) left
 
   abbrev answered : Reading
   answered = readAnswer number (headerOf left)
@@ -228,7 +229,8 @@ module _ {M : Type 1} (𝓤 : URA M) (H : Heap 𝓤) (A : Atoms 𝓤) (W : Given
     walk =
         qed W ((‵ (flft κ₀ q₀) ⊛ (‵ (flft κ₁ q₁) ⊛ (‵ (flft κ₂ q₂) ⊛ ‵ ftrue))) ∷ ‵ (owns (B (κ₀, (κ₁, (κ₂, tt))) ∷ MutSlice (named 1) κ₁ u8 ∷ MutSlice (named 2) κ₂ E ∷ []) a vals) ∷ []) ∵
         enter ! C Λ code.function (mach ∷ sliceVal (b₁, o₁) (length ks) ∷ sliceVal (b₂, o₂) (length es) ∷ []) _ $
-        alloc1 ! (λ l₀. alloc1 ! (λ l₁. alloc1 ! (λ l₂. alloc1 ! (λ l₃. alloc1 ! (λ l₄. alloc1 ! (λ l₅. alloc1 ! (λ l₆. alloc1 ! (λ l₇. alloc1 ! (λ l₈. alloc1 ! (λ l₉. alloc1 ! (λ l₁₀. alloc1 ! (λ l₁₁. alloc1 ! (λ l₁₂. alloc1 ! (λ l₁₃. alloc1 ! (λ l₁₄. alloc1 ! (λ l₁₅. alloc1 ! (λ l₁₆. alloc0 ! $ params1 ! $
+        alloc1 ! (λ l₀. alloc1 ! (λ l₁. alloc1 ! (λ l₂. alloc1 ! (λ l₃. alloc1 ! (λ l₄. alloc1 ! (λ l₅. alloc1 ! (λ l₆. alloc1 ! (λ l₇. alloc1 ! (λ l₈. alloc1 ! (λ l₉. alloc1 ! (λ l₁₀.
+        alloc1 ! (λ l₁₁. alloc1 ! (λ l₁₂. alloc1 ! (λ l₁₃. alloc1 ! (λ l₁₄. alloc1 ! (λ l₁₅. alloc1 ! (λ l₁₆. alloc0 ! $ params1 ! $
         pass1 ! (init ! 30 refl wt) $ pass1 ! (init ! 28 refl (tt, (tt, (record { fits = k-room .0 }, tt)))) $ pass1 ! (init ! 26 refl (tt, (tt, (record { fits = v-room .0 }, tt)))) $ pass0 ! $ move ! (34 ∷ []) $ split ! $ move ! (1 ∷ []) $
         split ! $ move ! (1 ∷ []) $ split ! $ move ! (38 ∷ []) $ fsplit ! $ move ! (1 ∷ []) $ fsplit ! $ move ! (1 ∷ []) $ fsplit ! $
         -- the array of words, and the struct taken apart
@@ -248,11 +250,14 @@ module _ {M : Type 1} (𝓤 : URA M) (H : Heap 𝓤) (A : Atoms 𝓤) (W : Given
         await ! tt $ pick ! (λ δ. split ! $ nothing ! $ move ! (3 ∷ 0 ∷ []) $ join ! $ move ! (11 ∷ 0 ∷ []) $ join ! $ move ! (11 ∷ 0 ∷ []) $ join ! $ nothing ! $ move ! (2 ∷ 0 ∷ []) $ fjoin ! $
         owned ! usize (Is usize) (uint-makes 𝓤 H A W w64) (length es) _ (refl, v-room .0) $ fjoin ! $ move ! (8 ∷ 0 ∷ []) $ fjoin ! $ owned ! usize (Is usize) (uint-makes 𝓤 H A W w64) (d .at) _ (refl, wt .1 .1 .0 .fits) $ fjoin ! $
         move ! (3 ∷ 0 ∷ []) $ fjoin ! $ move ! (1 ∷ 0 ∷ []) $ use2 W (raw (ReadWords 𝓤 H A mem″ run .pre (to-read l₄ ν δ))) (asked-read l₄ ν δ) $
-        calls-at ! fm (ReadWords 𝓤 H A mem″ run) known-read (to-read l₄ ν δ) (and-then ! (load ! (from ! (stop !)) (look ! 26 refl)) (and-then ! (load ! (from ! (stop !)) (look ! 24 refl)) (and-then ! (load ! (from ! (stop !)) (look ! 20 refl)) (and-then ! (load ! (from ! (stop !)) (look ! 18 refl)) (and-then ! (load ! (from ! (stop !)) (look ! 16 refl)) (no-more !)))))) (λ u.
-        use1 W (later (some (λ (r : Reading). ((‵ (flft κ₀ q₀) ⊛ (‵ (flft κ₁ q₁) ⊛ (‵ (flft (ν ∷ []) fullShare) ⊛ ‵ ftrue))) ⊛ ‵ (R.the-row .own r (u ∷ []))) ⊛ raw (ensured 𝓤 H A read-words.ended (read-words.clauses 𝓤 H A mem″ run) (κ₀, (κ₁, (ν ∷ [], tt))) (to-read l₄ ν δ .0 .3) tt r)))) (id⊢ 𝓤 _) $ await ! tt $ pick ! (λ r.
+        calls-at ! fm (ReadWords 𝓤 H A mem″ run) known-read (to-read l₄ ν δ) (and-then ! (load ! (from ! (stop !)) (look ! 26 refl)) (and-then ! (load ! (from ! (stop !)) (look ! 24 refl))
+        (and-then ! (load ! (from ! (stop !)) (look ! 20 refl)) (and-then ! (load ! (from ! (stop !)) (look ! 18 refl)) (and-then ! (load ! (from ! (stop !)) (look ! 16 refl)) (no-more !)))))) (λ u.
+        use1 W (later (some (λ (r : Reading). ((‵ (flft κ₀ q₀) ⊛ (‵ (flft κ₁ q₁) ⊛ (‵ (flft (ν ∷ []) fullShare) ⊛ ‵ ftrue))) ⊛ ‵ (R.the-row .own r (u ∷ [])))
+        ⊛ raw (ensured 𝓤 H A read-words.ended (read-words.clauses 𝓤 H A mem″ run) (κ₀, (κ₁, (ν ∷ [], tt))) (to-read l₄ ν δ .0 .3) tt r)))) (id⊢ 𝓤 _) $ await ! tt $ pick ! (λ r.
         -- what `read_words_at` ensures, at some last lists
         split ! $ move ! (1 ∷ []) $
-        use1 W (some (λ (zs : Unit {0} × (Unit {0} × (List ℕ × (Unit {0} × (List ℕ × Unit {0}))))). ‵ (lasts read-words.ended (κ₀, (κ₁, (ν ∷ [], tt))) (to-read l₄ ν δ .0 .3) zs) ⊛ (raw (fact 𝓤 (r ≡ answered)) ⊛ (raw (fact 𝓤 (zs .1 .1 .0 ≡ links-left)) ⊛ raw (fact 𝓤 (zs .1 .1 .1 .1 .0 ≡ words-left)))))) (id⊢ 𝓤 _) $
+        use1 W (some (λ (zs : Unit {0} × (Unit {0} × (List ℕ × (Unit {0} × (List ℕ × Unit {0}))))). ‵ (lasts read-words.ended (κ₀, (κ₁, (ν ∷ [], tt))) (to-read l₄ ν δ .0 .3) zs)
+        ⊛ (raw (fact 𝓤 (r ≡ answered)) ⊛ (raw (fact 𝓤 (zs .1 .1 .0 ≡ links-left)) ⊛ raw (fact 𝓤 (zs .1 .1 .1 .1 .0 ≡ words-left)))))) (id⊢ 𝓤 _) $
         pick ! (λ zs. split ! $ move ! (1 ∷ []) $ split ! $ heard ! (r ≡ answered) (λ e₁. split ! $ heard ! (zs .1 .1 .0 ≡ links-left) (λ e₂. heard ! (zs .1 .1 .1 .1 .0 ≡ words-left) (λ e₃. fsplit ! $ move ! (1 ∷ []) $ fsplit ! $
         move ! (1 ∷ []) $ fsplit ! $ fsplit ! $ move ! (2 ∷ []) $ fsplit ! $ move ! (1 ∷ []) $ fsplit ! $ move ! (4 ∷ []) $ feqL ! (λ len₁. move ! (6 ∷ []) $ split ! $ move ! (1 ∷ []) $
         peeks ! R.the-row (Is R.the-row) (shows 𝓤 H A R.the-row) r (u ∷ []) (λ is. land ! (from ! (stop !)) (init ! 37 refl (typed r u is)) $ move ! (1 ∷ []) $ split ! $ move ! (1 ∷ []) $ split ! $ move ! (1 ∷ []) $ split ! $ lft-end ! tt $
@@ -273,7 +278,8 @@ module _ {M : Type 1} (𝓤 : URA M) (H : Heap 𝓤) (A : Atoms 𝓤) (W : Given
         rewrite ! 1 (λ (v : Val). ‵ (owns (ShrRef (named 0) (ν′ ∷ []) Words ∷ MutSlice (named 1) κ₂ E ∷ usize ∷ []) ((to-fill l₄ ν′ δ′ (zs .1 .1 .1 .1 .0) n) .0 .3) (vptr l₄ 0 ∷ [], (sliceVal (b₂, o₂) (length es) ∷ [], (v ∷ [], tt))))) (ap only (is′ .0)) refl $
         use2 W (raw (Fill 𝓤 H A mem″ run .pre (to-fill l₄ ν′ δ′ (zs .1 .1 .1 .1 .0) n))) (asked-fill l₄ ν′ δ′ (zs .1 .1 .1 .1 .0) n (bounded n (counted e₁ e₄))) $
         calls-at ! fm (Fill 𝓤 H A mem″ run) known-fill (to-fill l₄ ν′ δ′ (zs .1 .1 .1 .1 .0) n) (and-then ! (load ! (from ! (stop !)) (look ! 19 refl)) (and-then ! (load ! (from ! (stop !)) (look ! 15 refl)) (and-then ! (load ! (from ! (stop !)) (look ! 35 refl)) (no-more !)))) (λ w′.
-        use1 W (later (some (λ (g : Unit {0}). ((‵ (flft (ν′ ∷ []) fullShare) ⊛ (‵ (flft κ₂ q₂) ⊛ ‵ ftrue)) ⊛ ‵ (unit .own g (w′ ∷ []))) ⊛ raw (ensured 𝓤 H A fill.ended (fill.clauses 𝓤 H A mem″ run) (ν′ ∷ [], (κ₂, tt)) ((to-fill l₄ ν′ δ′ (zs .1 .1 .1 .1 .0) n) .0 .3) tt g)))) (id⊢ 𝓤 _) $ await ! tt $ pick ! (λ g.
+        use1 W (later (some (λ (g : Unit {0}). ((‵ (flft (ν′ ∷ []) fullShare) ⊛ (‵ (flft κ₂ q₂) ⊛ ‵ ftrue)) ⊛ ‵ (unit .own g (w′ ∷ [])))
+        ⊛ raw (ensured 𝓤 H A fill.ended (fill.clauses 𝓤 H A mem″ run) (ν′ ∷ [], (κ₂, tt)) ((to-fill l₄ ν′ δ′ (zs .1 .1 .1 .1 .0) n) .0 .3) tt g)))) (id⊢ 𝓤 _) $ await ! tt $ pick ! (λ g.
         split ! $ move ! (1 ∷ []) $
         use1 W (some (λ (vs : Unit {0} × (List Event × (Unit {0} × Unit {0}))). ‵ (lasts fill.ended (ν′ ∷ [], (κ₂, tt)) ((to-fill l₄ ν′ δ′ (zs .1 .1 .1 .1 .0) n) .0 .3) vs) ⊛ raw (fact 𝓤 (vs .1 .0 ≡ sets es 0 (recordsOf n (zs .1 .1 .1 .1 .0)))))) (id⊢ 𝓤 _) $
         pick ! (λ vs. split ! $ move ! (1 ∷ []) $ heard ! (vs .1 .0 ≡ sets es 0 (recordsOf n (zs .1 .1 .1 .1 .0))) (λ e₅. fsplit ! $ move ! (1 ∷ []) $ fsplit ! $ fsplit ! $ move ! (1 ∷ []) $ feqL ! (λ len₂. move ! (3 ∷ []) $ split ! $
@@ -290,7 +296,8 @@ module _ {M : Type 1} (𝓤 : URA M) (H : Heap 𝓤) (A : Atoms 𝓤) (W : Given
     (known-read : Triple 𝓤 (𝓣 .C #read-words) (ReadWords 𝓤 H A mem run)) (known-count : Triple 𝓤 (𝓣 .C #events-in) (EventsIn 𝓤 H A mem run)) (known-fill : Triple 𝓤 (𝓣 .C #fill) (Fill 𝓤 H A mem run)) where
   read-walks : Walks 𝓤 H A reads.ended stayed (WpFn 𝓤 H (𝓣 .C) (𝓣 .Λ) code.function) (reads.clauses 𝓤 H A mem run)
   read-walks = walked 𝓤 H A reads.ended stayed (reads.clauses 𝓤 H A mem run) (WpFn 𝓤 H (𝓣 .C) (𝓣 .Λ) code.function)
-      (λ κs. (LL.vals (T.the-type (namedLft 3 0 tt κs)) (T′.the-laws (namedLft 3 0 tt κs)), (slice-vals, (slice-vals, tt)))) (λ κs. (LL.tells (T.the-type (namedLft 3 0 tt κs)) (T′.the-laws (namedLft 3 0 tt κs)), (mut-slice-tells (named 1) (κs .1 .0) u8, (mut-slice-tells (named 2) (κs .1 .1 .0) E, tt))))
+      (λ κs. (LL.vals (T.the-type (namedLft 3 0 tt κs)) (T′.the-laws (namedLft 3 0 tt κs)), (slice-vals, (slice-vals, tt))))
+      (λ κs. (LL.tells (T.the-type (namedLft 3 0 tt κs)) (T′.the-laws (namedLft 3 0 tt κs)), (mut-slice-tells (named 1) (κs .1 .0) u8, (mut-slice-tells (named 2) (κs .1 .1 .0) E, tt))))
       (λ κs qs bounds a g are.
       let wt = LL.lawful (T.the-type (namedLft 3 0 tt κs)) (T′.the-laws (namedLft 3 0 tt κs)) 𝓤 H A W .typed (a .0) _ (are .0) .0 in
       via 𝓤 _ (fst∗ 𝓤 _ (emp 𝓤))

@@ -30,9 +30,6 @@ abbrev μ-loop : tie.MeasureT-loop
 loop-holds : tie.Need-loop-holds Inv-loop μ-loop
 loop-holds c = (refl, refl, refl, omega arith)
 
-read-member-requires : tie.Need-read-member-requires Inv-loop μ-loop
-read-member-requires c κs = tt
-
 -- the step is refused: no rank is given, and the members are refused with its number
 returns : tie.Need-returns Inv-loop μ-loop
 returns c =
@@ -84,12 +81,6 @@ add-least c = omega (arith, bounds c)
 add-done : tie.Need-add-done Inv-loop μ-loop
 add-done c = omega (arith, bounds c)
 
-sub-left : tie.Need-sub-left Inv-loop μ-loop
-sub-left c = omega arith
-
-loop-less : tie.Need-loop-less Inv-loop μ-loop
-loop-less c = omega arith
-
 loop-again : tie.Need-loop-again Inv-loop μ-loop
 loop-again c =
     let d = c .before .before .before .before in
@@ -122,7 +113,7 @@ read-members-spec =
     Inv-loop
     μ-loop
     loop-holds
-    read-member-requires
+    (λ c κs. tt)  -- read-member-requires
     (λ c. search needs)  -- enum-known-step
     returns
     enum-told
@@ -131,7 +122,7 @@ read-members-spec =
     element-write-out
     add-least
     add-done
-    sub-left
-    loop-less
+    (λ c. omega arith)  -- sub-left
+    (λ c. omega arith)  -- loop-less
     loop-again
     returns-2)

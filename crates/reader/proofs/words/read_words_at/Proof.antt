@@ -9,7 +9,7 @@ use lib.ListN.{length, take, drop, replicate}
 use lib.Seq.{sets}
 use Rattle.plan.specs.Lists.{linkBytes}
 use Rattle.plan.specs.File.{planOf}
-use Rattle.plan.specs.Calls.{headerOf, headerIn, readRefusal, readAnswer}
+use Rattle.plan.specs.Calls.{headerOf, headerIn, readNumber, readAnswer}
 use Rattle.plan.proofs.FilledLaws.{length-filled}
 use Rattle.files.proofs.ReaderLawsAnswer.{header-bounds, read-links}
 use Rattle.reader.proofs.words.read_words_at.Statement.{statement}
@@ -21,12 +21,12 @@ bytes-long c =
     let a = c .before .before .before .before .before .args in
     sym
     (ap length (c .read-at .ensures .1 .0)
-    ∙ length-filled (readRefusal (length (a .links .now)) (a .event-room) (drop (a .at) (a .s .now))) (linkBytes ((planOf (drop (a .at) (a .s .now))) .links)) (replicate 256 0))
+    ∙ length-filled (readNumber (length (a .links .now)) (a .event-room) (drop (a .at) (a .s .now))) (linkBytes ((planOf (drop (a .at) (a .s .now))) .links)) (replicate 256 0))
 
 header-is :
     (c : tie.After-header-in)
     → let a = c .before .before .before .before .before .before .args in
-    c .header-in .result ≡ headerIn (readAnswer (readRefusal (length (a .links .now)) (a .event-room) (drop (a .at) (a .s .now))) (headerOf (drop (a .at) (a .s .now))))
+    c .header-in .result ≡ headerIn (readAnswer (readNumber (length (a .links .now)) (a .event-room) (drop (a .at) (a .s .now))) (headerOf (drop (a .at) (a .s .now))))
 header-is c = c .header-in .ensures ∙ ap headerIn (c .before .read-at .ensures .0)
 
 bounds :

@@ -2,6 +2,7 @@
 use mathlib.Core.Path.{refl}
 use native.Mathlib.Omega.{arith}
 use borrow.Author.Needs.{needs}
+use Rattle.plan.specs.LentLists.{inWords}
 use Rattle.readings.proofs.Figures.{refused-told, examined-fits, given-told}
 use Rattle.readings.proofs.PairTold.{done-told}
 use Rattle.readings.proofs.ratio.figure.Statement.{statement}
@@ -11,33 +12,33 @@ sub-figure-of : tie.Need-sub-figure-of
 sub-figure-of c =
     let k = c .before .before .before in
     let a = k .before .before .before .before .before .args in
-    done-told (a .h) (a .links .now) (a .events .now) (a .v) (a .w) _ (k .before .before .pair .ensures .0) _ (k .answer2 .given .1) .upper-fits
+    done-told (inWords (a .h) (a .links .now) (a .events .now)) (a .v) (a .w) _ (k .before .before .pair .ensures .0) _ (k .answer2 .given .1) .upper-fits
 
 add-figure-of : tie.Need-add-figure-of
 add-figure-of c =
     let k = c .before .before .before .before in
     let a = k .before .before .before .before .before .args in
-    omega (arith, examined-fits (a .h) (a .links .now) (a .events .now) (a .v) (a .w) _ (k .before .before .pair .ensures .0) _ (k .answer2 .given .1))
+    omega (arith, examined-fits (inWords (a .h) (a .links .now) (a .events .now)) (a .v) (a .w) _ (k .before .before .pair .ensures .0) _ (k .answer2 .given .1))
 
 figure-of-requires : tie.Need-figure-of-requires
 figure-of-requires c κs =
     let k = c .before .before .before .before in
     let a = k .before .before .before .before .before .args in (
-      done-told (a .h) (a .links .now) (a .events .now) (a .v) (a .w) _ (k .before .before .pair .ensures .0) _ (k .answer2 .given .1) .lower-fits,
-      examined-fits (a .h) (a .links .now) (a .events .now) (a .v) (a .w) _ (k .before .before .pair .ensures .0) _ (k .answer2 .given .1),
+      done-told (inWords (a .h) (a .links .now) (a .events .now)) (a .v) (a .w) _ (k .before .before .pair .ensures .0) _ (k .answer2 .given .1) .lower-fits,
+      examined-fits (inWords (a .h) (a .links .now) (a .events .now)) (a .v) (a .w) _ (k .before .before .pair .ensures .0) _ (k .answer2 .given .1),
     )
 
 returns : tie.Need-returns
 returns c =
     let k = c .before in
     let a = k .before .before .before .before .before .args in
-    refused-told (a .h) (a .links .now) (a .events .now) (a .v) (a .w) _ (k .before .before .pair .ensures .0) _ (k .answer .given .1)
+    refused-told (inWords (a .h) (a .links .now) (a .events .now)) (a .v) (a .w) _ (k .before .before .pair .ensures .0) _ (k .answer .given .1)
 
 returns-2 : tie.Need-returns-2
 returns-2 c =
     let k = c .before .before .before .before .before in
     let a = k .before .before .before .before .before .args in
-    given-told (a .h) (a .links .now) (a .events .now) (a .v) (a .w) _ (k .before .before .pair .ensures .0) _ (k .answer2 .given .1) _ _ _ refl refl (c .figure-of .ensures)
+    given-told (inWords (a .h) (a .links .now) (a .events .now)) (a .v) (a .w) _ (k .before .before .pair .ensures .0) _ (k .answer2 .given .1) _ _ _ refl refl (c .figure-of .ensures)
 
 pub figure-spec : {M : Type 1} → statement M
 figure-spec =

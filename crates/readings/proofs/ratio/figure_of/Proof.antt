@@ -3,9 +3,6 @@ use borrow.Author.Needs.{needs}
 use Rattle.readings.proofs.Figures.{none-given, given}
 use Rattle.readings.proofs.ratio.figure_of.Statement.{statement}
 use Rattle.readings.proofs.ratio.figure_of.Tie as tie
-use Rattle.readings.proofs.ratio.figure_of.Reads as reads
-use Rattle.readings.proofs.ratio.figure_of.Lts as lts
-use Rattle.readings.proofs.ratio.shares_of.Reads as shares-of-reads
 
 returns : tie.Need-returns
 returns c = none-given _ _ (c .if1 .taken)

@@ -3,8 +3,6 @@ use native.Mathlib.Omega.{arith}
 use Rattle.readings.proofs.Figures.{in-float, billion-is, float-of-is}
 use Rattle.readings.proofs.ratio.float_of.Statement.{statement}
 use Rattle.readings.proofs.ratio.float_of.Tie as tie
-use Rattle.readings.proofs.ratio.float_of.Reads as reads
-use Rattle.readings.proofs.ratio.float_of.Lts as lts
 
 int-to-float-result : tie.Need-int-to-float-result
 int-to-float-result c = in-float _ (omega arith)

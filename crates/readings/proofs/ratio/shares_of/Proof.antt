@@ -3,9 +3,6 @@ use borrow.Author.Needs.{needs}
 use Rattle.readings.proofs.Figures.{whole-is, shares-are}
 use Rattle.readings.proofs.ratio.shares_of.Statement.{statement}
 use Rattle.readings.proofs.ratio.shares_of.Tie as tie
-use Rattle.readings.proofs.ratio.shares_of.Reads as reads
-use Rattle.readings.proofs.ratio.shares_of.Lts as lts
-use Rattle.readings.proofs.ratio.float_of.Reads as float-of-reads
 
 returns : tie.Need-returns
 returns c = shares-are _ _ _ _ _ (c .float-of2 .ensures) (c .before .float-of .ensures) whole-is

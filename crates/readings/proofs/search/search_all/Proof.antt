@@ -12,12 +12,12 @@ links-at-requires c κs = c .pre .0 .links-held
 search-on-requires : tie.Need-search-on-requires
 search-on-requires c κs =
     let pre = c .before .before .before .before .before .pre in
-    (c .before .before .before .before .links-at .ensures, seeking-whole _ _ _ _ _ _ _ (begun-alone _ _ _ _ _ _ _ refl (c .before .before .begin .ensures)) (pre .0) (pre .1))
+    (c .before .before .before .before .links-at .ensures, seeking-whole _ _ _ _ _ _ _ (begun-alone _ _ _ refl (c .before .before .begin .ensures)) (pre .0) (pre .1))
 
 returns : tie.Need-returns
 returns c =
     c .search-on .ensures
-    ∙ answers-whole _ _ _ _ _ _ _ (begun-alone _ _ _ _ _ _ _ refl (c .before .before .before .begin .ensures))
+    ∙ answers-whole _ _ _ _ _ _ _ (begun-alone _ _ _ refl (c .before .before .before .begin .ensures))
 
 pub search-all-spec : {M : Type 1} → statement M
 search-all-spec =

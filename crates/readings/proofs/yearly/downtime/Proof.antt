@@ -1,22 +1,20 @@
 -- `readings::yearly::downtime` meets its contract: at each `return` the tests that led there say which case of the answer holds; that the
 -- exact downtime lies between its seconds follows from that.
 -- Assumes nothing.
-use borrow.Author.Needs.{needs}
 use mathlib.Core.Path.{_≡_, refl, sym, ap, ap₂, subst, _∙_}
 use Prim.Native.Nat.{ℕ}
 use lib.ListN.{length}
-use Rattle.mass.specs.Split.{massTest}
+use Rattle.mass.specs.Refusal.{first}
 use Rattle.mass.proofs.Answer.{mass-fits}
-use Rattle.refusals.proofs.OrderLaws.{stop, skip}
+use Rattle.mass.proofs.RefusalLaws.{first-none, refuses}
+use Rattle.refusals.proofs.OrderLaws.{also}
 use Rattle.sums.specs.Exact.{exactCut}
 use Rattle.bounds.specs.Bounds.{cuts}
 use Rattle.readings.specs.Downtime.{downtimeAnswer, downtimeRefusal, secondsOf, secondsIn}
 use Rattle.readings.specs.Downtime.{DowntimeWithin, EnclosesDowntime}
-use Rattle.readings.specs.declared.Seconds.{Seconds}
 use Rattle.readings.specs.declared.Timed.{Timed}
 use Rattle.readings.specs.declared.Timed.the-variants as timed
-use Rattle.readings.proofs.Refusing.{refuses}
-use Rattle.readings.proofs.DowntimeLaws.{none-refused, bounds-fit}
+use Rattle.readings.proofs.DowntimeLaws.{bounds-fit}
 use Rattle.readings.proofs.Theorems.{bounds-enclose}
 use Rattle.readings.proofs.yearly.downtime.Statement.{statement}
 use Rattle.readings.proofs.yearly.downtime.Tie as tie
@@ -39,44 +37,37 @@ module _ (lower upper : ℕ) where
   concluded : (r : Timed) → r ≡ answer → (r ≡ answer) × EnclosesDowntime lower upper (secondsIn r)
   concluded r e = (e, subst (λ (t : Timed). EnclosesDowntime lower upper (secondsIn t)) (sym e) answer-encloses)
 
-  given : (s : Seconds) → massTest lower ≡ 0 → massTest upper ≡ 0 → s ≡ secondsOf lower upper → timed.Given s ≡ answer
-  given s e f is = rw (none-refused lower upper e f) (ap timed.Given is)
-
 -- ---- the function
 
-returns : tie.Need-returns
-returns c =
-    concluded _ _ _
-    (refuses downtimeAnswer timed.Refused (λ n x. refl) _ _ _ (stop _ (c .before .mass-test .ensures) (c .if1 .taken)) (c .if1 .taken))
+-- the number with which the two masses are refused: what the tests returned, and where they let them pass
+abbrev number : tie.After-first-of → ℕ
+number c = let a = c .before .before .before .before .args in downtimeRefusal (a .lower) (a .upper)
 
-returns-2 : tie.Need-returns-2
-returns-2 c =
-    concluded _ _ _
-    (refuses downtimeAnswer timed.Refused (λ n x. refl) _ _ _
-    (skip _ (c .before .before .before .mass-test .ensures) (c .before .before .if1 .left) (stop _ (c .before .mass-test2 .ensures) (c .if2 .taken)))
-    (c .if2 .taken))
+tests-are : (c : tie.After-first-of) → c .first-of .result ≡ number c
+tests-are c =
+    let high = c .before .before in c .first-of .ensures ∙ ap first (also (high .before .mass-test .ensures) (also (high .mass-test2 .ensures) refl))
+
+accepted : (c : tie.Else1) → number (c .before) ≡ 0
+accepted c = sym (tests-are (c .before)) ∙ c .if1 .left
+
+returns : tie.Need-returns
+returns c = concluded _ _ _ (refuses timed.Refused _ (tests-are (c .before)) (c .if1 .taken))
 
 seconds-of-requires : tie.Need-seconds-of-requires
-seconds-of-requires c κs = (
-  mass-fits _ (sym (c .before .before .before .mass-test .ensures) ∙ c .before .before .if1 .left),
-  mass-fits _ (sym (c .before .mass-test2 .ensures) ∙ c .if2 .left),
-)
+seconds-of-requires c κs =
+    let low = first-none _ _ (accepted c) in (mass-fits _ (low .0), mass-fits _ (first-none _ _ (low .1) .0))
 
-returns-3 : tie.Need-returns-3
-returns-3 c =
-    concluded _ _ _
-    (given _ _ _
-    (sym (c .before .before .before .before .mass-test .ensures) ∙ c .before .before .before .if1 .left)
-    (sym (c .before .before .mass-test2 .ensures) ∙ c .before .if2 .left)
-    (c .seconds-of .ensures))
+returns-2 : tie.Need-returns-2
+returns-2 c = concluded _ _ _ (rw (accepted (c .before)) (ap timed.Given (c .seconds-of .ensures)))
 
 pub downtime-spec : {M : Type 1} → statement M
 downtime-spec =
     tie.close
     (tie.spec
-    (λ c κs. search needs)  -- mass-test-requires
+    (λ c κs. tt)  -- mass-test-requires
+    (λ c κs. tt)  -- mass-test-requires-2
+    (λ c. refl)  -- slice-aggregate-first-of
+    (λ c κs. tt)  -- first-of-requires
     returns
-    (λ c κs. search needs)  -- mass-test-requires-2
-    returns-2
     seconds-of-requires
-    returns-3)
+    returns-2)

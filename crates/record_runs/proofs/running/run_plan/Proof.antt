@@ -1,4 +1,5 @@
--- `record_runs::running::run_plan` meets its contract: a walk of its MIR, by hand. Two arrays of its own, of bytes and of records, are lent as slices by `&mut` to
+-- `record_runs::running::run_plan` meets its contract: a walk of its MIR, by hand. Two arrays of its own, of bytes and of records, are lent as slices by
+-- `&mut` to
 -- `read_records`, come back, and are lent by `&` to `run_records`; the two lists of bounds are given up for good to that call.
 -- Assumes nothing.
 use mathlib.Core.Path.{_≡_, refl}
@@ -51,7 +52,7 @@ use Rattle.plan.specs.Lists.{linkBytes}
 use Rattle.plan.specs.Layout.{Bytes}
 use Rattle.plan.specs.File.{planOf}
 use Rattle.plan.specs.LentLists.{planOfLists}
-use Rattle.plan.specs.Calls.{filled, headerOf, headerIn, readRefusal, readAnswer}
+use Rattle.plan.specs.Calls.{filled, headerOf, headerIn, readNumber, readAnswer}
 use Rattle.plan.specs.declared.Header.{Header}
 use Rattle.plan.specs.declared.Reading.{Reading}
 use Rattle.plan.proofs.Header as T
@@ -64,11 +65,11 @@ use Rattle.files.proofs.header_in.Symbol.{name as #head}
 use Rattle.files.proofs.header_in.Met as head-thm
 use Rattle.network.specs.Outage.{intact}
 use Rattle.bounds.specs.Bounds.{lowerList, upperList, EnclosesAll}
-use Rattle.bounds.specs.Calls.{runNumber, ranAnswer, totalsOf, totalsIn}
+use Rattle.bounds.specs.Calls.{runNumber, ranAnswer, ranNumber, totalsOf, totalsIn}
 use Rattle.bounds.specs.declared.Ran.{Ran}
 use Rattle.bounds.proofs.Ran as O
 use Rattle.bounds.proofs.Ran.Laws as O′
-use Rattle.records.specs.Events.{wordsOf}
+use Rattle.records.specs.Events.{wordsOf, inRecords}
 use Rattle.reader.specs.Filled.{eventRecords, filledRecords}
 use Rattle.records.specs.declared.Event.{Event}
 use Rattle.records.proofs.EventRow.{E, event, event-vals, event-tells, event-lawful}
@@ -80,7 +81,8 @@ use Rattle.reader.proofs.read_records.Symbol as reads-def
 use Rattle.reader.proofs.read_records.Symbol.{name as #read-records}
 use Rattle.reader.proofs.read_records.Met as reads-thm
 use Rattle.record_runs.specs.Running.{fileNumber, fileAnswer}
-use Rattle.record_runs.proofs.FileLaws.{FilePromised, ran-plan}
+use Rattle.record_runs.proofs.FileLaws.{ran-plan}
+use Rattle.record_runs.proofs.RunLaws.{Promised}
 use Rattle.record_runs.proofs.run_records as runs
 use Rattle.record_runs.proofs.run_records.Symbol as runs-def
 use Rattle.record_runs.proofs.run_records.Symbol.{name as #run-records}
@@ -142,28 +144,25 @@ module _ {M : Type 1} (𝓤 : URA M) (H : Heap 𝓤) (A : Atoms 𝓤) (W : Given
 
   -- what the contract of `read_records` says, and that of `run_records` at a header and lists
   abbrev answered : Reading
-  answered = readAnswer (readRefusal 256 128 (s .now)) (headerOf (s .now))
+  answered = readAnswer (readNumber 256 128 (s .now)) (headerOf (s .now))
 
   abbrev links-left : List ℕ
-  links-left = filled (readRefusal 256 128 (s .now)) (linkBytes ((planOf (s .now)) .links)) no-links
+  links-left = filled (readNumber 256 128 (s .now)) (linkBytes ((planOf (s .now)) .links)) no-links
 
   abbrev records-left : List Event
-  records-left = filledRecords (readRefusal 256 128 (s .now)) (eventRecords ((planOf (s .now)) .events)) no-events
-
-  abbrev number : Header → List ℕ → List Event → ℕ
-  number h ks es = runNumber h ks (wordsOf es) lo up
+  records-left = filledRecords (readNumber 256 128 (s .now)) (eventRecords ((planOf (s .now)) .events)) no-events
 
   abbrev ran : Header → List ℕ → List Event → Ran
-  ran h ks es = ranAnswer (number h ks es) (totalsOf (planOfLists h ks (wordsOf es)))
+  ran h ks es = ranAnswer (runNumber (inRecords h ks es) (length lo) (length up)) (totalsOf (planOfLists h ks (wordsOf es)))
 
-  abbrev lower-left : Header → List ℕ → List Event → List ℕ
-  lower-left h ks es = filled (number h ks es) (lowerList intact (planOfLists h ks (wordsOf es))) lo
+  abbrev lower-left : Header → List ℕ → List Event → Ran → List ℕ
+  lower-left h ks es r = filled (ranNumber r) (lowerList intact (planOfLists h ks (wordsOf es))) lo
 
-  abbrev upper-left : Header → List ℕ → List Event → List ℕ
-  upper-left h ks es = filled (number h ks es) (upperList intact (planOfLists h ks (wordsOf es))) up
+  abbrev upper-left : Header → List ℕ → List Event → Ran → List ℕ
+  upper-left h ks es r = filled (ranNumber r) (upperList intact (planOfLists h ks (wordsOf es))) up
 
   abbrev enclosed : Header → List ℕ → List Event → Ran → List ℕ → List ℕ → Type 0
-  enclosed h ks es r lo′ up′ = number h ks es ≡ 0 → EnclosesAll intact (planOfLists h ks (wordsOf es)) lo′ up′ (totalsIn r .count)
+  enclosed h ks es r lo′ up′ = ranNumber r ≡ 0 → EnclosesAll intact (planOfLists h ks (wordsOf es)) lo′ up′ (totalsIn r .count)
 
   -- the call of `read_records`
   abbrev to-read : ℕ → ℕ → ℕ → ℕ → GName → GName → Reads 𝓤 H A mem″ run .Ghost
@@ -229,7 +228,7 @@ module _ {M : Type 1} (𝓤 : URA M) (H : Heap 𝓤) (A : Atoms 𝓤) (W : Given
   abbrev Items : Ran → Val → List ℕ → List ℕ → List (Item 𝓤)
   Items t u lo′ up′ = ‵ (flft κ₀ q₀) ∷ ‵ (flft κ₁ q₁) ∷ ‵ (flft κ₂ q₂) ∷ ‵ OwnS ∷ ‵ (finally u64 γ₁ lo′) ∷ ‵ (finally u64 γ₂ up′) ∷ ‵ (O.the-row .own t (u ∷ [])) ∷ []
 
-  exits : (t : Ran) (u : Val) (lo′ up′ : List ℕ) → length lo′ ≡ length lo → length up′ ≡ length up → FilePromised (fileNumber (s .now) lo up) (planOf (s .now)) lo up t lo′ up′ → ent 𝓤 (⋆ 𝓤 H A (Items t u lo′ up′)) (Post u)
+  exits : (t : Ran) (u : Val) (lo′ up′ : List ℕ) → length lo′ ≡ length lo → length up′ ≡ length up → Promised (fileNumber (s .now) (length lo) (length up)) (planOf (s .now)) lo up t lo′ up′ → ent 𝓤 (⋆ 𝓤 H A (Items t u lo′ up′)) (Post u)
   exits t u lo′ up′ l₁ l₂ said =
       qed W (Items t u lo′ up′) ∵
       suffices ! _ (ends-at 𝓤 H A plans.ended stayed (plans.clauses 𝓤 H A mem″ run) W bound u t (tt, (lo′, (up′, tt))) (tt, (l₁, (l₂, tt)))) $ says4 ! (said .0) (said .1 .0) (said .1 .1 .0) (said .1 .1 .1) $
@@ -243,8 +242,12 @@ module _ {M : Type 1} (𝓤 : URA M) (H : Heap 𝓤) (A : Atoms 𝓤) (W : Given
     walk =
         qed W ((‵ (flft κ₀ q₀) ⊛ (‵ (flft κ₁ q₁) ⊛ (‵ (flft κ₂ q₂) ⊛ ‵ ftrue))) ∷ ‵ (owns (ShrSlice (named 0) κ₀ u8 ∷ MutSlice (named 1) κ₁ u64 ∷ MutSlice (named 2) κ₂ u64 ∷ []) a at) ∷ []) ∵
         enter ! C Λ code.function (sliceVal (s .ptr) (length (s .now)) ∷ sliceVal (b₁, o₁) (length lo) ∷ sliceVal (b₂, o₂) (length up) ∷ []) _ $
-        alloc1 ! (λ l₀. alloc1 ! (λ l₁. alloc1 ! (λ l₂. alloc1 ! (λ l₃. alloc1 ! (λ l₄. alloc1 ! (λ l₅. alloc1 ! (λ l₆. alloc1 ! (λ l₇. alloc1 ! (λ l₈. alloc1 ! (λ l₉. alloc1 ! (λ l₁₀. alloc1 ! (λ l₁₁. alloc1 ! (λ l₁₂. alloc1 ! (λ l₁₃. alloc1 ! (λ l₁₄. alloc1 ! (λ l₁₅. alloc1 ! (λ l₁₆. alloc1 ! (λ l₁₇. alloc1 ! (λ l₁₈. alloc1 ! (λ l₁₉. alloc1 ! (λ l₂₀. alloc1 ! (λ l₂₁. alloc0 ! $ params1 ! $
-        pass1 ! (init ! 40 refl (tt, (tt, (record { fits = s-room .0 }, tt)))) $ pass1 ! (init ! 38 refl (tt, (tt, (record { fits = lo-room .0 }, tt)))) $ pass1 ! (init ! 36 refl (tt, (tt, (record { fits = up-room .0 }, tt)))) $ pass0 ! $ move ! (44 ∷ []) $ split ! $ move ! (1 ∷ []) $ split ! $ move ! (1 ∷ []) $ split ! $ move ! (48 ∷ []) $ fsplit ! $ move ! (1 ∷ []) $ fsplit ! $ move ! (1 ∷ []) $ fsplit ! $
+        alloc1 ! (λ l₀. alloc1 ! (λ l₁. alloc1 ! (λ l₂. alloc1 ! (λ l₃. alloc1 ! (λ l₄. alloc1 ! (λ l₅. alloc1 ! (λ l₆. alloc1 ! (λ l₇. alloc1 ! (λ l₈. alloc1 ! (λ l₉. alloc1 ! (λ l₁₀.
+        alloc1 ! (λ l₁₁. alloc1 ! (λ l₁₂. alloc1 ! (λ l₁₃. alloc1 ! (λ l₁₄. alloc1 ! (λ l₁₅. alloc1 ! (λ l₁₆. alloc1 ! (λ l₁₇. alloc1 ! (λ l₁₈. alloc1 ! (λ l₁₉. alloc1 ! (λ l₂₀.
+        alloc1 ! (λ l₂₁. alloc0 ! $ params1 ! $
+        pass1 ! (init ! 40 refl (tt, (tt, (record { fits = s-room .0 }, tt)))) $ pass1 ! (init ! 38 refl (tt, (tt, (record { fits = lo-room .0 }, tt)))) $
+        pass1 ! (init ! 36 refl (tt, (tt, (record { fits = up-room .0 }, tt)))) $ pass0 ! $ move ! (44 ∷ []) $ split ! $ move ! (1 ∷ []) $ split ! $ move ! (1 ∷ []) $ split ! $ move ! (48 ∷ []) $
+        fsplit ! $ move ! (1 ∷ []) $ fsplit ! $ move ! (1 ∷ []) $ fsplit ! $
         -- the file is a list of bytes
         move ! (3 ∷ []) $ use1 W (‵ OwnS ⊛ ‵ OwnS) (shr-slice-copy 𝓤 H A W (named 0) κ₀ u8 .twice s (at .0)) $ split ! $ fsplit ! $ move ! (1 ∷ []) $ fsplit ! $ move ! (1 ∷ 10 ∷ []) $
         looks-slice ! tt u8 (Is u8) (shows 𝓤 H A u8) (uint-vals w8) (uint-tells w8) (uint-copy 𝓤 H A W w8) (s .now) (s .ptr .0) (s .ptr .1) (λ p.
@@ -266,12 +269,17 @@ module _ {M : Type 1} (𝓤 : URA M) (H : Heap 𝓤) (A : Atoms 𝓤) (W : Given
         use1 W (later (some (λ (δ : GName). ‵ (MutSlice (named 1) (ν ∷ []) u8 .own (x l₄ δ no-links) (sliceVal (l₄, 0) 256 ∷ [])) ⊛ ‵ (flent (ν ∷ []) (Held u8 256 l₄ 0 δ))))) (lends-mut 𝓤 H A W u8 256 tt (named 1) (ν ∷ []) l₄ no-links links-room) $ await ! tt $ pick ! (λ δ. split ! $
         move ! (4 ∷ []) $
         use1 W (later (some (λ (δ′ : GName). ‵ (MutSlice (named 2) (ν′ ∷ []) E .own (y l₅ δ′ no-events) (sliceVal (l₅, 0) 128 ∷ [])) ⊛ ‵ (flent (ν′ ∷ []) (Held E 128 l₅ 0 δ′))))) (lends-mut 𝓤 H A W E 128 tt (named 2) (ν′ ∷ []) l₅ no-events events-room) $ await ! tt $ pick ! (λ δ′. split ! $
-        move ! (10 ∷ []) $ use1 W (‵ OwnS ⊛ ‵ OwnS) (shr-slice-copy 𝓤 H A W (named 0) κ₀ u8 .twice s (at .0)) $ split ! $ nothing ! $ move ! (7 ∷ 0 ∷ []) $ join ! $ move ! (7 ∷ 0 ∷ []) $ join ! $ move ! (7 ∷ 0 ∷ []) $ join ! $ nothing ! $ move ! (4 ∷ 0 ∷ []) $ fjoin ! $ move ! (5 ∷ 0 ∷ []) $ fjoin ! $ move ! (2 ∷ 0 ∷ []) $ fjoin ! $ move ! (1 ∷ 0 ∷ []) $
+        move ! (10 ∷ []) $ use1 W (‵ OwnS ⊛ ‵ OwnS) (shr-slice-copy 𝓤 H A W (named 0) κ₀ u8 .twice s (at .0)) $ split ! $ nothing ! $ move ! (7 ∷ 0 ∷ []) $ join ! $ move ! (7 ∷ 0 ∷ []) $ join ! $
+        move ! (7 ∷ 0 ∷ []) $ join ! $ nothing ! $ move ! (4 ∷ 0 ∷ []) $ fjoin ! $ move ! (5 ∷ 0 ∷ []) $ fjoin ! $ move ! (2 ∷ 0 ∷ []) $ fjoin ! $ move ! (1 ∷ 0 ∷ []) $
         use2 W (raw (Reads 𝓤 H A mem″ run .pre (to-read l₄ l₅ ν ν′ δ δ′))) (asked-read l₄ l₅ ν ν′ δ δ′) $
         calls-at ! fm (Reads 𝓤 H A mem″ run) known-read (to-read l₄ l₅ ν ν′ δ δ′) (and-then ! (load ! (from ! (stop !)) (look ! 51 refl)) (and-then ! (load ! (from ! (stop !)) (look ! 33 refl)) (and-then ! (load ! (from ! (stop !)) (look ! 29 refl)) (no-more !)))) (λ u.
-        use1 W (later (some (λ (r : Reading). ((‵ (flft κ₀ q₀) ⊛ (‵ (flft (ν ∷ []) fullShare) ⊛ (‵ (flft (ν′ ∷ []) fullShare) ⊛ ‵ ftrue))) ⊛ ‵ (R.the-row .own r (u ∷ []))) ⊛ raw (ensured 𝓤 H A reads.ended (reads.clauses 𝓤 H A mem″ run) (κ₀, (ν ∷ [], (ν′ ∷ [], tt))) ((to-read l₄ l₅ ν ν′ δ δ′) .0 .3) tt r)))) (id⊢ 𝓤 _) $ await ! tt $ pick ! (λ r.
-        split ! $ move ! (1 ∷ []) $ use1 W (some (λ (zs : Unit {0} × (List ℕ × (List Event × Unit {0}))). ‵ (lasts reads.ended (κ₀, (ν ∷ [], (ν′ ∷ [], tt))) ((to-read l₄ l₅ ν ν′ δ δ′) .0 .3) zs) ⊛ (raw (fact 𝓤 (r ≡ answered)) ⊛ (raw (fact 𝓤 (zs .1 .0 ≡ links-left)) ⊛ raw (fact 𝓤 (zs .1 .1 .0 ≡ records-left)))))) (id⊢ 𝓤 _) $ pick ! (λ zs. split ! $ move ! (1 ∷ []) $
-        split ! $ heard ! (r ≡ answered) (λ e₁. split ! $ heard ! (zs .1 .0 ≡ links-left) (λ e₂. heard ! (zs .1 .1 .0 ≡ records-left) (λ e₃. fsplit ! $ move ! (1 ∷ []) $ fsplit ! $ fsplit ! $ move ! (2 ∷ []) $ fsplit ! $ fsplit ! $ move ! (4 ∷ []) $ feqL ! (λ len₁. move ! (1 ∷ []) $ feqL ! (λ len₂. move ! (4 ∷ []) $ split ! $ move ! (1 ∷ []) $ peeks ! R.the-row (Is R.the-row) (shows 𝓤 H A R.the-row) r (u ∷ []) (λ is.
+        use1 W (later (some (λ (r : Reading). ((‵ (flft κ₀ q₀) ⊛ (‵ (flft (ν ∷ []) fullShare) ⊛ (‵ (flft (ν′ ∷ []) fullShare) ⊛ ‵ ftrue))) ⊛ ‵ (R.the-row .own r (u ∷ [])))
+        ⊛ raw (ensured 𝓤 H A reads.ended (reads.clauses 𝓤 H A mem″ run) (κ₀, (ν ∷ [], (ν′ ∷ [], tt))) ((to-read l₄ l₅ ν ν′ δ δ′) .0 .3) tt r)))) (id⊢ 𝓤 _) $ await ! tt $ pick ! (λ r.
+        split ! $ move ! (1 ∷ []) $ use1 W (some (λ (zs : Unit {0} × (List ℕ × (List Event × Unit {0}))). ‵ (lasts reads.ended (κ₀, (ν ∷ [], (ν′ ∷ [], tt))) ((to-read l₄ l₅ ν ν′ δ δ′) .0 .3) zs)
+        ⊛ (raw (fact 𝓤 (r ≡ answered)) ⊛ (raw (fact 𝓤 (zs .1 .0 ≡ links-left)) ⊛ raw (fact 𝓤 (zs .1 .1 .0 ≡ records-left)))))) (id⊢ 𝓤 _) $ pick ! (λ zs. split ! $ move ! (1 ∷ []) $
+        split ! $ heard ! (r ≡ answered) (λ e₁. split ! $ heard ! (zs .1 .0 ≡ links-left) (λ e₂. heard ! (zs .1 .1 .0 ≡ records-left) (λ e₃. fsplit ! $ move ! (1 ∷ []) $ fsplit ! $ fsplit ! $
+        move ! (2 ∷ []) $ fsplit ! $ fsplit ! $ move ! (4 ∷ []) $ feqL ! (λ len₁. move ! (1 ∷ []) $ feqL ! (λ len₂. move ! (4 ∷ []) $ split ! $ move ! (1 ∷ []) $
+        peeks ! R.the-row (Is R.the-row) (shows 𝓤 H A R.the-row) r (u ∷ []) (λ is.
         land ! (from ! (stop !)) (init ! 48 refl (EL.lawful R.the-type R′.the-laws 𝓤 H A W tt .typed r _ is .0)) $ move ! (1 ∷ []) $ split ! $ move ! (1 ∷ []) $ split ! $ move ! (1 ∷ []) $ split ! $ move ! (2 ∷ []) $
         lft-end ! tt $ move ! (0 ∷ 11 ∷ 7 ∷ []) $ use3 W (later (‵ (mem Bytes′ .lies (zs .1 .0) l₄ 0))) (back-mut 𝓤 H A W u8 256 tt (named 1) (ν ∷ []) l₄ δ (zs .1 .0)) $ await ! tt $ move ! (1 ∷ []) $ lft-end ! tt $
         move ! (0 ∷ 9 ∷ 5 ∷ []) $ use3 W (later (‵ (mem Events′ .lies (zs .1 .1 .0) l₅ 0))) (back-mut 𝓤 H A W E 128 tt (named 2) (ν′ ∷ []) l₅ δ′ (zs .1 .1 .0)) $ await ! tt $
@@ -291,16 +299,30 @@ module _ {M : Type 1} (𝓤 : URA M) (H : Heap 𝓤) (A : Atoms 𝓤) (W : Given
         assigns ! (agg ! (and-then ! (load ! (from ! (stop !)) (look ! 20 refl)) (and-then ! (load ! (from ! (fld ! refl (stop !))) (look-in ! 52 (sub ! 1 refl (whole !)))) (no-more !)))) (from ! (stop !)) (init ! 18 refl (tt, (tt, (record { fits = up-room .0 }, tt)))) $
         -- the arrays are lent by `&` to `run_records`, for lifetimes of the call; the lists of bounds are given up for good
         lft-new ! tt (λ μ. lft-new ! tt (λ μ′. move ! (5 ∷ []) $
-        use1 W (later (some (λ (ε : GName). ‵ (ShrSlice (named 0) (μ ∷ []) u8 .own (x l₄ ε (zs .1 .0)) (sliceVal (l₄, 0) 256 ∷ [])) ⊛ ‵ (flent (μ ∷ []) (Kept 𝓤 H A W u8 256 tt (named 0) (μ ∷ []) l₄ (zs .1 .0)))))) (lends-imm 𝓤 H A W u8 256 tt (named 0) (μ ∷ []) l₄ (zs .1 .0) links-room) $ await ! tt $ pick ! (λ ε. split ! $
+        use1 W (later (some (λ (ε : GName). ‵ (ShrSlice (named 0) (μ ∷ []) u8 .own (x l₄ ε (zs .1 .0)) (sliceVal (l₄, 0) 256 ∷ []))
+        ⊛ ‵ (flent (μ ∷ []) (Kept 𝓤 H A W u8 256 tt (named 0) (μ ∷ []) l₄ (zs .1 .0)))))) (lends-imm 𝓤 H A W u8 256 tt (named 0) (μ ∷ []) l₄ (zs .1 .0) links-room) $ await ! tt $
+        pick ! (λ ε. split ! $
         move ! (6 ∷ []) $
-        use1 W (later (some (λ (ε′ : GName). ‵ (ShrSlice (named 1) (μ′ ∷ []) E .own (y l₅ ε′ (zs .1 .1 .0)) (sliceVal (l₅, 0) 128 ∷ [])) ⊛ ‵ (flent (μ′ ∷ []) (Kept 𝓤 H A W E 128 tt (named 1) (μ′ ∷ []) l₅ (zs .1 .1 .0)))))) (lends-imm 𝓤 H A W E 128 tt (named 1) (μ′ ∷ []) l₅ (zs .1 .1 .0) events-room) $ await ! tt $ pick ! (λ ε′. split ! $
-        nothing ! $ move ! (20 ∷ 0 ∷ []) $ join ! $ move ! (21 ∷ 0 ∷ []) $ join ! $ move ! (5 ∷ 0 ∷ []) $ join ! $ move ! (5 ∷ 0 ∷ []) $ join ! $ nothing ! $ move ! (16 ∷ 0 ∷ []) $ fjoin ! $ move ! (17 ∷ 0 ∷ []) $ fjoin ! $ move ! (2 ∷ 0 ∷ []) $ fjoin ! $ move ! (3 ∷ 0 ∷ []) $ fjoin ! $ move ! (4 ∷ 0 ∷ []) $ fjoin ! $ move ! (1 ∷ 0 ∷ []) $
+        use1 W (later (some (λ (ε′ : GName). ‵ (ShrSlice (named 1) (μ′ ∷ []) E .own (y l₅ ε′ (zs .1 .1 .0)) (sliceVal (l₅, 0) 128 ∷ []))
+        ⊛ ‵ (flent (μ′ ∷ []) (Kept 𝓤 H A W E 128 tt (named 1) (μ′ ∷ []) l₅ (zs .1 .1 .0)))))) (lends-imm 𝓤 H A W E 128 tt (named 1) (μ′ ∷ []) l₅ (zs .1 .1 .0) events-room) $ await ! tt $
+        pick ! (λ ε′. split ! $
+        nothing ! $ move ! (20 ∷ 0 ∷ []) $ join ! $ move ! (21 ∷ 0 ∷ []) $ join ! $ move ! (5 ∷ 0 ∷ []) $ join ! $ move ! (5 ∷ 0 ∷ []) $ join ! $ nothing ! $ move ! (16 ∷ 0 ∷ []) $ fjoin ! $
+        move ! (17 ∷ 0 ∷ []) $ fjoin ! $ move ! (2 ∷ 0 ∷ []) $ fjoin ! $ move ! (3 ∷ 0 ∷ []) $ fjoin ! $ move ! (4 ∷ 0 ∷ []) $ fjoin ! $ move ! (1 ∷ 0 ∷ []) $
         use2 W (raw (RunRecords 𝓤 H A mem″ run .pre (to-run l₄ l₅ μ μ′ ε ε′ h w (zs .1 .0) (zs .1 .1 .0)))) (asked-run l₄ l₅ μ μ′ ε ε′ h w (zs .1 .0) (zs .1 .1 .0)) $
-        calls-at ! fm (RunRecords 𝓤 H A mem″ run) known-run (to-run l₄ l₅ μ μ′ ε ε′ h w (zs .1 .0) (zs .1 .1 .0)) (and-then ! (load ! (from ! (stop !)) (look ! 42 refl)) (and-then ! (load ! (from ! (stop !)) (look ! 26 refl)) (and-then ! (load ! (from ! (stop !)) (look ! 22 refl)) (and-then ! (load ! (from ! (stop !)) (look ! 18 refl)) (and-then ! (load ! (from ! (stop !)) (look ! 14 refl)) (no-more !)))))) (λ w′.
-        use1 W (later (some (λ (d : Ran). ((‵ (flft (μ ∷ []) fullShare) ⊛ (‵ (flft (μ′ ∷ []) fullShare) ⊛ (‵ (flft κ₁ q₁) ⊛ (‵ (flft κ₂ q₂) ⊛ ‵ ftrue)))) ⊛ ‵ (O.the-row .own d (w′ ∷ []))) ⊛ raw (ensured 𝓤 H A runs.ended (runs.clauses 𝓤 H A mem″ run) (μ ∷ [], (μ′ ∷ [], (κ₁, (κ₂, tt)))) ((to-run l₄ l₅ μ μ′ ε ε′ h w (zs .1 .0) (zs .1 .1 .0)) .0 .3) tt d)))) (id⊢ 𝓤 _) $ await ! tt $ pick ! (λ d.
-        split ! $ move ! (1 ∷ []) $ use1 W (some (λ (vs : Unit {0} × (Unit {0} × (Unit {0} × (List ℕ × (List ℕ × Unit {0}))))). ‵ (lasts runs.ended (μ ∷ [], (μ′ ∷ [], (κ₁, (κ₂, tt)))) ((to-run l₄ l₅ μ μ′ ε ε′ h w (zs .1 .0) (zs .1 .1 .0)) .0 .3) vs) ⊛ (raw (fact 𝓤 (d ≡ ran h (zs .1 .0) (zs .1 .1 .0))) ⊛ (raw (fact 𝓤 ((vs .1 .1 .1 .0) ≡ lower-left h (zs .1 .0) (zs .1 .1 .0))) ⊛ (raw (fact 𝓤 ((vs .1 .1 .1 .1 .0) ≡ upper-left h (zs .1 .0) (zs .1 .1 .0))) ⊛ raw (fact 𝓤 (enclosed h (zs .1 .0) (zs .1 .1 .0) d (vs .1 .1 .1 .0) (vs .1 .1 .1 .1 .0)))))))) (id⊢ 𝓤 _) $ pick ! (λ vs. split ! $ move ! (1 ∷ []) $
-        split ! $ heard ! (d ≡ ran h (zs .1 .0) (zs .1 .1 .0)) (λ e₅. split ! $ heard ! ((vs .1 .1 .1 .0) ≡ lower-left h (zs .1 .0) (zs .1 .1 .0)) (λ e₆. split ! $ heard ! ((vs .1 .1 .1 .1 .0) ≡ upper-left h (zs .1 .0) (zs .1 .1 .0)) (λ e₇. heard ! (enclosed h (zs .1 .0) (zs .1 .1 .0) d (vs .1 .1 .1 .0) (vs .1 .1 .1 .1 .0)) (λ e₈.
-        fsplit ! $ move ! (1 ∷ []) $ fsplit ! $ move ! (1 ∷ []) $ fsplit ! $ move ! (1 ∷ []) $ fsplit ! $ fsplit ! $ move ! (2 ∷ []) $ fsplit ! $ fsplit ! $ move ! (4 ∷ []) $ feqL ! (λ len₃. move ! (1 ∷ []) $ feqL ! (λ len₄. move ! (6 ∷ []) $ split ! $ move ! (1 ∷ []) $ peeks ! O.the-row (Is O.the-row) (shows 𝓤 H A O.the-row) d (w′ ∷ []) (λ is₃.
+        calls-at ! fm (RunRecords 𝓤 H A mem″ run) known-run (to-run l₄ l₅ μ μ′ ε ε′ h w (zs .1 .0) (zs .1 .1 .0)) (and-then ! (load ! (from ! (stop !)) (look ! 42 refl))
+        (and-then ! (load ! (from ! (stop !)) (look ! 26 refl)) (and-then ! (load ! (from ! (stop !)) (look ! 22 refl)) (and-then ! (load ! (from ! (stop !)) (look ! 18 refl))
+        (and-then ! (load ! (from ! (stop !)) (look ! 14 refl)) (no-more !)))))) (λ w′.
+        use1 W (later (some (λ (d : Ran). ((‵ (flft (μ ∷ []) fullShare) ⊛ (‵ (flft (μ′ ∷ []) fullShare) ⊛ (‵ (flft κ₁ q₁) ⊛ (‵ (flft κ₂ q₂) ⊛ ‵ ftrue)))) ⊛ ‵ (O.the-row .own d (w′ ∷ [])))
+        ⊛ raw (ensured 𝓤 H A runs.ended (runs.clauses 𝓤 H A mem″ run) (μ ∷ [], (μ′ ∷ [], (κ₁, (κ₂, tt)))) ((to-run l₄ l₅ μ μ′ ε ε′ h w (zs .1 .0) (zs .1 .1 .0)) .0 .3) tt d)))) (id⊢ 𝓤 _) $
+        await ! tt $ pick ! (λ d.
+        split ! $ move ! (1 ∷ []) $ use1 W (some (λ (vs : Unit {0} × (Unit {0} × (Unit {0} × (List ℕ × (List ℕ × Unit {0}))))).
+        ‵ (lasts runs.ended (μ ∷ [], (μ′ ∷ [], (κ₁, (κ₂, tt)))) ((to-run l₄ l₅ μ μ′ ε ε′ h w (zs .1 .0) (zs .1 .1 .0)) .0 .3) vs) ⊛ (raw (fact 𝓤 (d ≡ ran h (zs .1 .0) (zs .1 .1 .0)))
+        ⊛ (raw (fact 𝓤 ((vs .1 .1 .1 .0) ≡ lower-left h (zs .1 .0) (zs .1 .1 .0) d)) ⊛ (raw (fact 𝓤 ((vs .1 .1 .1 .1 .0) ≡ upper-left h (zs .1 .0) (zs .1 .1 .0) d))
+        ⊛ raw (fact 𝓤 (enclosed h (zs .1 .0) (zs .1 .1 .0) d (vs .1 .1 .1 .0) (vs .1 .1 .1 .1 .0)))))))) (id⊢ 𝓤 _) $ pick ! (λ vs. split ! $ move ! (1 ∷ []) $
+        split ! $ heard ! (d ≡ ran h (zs .1 .0) (zs .1 .1 .0)) (λ e₅. split ! $ heard ! ((vs .1 .1 .1 .0) ≡ lower-left h (zs .1 .0) (zs .1 .1 .0) d) (λ e₆. split ! $
+        heard ! ((vs .1 .1 .1 .1 .0) ≡ upper-left h (zs .1 .0) (zs .1 .1 .0) d) (λ e₇. heard ! (enclosed h (zs .1 .0) (zs .1 .1 .0) d (vs .1 .1 .1 .0) (vs .1 .1 .1 .1 .0)) (λ e₈.
+        fsplit ! $ move ! (1 ∷ []) $ fsplit ! $ move ! (1 ∷ []) $ fsplit ! $ move ! (1 ∷ []) $ fsplit ! $ fsplit ! $ move ! (2 ∷ []) $ fsplit ! $ fsplit ! $ move ! (4 ∷ []) $
+        feqL ! (λ len₃. move ! (1 ∷ []) $ feqL ! (λ len₄. move ! (6 ∷ []) $ split ! $ move ! (1 ∷ []) $ peeks ! O.the-row (Is O.the-row) (shows 𝓤 H A O.the-row) d (w′ ∷ []) (λ is₃.
         land ! (from ! (stop !)) (init ! 47 refl (EL.lawful O.the-type O′.the-laws 𝓤 H A W tt .typed d _ is₃ .0)) $ move ! (1 ∷ []) $ split ! $ move ! (1 ∷ []) $ split ! $ move ! (1 ∷ []) $ split ! $ move ! (1 ∷ []) $ split ! $
         move ! (4 ∷ []) $ lft-end ! tt $ move ! (0 ∷ 13 ∷ []) $ use2 W (later (‵ (froom (tyArray (tyInt w8) 256) l₄ 0))) (back-imm 𝓤 H A W u8 256 tt (named 0) (μ ∷ []) l₄ (uint-vals w8) (uint-tells w8) (zs .1 .0)) $ await ! tt $
         move ! (4 ∷ []) $ lft-end ! tt $ move ! (0 ∷ 12 ∷ []) $ use2 W (later (‵ (froom (tyArray event 128) l₅ 0))) (back-imm 𝓤 H A W E 128 tt (named 1) (μ′ ∷ []) l₅ event-vals event-tells (zs .1 .1 .0)) $ await ! tt $
@@ -310,9 +332,16 @@ module _ {M : Type 1} (𝓤 : URA M) (H : Heap 𝓤) (A : Atoms 𝓤) (W : Given
         use1 W (later (some (λ (t : Ran). (‵ ftrue ⊛ ‵ (O.the-row .own t (w″ ∷ []))) ⊛ raw (ensured 𝓤 H A answer-of.ended (answer-of.clauses 𝓤 H A mem″ run) tt (r, (d, tt)) tt t)))) (id⊢ 𝓤 _) $ await ! tt $ pick ! (λ t.
         split ! $ move ! (1 ∷ []) $ use1 W (raw (fact 𝓤 (t ≡ fileAnswer r d))) (answer-said r d t) $ heard ! (t ≡ fileAnswer r d) (λ e₉. split ! $ move ! (1 ∷ []) $
         peeks ! O.the-row (Is O.the-row) (shows 𝓤 H A O.the-row) t (w″ ∷ []) (λ is₄. land ! (from ! (stop !)) (init ! 64 refl (EL.lawful O.the-type O′.the-laws 𝓤 H A W tt .typed t _ is₄ .0)) $
-        returns ! (look ! 64 refl) $ forget ! 64 refl $ forget ! 62 refl $ forget ! 60 refl $ forget ! 58 refl $ forget ! 54 refl $ forget ! 52 refl $ forget ! 50 refl $ forget ! 48 refl $ forget ! 46 refl $ forget ! 44 refl $ forget ! 42 refl $ forget ! 40 refl $ forget ! 38 refl $ forget ! 36 refl $ forget ! 34 refl $ forget ! 32 refl $ forget ! 30 refl $ forget ! 28 refl $ forget ! 26 refl $ forget ! 24 refl $
-        move ! (64 ∷ 65 ∷ []) $ free1 ! $ move ! (62 ∷ 63 ∷ []) $ free1 ! $ move ! (60 ∷ 61 ∷ []) $ free1 ! $ move ! (58 ∷ 59 ∷ []) $ free1 ! $ move ! (3 ∷ 57 ∷ []) $ free1 ! $ move ! (2 ∷ 55 ∷ []) $ free1 ! $ move ! (52 ∷ 53 ∷ []) $ free1 ! $ move ! (50 ∷ 51 ∷ []) $ free1 ! $ move ! (48 ∷ 49 ∷ []) $ free1 ! $ move ! (46 ∷ 47 ∷ []) $ free1 ! $ move ! (44 ∷ 45 ∷ []) $ free1 ! $ move ! (42 ∷ 43 ∷ []) $ free1 ! $ move ! (40 ∷ 41 ∷ []) $ free1 ! $ move ! (38 ∷ 39 ∷ []) $ free1 ! $ move ! (36 ∷ 37 ∷ []) $ free1 ! $ move ! (34 ∷ 35 ∷ []) $ free1 ! $ move ! (32 ∷ 33 ∷ []) $ free1 ! $ move ! (30 ∷ 31 ∷ []) $ free1 ! $ move ! (28 ∷ 29 ∷ []) $ free1 ! $ move ! (26 ∷ 27 ∷ []) $ free1 ! $ move ! (24 ∷ 25 ∷ []) $ free1 ! $ move ! (22 ∷ 23 ∷ []) $ free1 ! $ free0 ! $
-        keep ! (13 ∷ 4 ∷ 2 ∷ 16 ∷ 7 ∷ 5 ∷ 0 ∷ []) $ by ! (exits t w″ (vs .1 .1 .1 .0) (vs .1 .1 .1 .1 .0) len₃ len₄ (ran-plan (s .now) bytes r h (zs .1 .0) (zs .1 .1 .0) lo up (vs .1 .1 .1 .0) (vs .1 .1 .1 .1 .0) d t e₁ e₂ e₃ e₄ (e₅, (e₆, (e₇, e₈))) e₉)))))))))))))))))))))))))))))))))))))))))))))))))))))))))))))))
+        returns ! (look ! 64 refl) $ forget ! 64 refl $ forget ! 62 refl $ forget ! 60 refl $ forget ! 58 refl $ forget ! 54 refl $ forget ! 52 refl $ forget ! 50 refl $ forget ! 48 refl $
+        forget ! 46 refl $ forget ! 44 refl $ forget ! 42 refl $ forget ! 40 refl $ forget ! 38 refl $ forget ! 36 refl $ forget ! 34 refl $ forget ! 32 refl $ forget ! 30 refl $ forget ! 28 refl $
+        forget ! 26 refl $ forget ! 24 refl $
+        move ! (64 ∷ 65 ∷ []) $ free1 ! $ move ! (62 ∷ 63 ∷ []) $ free1 ! $ move ! (60 ∷ 61 ∷ []) $ free1 ! $ move ! (58 ∷ 59 ∷ []) $ free1 ! $ move ! (3 ∷ 57 ∷ []) $ free1 ! $ move ! (2 ∷ 55 ∷ []) $
+        free1 ! $ move ! (52 ∷ 53 ∷ []) $ free1 ! $ move ! (50 ∷ 51 ∷ []) $ free1 ! $ move ! (48 ∷ 49 ∷ []) $ free1 ! $ move ! (46 ∷ 47 ∷ []) $ free1 ! $ move ! (44 ∷ 45 ∷ []) $ free1 ! $
+        move ! (42 ∷ 43 ∷ []) $ free1 ! $ move ! (40 ∷ 41 ∷ []) $ free1 ! $ move ! (38 ∷ 39 ∷ []) $ free1 ! $ move ! (36 ∷ 37 ∷ []) $ free1 ! $ move ! (34 ∷ 35 ∷ []) $ free1 ! $
+        move ! (32 ∷ 33 ∷ []) $ free1 ! $ move ! (30 ∷ 31 ∷ []) $ free1 ! $ move ! (28 ∷ 29 ∷ []) $ free1 ! $ move ! (26 ∷ 27 ∷ []) $ free1 ! $ move ! (24 ∷ 25 ∷ []) $ free1 ! $
+        move ! (22 ∷ 23 ∷ []) $ free1 ! $ free0 ! $
+        keep ! (13 ∷ 4 ∷ 2 ∷ 16 ∷ 7 ∷ 5 ∷ 0 ∷ []) $
+        by ! (exits t w″ (vs .1 .1 .1 .0) (vs .1 .1 .1 .1 .0) len₃ len₄ (ran-plan (s .now) bytes r h (zs .1 .0) (zs .1 .1 .0) lo up (vs .1 .1 .1 .0) (vs .1 .1 .1 .1 .0) d t e₁ e₂ e₃ e₄ (e₅, (e₆, (e₇, e₈))) e₉)))))))))))))))))))))))))))))))))))))))))))))))))))))))))))))))
 
 module _ {M : Type 1} (𝓤 : URA M) (H : Heap 𝓤) (A : Atoms 𝓤) (W : Given 𝓤 H A) (mem : Memory → SProp 𝓤) (run : Routine → Fun 𝓤) (𝓣 : Tables 𝓤 H) (known-read : Triple 𝓤 (𝓣 .C #read-records) (Reads 𝓤 H A mem run))
     (known-header : Triple 𝓤 (𝓣 .C #head) (HeaderIn 𝓤 H A mem run)) (known-run : Triple 𝓤 (𝓣 .C #run-records) (RunRecords 𝓤 H A mem run)) (known-answer : Triple 𝓤 (𝓣 .C #answer-of) (AnswerOf 𝓤 H A mem run)) where

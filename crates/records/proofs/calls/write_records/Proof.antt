@@ -1,8 +1,9 @@
--- `records::calls::write_records` meets its contract: a walk of its MIR, by hand. An array of words of its own is lent to `flatten`, which lays the records' words down,
+-- `records::calls::write_records` meets its contract: a walk of its MIR, by hand. An array of words of its own is lent to `flatten`, which lays the records'
+-- words down,
 -- and then to `write_words`, which writes the plan; the output is given up for good to that call.
 -- Assumes nothing.
 use mathlib.Core.Path.{_≡_, refl, ap, subst, _∙_}
-use Prim.Native.Nat.{ℕ, _*_, _/_, min}
+use Prim.Native.Nat.{ℕ, _*_, min}
 use mathlib.Core.List.{List, [], _∷_}
 use lib.ListN.{length, take}
 use lib.Seq.{sets}
@@ -48,8 +49,8 @@ use denote.Triple.Walked.{Stays, stay-none, stay-none-slice, gave-slice, walkOf,
 use denote.Triple.Walked.{goes-gave-slice, walk-meets}
 use denote.Exit.{yes}
 use Rattle.plan.specs.Layout.{layout}
-use Rattle.plan.specs.LentLists.{planOfLists}
-use Rattle.plan.specs.Calls.{filled, writeRefusal, writeAnswer}
+use Rattle.plan.specs.LentLists.{Lent, planLent, inWords}
+use Rattle.plan.specs.Calls.{filled, writeNumber, writeAnswer, writtenNumber}
 use Rattle.plan.specs.declared.Header.{Header}
 use Rattle.plan.specs.declared.Writing.{Writing}
 use Rattle.plan.proofs.Header as T
@@ -57,7 +58,7 @@ use Rattle.plan.proofs.Header.Laws as T′
 use Rattle.plan.proofs.Writing as R
 use Rattle.plan.proofs.Writing.Laws as R′
 use Rattle.writer.proofs.WriterAnswer.{Outcome}
-use Rattle.records.specs.Events.{wordsOf}
+use Rattle.records.specs.Events.{wordsOf, inRecords}
 use Rattle.records.specs.declared.Event.{Event}
 use Rattle.records.proofs.EventRow.{E, words-ty, Words}
 use Rattle.records.proofs.Lending.{zeros, zeros-val, zeros-own, words-lawful, array-lies, words-gone, says2}
@@ -129,21 +130,17 @@ module _ {M : Type 1} (𝓤 : URA M) (H : Heap 𝓤) (A : Atoms 𝓤) (W : Given
   abbrev taken : List ℕ → List ℕ
   taken ws = take (4 * min (length es) 128) ws
 
-  abbrev number : ℕ → List ℕ → ℕ
-  number room ws = writeRefusal h (length (k .now)) room (k .now) ws (length us)
+  abbrev answered : Lent → Writing
+  answered l = writeAnswer (writeNumber l (length us)) (length (layout (planLent l)))
 
-  abbrev answered : ℕ → List ℕ → Writing
-  answered room ws = writeAnswer (number room ws) (length (layout (planOfLists h (k .now) ws)))
+  abbrev out-left : Lent → Writing → List ℕ
+  out-left l r = filled (writtenNumber r) (layout (planLent l)) us
 
-  abbrev out-left : ℕ → List ℕ → List ℕ
-  out-left room ws = filled (number room ws) (layout (planOfLists h (k .now) ws)) us
-
-  concluded : (ws : List ℕ) (r : Writing) (left : List ℕ) → ws ≡ flattened
-      → Outcome h (length (k .now)) (length (taken ws) / 4) (k .now) (taken ws) us left r
-      → (r ≡ answered (length es) (wordsOf es)) × (left ≡ out-left (length es) (wordsOf es))
+  concluded : (ws : List ℕ) (r : Writing) (left : List ℕ) → ws ≡ flattened → Outcome (inWords h (k .now) (taken ws)) us left r
+      → Outcome (inRecords h (k .now) es) us left r
   concluded ws r left e said =
       written-list h (k .now) us left es r
-      (subst (λ (l : List ℕ). Outcome h (length (k .now)) (length l / 4) (k .now) l us left r) (ap taken e ∙ used-words es zeros refl) said)
+      (subst (λ (l : List ℕ). Outcome (inWords h (k .now) l) us left r) (ap taken e ∙ used-words es zeros refl) said)
 
   -- the call of `flatten`
   abbrev to-flatten : ℕ → ℕ → GName → Flatten 𝓤 H A mem″ run .Ghost
@@ -171,7 +168,7 @@ module _ {M : Type 1} (𝓤 : URA M) (H : Heap 𝓤) (A : Atoms 𝓤) (W : Given
       qed W ((‵ (flft κ₀ q₀) ⊛ (‵ (flft (ν ∷ []) fullShare) ⊛ (‵ (flft κ₂ q₂) ⊛ ‵ ftrue)))
       ∷ ‵ (owns (T.the-row ∷ ShrSlice (named 0) κ₀ u8 ∷ usize ∷ ShrRef (named 1) (ν ∷ []) Words ∷ MutSlice (named 2) κ₂ u8 ∷ []) (to-write l ν δ ws .0 .3) (to-write l ν δ ws .0 .4)) ∷ []) ∵ join ! $ frame ! $ done !
 
-  exits : (r : Writing) (u : Val) (left : List ℕ) → length left ≡ length us → (r ≡ answered (length es) (wordsOf es)) × (left ≡ out-left (length es) (wordsOf es))
+  exits : (r : Writing) (u : Val) (left : List ℕ) → length left ≡ length us → Outcome (inRecords h (k .now) es) us left r
       → ent 𝓤 (⋆ 𝓤 H A (‵ (flft κ₀ q₀) ∷ ‵ (flft κ₁ q₁) ∷ ‵ (flft κ₂ q₂) ∷ ‵ OwnH ∷ ‵ OwnK ∷ ‵ OwnV ∷ ‵ (finally u8 γ₂ left) ∷ ‵ (R.the-row .own r (u ∷ [])) ∷ [])) (Post u)
   exits r u left len said =
       qed W (‵ (flft κ₀ q₀) ∷ ‵ (flft κ₁ q₁) ∷ ‵ (flft κ₂ q₂) ∷ ‵ OwnH ∷ ‵ OwnK ∷ ‵ OwnV ∷ ‵ (finally u8 γ₂ left) ∷ ‵ (R.the-row .own r (u ∷ [])) ∷ []) ∵
@@ -187,7 +184,8 @@ module _ {M : Type 1} (𝓤 : URA M) (H : Heap 𝓤) (A : Atoms 𝓤) (W : Given
         qed W ((‵ (flft κ₀ q₀) ⊛ (‵ (flft κ₁ q₁) ⊛ (‵ (flft κ₂ q₂) ⊛ ‵ ftrue))) ∷ ‵ (owns (T.the-row ∷ ShrSlice (named 0) κ₀ u8 ∷ ShrSlice (named 1) κ₁ E ∷ MutSlice (named 2) κ₂ u8 ∷ []) a at) ∷ []) ∵
         enter ! C Λ code.function (T′.lowered h ∷ sliceVal (k .ptr) (length (k .now)) ∷ sliceVal (b₁, o₁) (length es) ∷ sliceVal (b₂, o₂) (length us) ∷ []) _ $
         alloc1 ! (λ l₀. alloc1 ! (λ l₁. alloc1 ! (λ l₂. alloc1 ! (λ l₃. alloc1 ! (λ l₄. alloc1 ! (λ l₅. alloc1 ! (λ l₆. alloc1 ! (λ l₇. alloc1 ! (λ l₈. alloc1 ! (λ l₉. alloc1 ! (λ l₁₀. alloc1 ! (λ l₁₁. alloc0 ! $ params1 ! $
-        pass1 ! (init ! 20 refl (LL.lawful T.the-type T′.the-laws 𝓤 H A W .typed h _ h-is .0)) $ pass1 ! (init ! 18 refl (tt, (tt, (record { fits = k-room .0 }, tt)))) $ pass1 ! (init ! 16 refl (tt, (tt, (record { fits = v-room .0 }, tt)))) $ pass1 ! (init ! 14 refl (tt, (tt, (record { fits = w-room .0 }, tt)))) $ pass0 ! $
+        pass1 ! (init ! 20 refl (LL.lawful T.the-type T′.the-laws 𝓤 H A W .typed h _ h-is .0)) $ pass1 ! (init ! 18 refl (tt, (tt, (record { fits = k-room .0 }, tt)))) $
+        pass1 ! (init ! 16 refl (tt, (tt, (record { fits = v-room .0 }, tt)))) $ pass1 ! (init ! 14 refl (tt, (tt, (record { fits = w-room .0 }, tt)))) $ pass0 ! $
         move ! (24 ∷ []) $ split ! $ move ! (1 ∷ []) $ split ! $ move ! (1 ∷ []) $ split ! $ move ! (28 ∷ []) $ fsplit ! $ move ! (1 ∷ []) $ fsplit ! $ move ! (1 ∷ []) $ fsplit ! $ move ! (1 ∷ []) $ fsplit ! $
         -- the array of words
         use0 W (‵ (Words .own zeros (zeros-val ∷ []))) (zeros-own 𝓤 H A W) $ peeks ! Words (Is Words) (shows 𝓤 H A Words) zeros (zeros-val ∷ []) (λ is₀.
@@ -210,15 +208,21 @@ module _ {M : Type 1} (𝓤 : URA M) (H : Heap 𝓤) (A : Atoms 𝓤) (W : Given
         assigns ! (agg ! (and-then ! (load ! (from ! (stop !)) (look ! 16 refl)) (and-then ! (load ! (from ! (fld ! refl (stop !))) (look-in ! 27 (sub ! 1 refl (whole !)))) (no-more !)))) (from ! (stop !)) (init ! 14 refl (tt, (tt, (record { fits = w-room .0 }, tt)))) $
         -- the words are lent by `&` to `write_words`, for a lifetime ν′ of the call; the output is given up for good
         lft-new ! tt (λ ν′. move ! (1 ∷ []) $
-        use1 W (later (some (λ (δ′ : GName). ‵ (ShrRef (named 1) (ν′ ∷ []) Words .own (x l₅ δ′ (zs .1 .0)) (vptr l₅ 0 ∷ [])) ⊛ ‵ (flent (ν′ ∷ []) (partAt Words fullShare (zs .1 .0) l₅ 0))))) (lends-shr 𝓤 H A W Words (named 1) (ν′ ∷ []) fullShare (zs .1 .0) l₅ 0) $ await ! tt $ pick ! (λ δ′. split ! $
+        use1 W (later (some (λ (δ′ : GName). ‵ (ShrRef (named 1) (ν′ ∷ []) Words .own (x l₅ δ′ (zs .1 .0)) (vptr l₅ 0 ∷ [])) ⊛ ‵ (flent (ν′ ∷ []) (partAt Words fullShare (zs .1 .0) l₅ 0)))))
+        (lends-shr 𝓤 H A W Words (named 1) (ν′ ∷ []) fullShare (zs .1 .0) l₅ 0) $ await ! tt $ pick ! (λ δ′. split ! $
         move ! (11 ∷ []) $ use1 W (‵ OwnK ⊛ ‵ OwnK) (shr-slice-copy 𝓤 H A W (named 0) κ₀ u8 .twice k (at .1 .0)) $ split ! $ nothing ! $ move ! (15 ∷ 0 ∷ []) $ join ! $ move ! (5 ∷ 0 ∷ []) $ join ! $
         move ! (15 ∷ 0 ∷ []) $ join ! $ nothing ! $ move ! (12 ∷ 0 ∷ []) $ fjoin ! $ move ! (4 ∷ 0 ∷ []) $ fjoin ! $ owned ! usize (Is usize) (uint-makes 𝓤 H A W w64) (length es) _ (refl, v-room .0) $ fjoin ! $
         move ! (2 ∷ 0 ∷ []) $ fjoin ! $ owned ! T.the-row (Is T.the-row) header-makes h _ h-is $ fjoin ! $ move ! (1 ∷ 0 ∷ []) $
         use2 W (raw (WriteWords 𝓤 H A mem″ run .pre (to-write l₅ ν′ δ′ (zs .1 .0)))) (asked-write l₅ ν′ δ′ (zs .1 .0)) $
-        calls-at ! fm (WriteWords 𝓤 H A mem″ run) known-write (to-write l₅ ν′ δ′ (zs .1 .0)) (and-then ! (load ! (from ! (stop !)) (look ! 31 refl)) (and-then ! (load ! (from ! (stop !)) (look ! 29 refl)) (and-then ! (load ! (from ! (stop !)) (look ! 18 refl)) (and-then ! (load ! (from ! (stop !)) (look ! 16 refl)) (and-then ! (load ! (from ! (stop !)) (look ! 12 refl)) (no-more !)))))) (λ u.
-        use1 W (later (some (λ (r : Writing). ((‵ (flft κ₀ q₀) ⊛ (‵ (flft (ν′ ∷ []) fullShare) ⊛ (‵ (flft κ₂ q₂) ⊛ ‵ ftrue))) ⊛ ‵ (R.the-row .own r (u ∷ []))) ⊛ raw (ensured 𝓤 H A write-words.ended (write-words.clauses 𝓤 H A mem″ run) (κ₀, (ν′ ∷ [], (κ₂, tt))) ((to-write l₅ ν′ δ′ (zs .1 .0)) .0 .3) tt r)))) (id⊢ 𝓤 _) $ await ! tt $ pick ! (λ r.
-        split ! $ move ! (1 ∷ []) $ use1 W (some (λ (vs : Unit {0} × (Unit {0} × (Unit {0} × (Unit {0} × (List ℕ × Unit {0}))))). ‵ (lasts write-words.ended (κ₀, (ν′ ∷ [], (κ₂, tt))) ((to-write l₅ ν′ δ′ (zs .1 .0)) .0 .3) vs) ⊛ (raw (fact 𝓤 (r ≡ answered (length (taken (zs .1 .0)) / 4) (taken (zs .1 .0)))) ⊛ raw (fact 𝓤 (vs .1 .1 .1 .1 .0 ≡ out-left (length (taken (zs .1 .0)) / 4) (taken (zs .1 .0))))))) (id⊢ 𝓤 _) $ pick ! (λ vs. split ! $ move ! (1 ∷ []) $
-        split ! $ heard ! (r ≡ answered (length (taken (zs .1 .0)) / 4) (taken (zs .1 .0))) (λ e₂. heard ! (vs .1 .1 .1 .1 .0 ≡ out-left (length (taken (zs .1 .0)) / 4) (taken (zs .1 .0))) (λ e₃. fsplit ! $ move ! (1 ∷ []) $ fsplit ! $ move ! (1 ∷ []) $ fsplit ! $ move ! (1 ∷ []) $ fsplit ! $
+        calls-at ! fm (WriteWords 𝓤 H A mem″ run) known-write (to-write l₅ ν′ δ′ (zs .1 .0)) (and-then ! (load ! (from ! (stop !)) (look ! 31 refl))
+        (and-then ! (load ! (from ! (stop !)) (look ! 29 refl)) (and-then ! (load ! (from ! (stop !)) (look ! 18 refl)) (and-then ! (load ! (from ! (stop !)) (look ! 16 refl))
+        (and-then ! (load ! (from ! (stop !)) (look ! 12 refl)) (no-more !)))))) (λ u.
+        use1 W (later (some (λ (r : Writing). ((‵ (flft κ₀ q₀) ⊛ (‵ (flft (ν′ ∷ []) fullShare) ⊛ (‵ (flft κ₂ q₂) ⊛ ‵ ftrue))) ⊛ ‵ (R.the-row .own r (u ∷ [])))
+        ⊛ raw (ensured 𝓤 H A write-words.ended (write-words.clauses 𝓤 H A mem″ run) (κ₀, (ν′ ∷ [], (κ₂, tt))) ((to-write l₅ ν′ δ′ (zs .1 .0)) .0 .3) tt r)))) (id⊢ 𝓤 _) $ await ! tt $ pick ! (λ r.
+        split ! $ move ! (1 ∷ []) $ use1 W (some (λ (vs : Unit {0} × (Unit {0} × (Unit {0} × (Unit {0} × (List ℕ × Unit {0}))))).
+        ‵ (lasts write-words.ended (κ₀, (ν′ ∷ [], (κ₂, tt))) ((to-write l₅ ν′ δ′ (zs .1 .0)) .0 .3) vs) ⊛ (raw (fact 𝓤 (r ≡ answered (inWords h (k .now) (taken (zs .1 .0)))))
+        ⊛ raw (fact 𝓤 (vs .1 .1 .1 .1 .0 ≡ out-left (inWords h (k .now) (taken (zs .1 .0))) r))))) (id⊢ 𝓤 _) $ pick ! (λ vs. split ! $ move ! (1 ∷ []) $
+        split ! $ heard ! (r ≡ answered (inWords h (k .now) (taken (zs .1 .0)))) (λ e₂. heard ! (vs .1 .1 .1 .1 .0 ≡ out-left (inWords h (k .now) (taken (zs .1 .0))) r) (λ e₃. fsplit ! $ move ! (1 ∷ []) $ fsplit ! $ move ! (1 ∷ []) $ fsplit ! $ move ! (1 ∷ []) $ fsplit ! $
         move ! (1 ∷ []) $ fsplit ! $ fsplit ! $ move ! (1 ∷ []) $ feqL ! (λ len. move ! (6 ∷ []) $ split ! $ move ! (1 ∷ []) $ peeks ! R.the-row (Is R.the-row) (shows 𝓤 H A R.the-row) r (u ∷ []) (λ is.
         land ! (from ! (stop !)) (init ! 40 refl (EL.lawful R.the-type R′.the-laws 𝓤 H A W tt .typed r _ is .0)) $ move ! (1 ∷ []) $ split ! $ move ! (1 ∷ []) $ split ! $ move ! (1 ∷ []) $ split ! $ move ! (2 ∷ []) $
         lft-end ! tt $ move ! (0 ∷ 12 ∷ []) $ lent-back ! tt $ use1 W (‵ (froom words-ty l₅ 0)) (words-gone 𝓤 H A W (zs .1 .0) l₅) $ returns ! (look ! 42 refl) $ forget ! 42 refl $ forget ! 40 refl $ forget ! 38 refl $

@@ -1,9 +1,9 @@
 -- `records::calls::write_words` meets its contract: the writer is given the words of the records that stand in the array. Assumes nothing.
 use mathlib.Core.Path.{subst}
 use mathlib.Core.List.{List}
-use Prim.Native.Nat.{ℕ, _/_}
+use Prim.Native.Nat.{ℕ}
 use borrow.Author.Needs.{needs}
-use lib.ListN.{length}
+use Rattle.plan.specs.LentLists.{inWords}
 use Rattle.writer.proofs.WriterAnswer.{Outcome}
 use Rattle.records.proofs.calls.write_words.Statement.{statement}
 use Rattle.records.proofs.calls.write_words.Tie as tie
@@ -12,7 +12,7 @@ returns : tie.Need-returns
 returns c =
     let a = c .before .before .before .before .before .before .before .args in
     let w = c .before .before .write in
-    subst (λ (ws : List ℕ). Outcome (a .h) (length (a .links .now)) (length ws / 4) (a .links .now) ws (a .out .now) (w .last .1 .1 .1 .0) (w .result))
+    subst (λ (ws : List ℕ). Outcome (inWords (a .h) (a .links .now) ws) (a .out .now) (w .last .1 .1 .1 .0) (w .result))
     (c .before .before .before .before .used-words .ensures) (w .ensures)
 
 pub write-words-spec : {M : Type 1} → statement M

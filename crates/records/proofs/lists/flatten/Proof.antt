@@ -215,7 +215,8 @@ module _ {M : Type 1} (𝓤 : URA M) (H : Heap 𝓤) (A : Atoms 𝓤) (W : Given
                 elem-back ! E s es (i .0) no-event (event-vals e) b o (inside less) $ shuts-slice ! tt E s es b o $
                 -- the words are lent again to `put_event`, for a lifetime ν of the call
                 lft-new ! tt (λ ν. move ! (6 ∷ 7 ∷ []) $
-                use2 W (later (some (λ (δ : GName). ‵ (MutRef (named 0) (ν ∷ []) Words .own (x δ (cur (i .0))) (vptr b′ o′ ∷ [])) ⊛ ‵ (LentAgain Words κ′ (ν ∷ []) q′ γ′ b′ o′ δ (cur (i .0)))))) (lends-again 𝓤 H A W Words (named 1) κ′ (ν ∷ []) q′ γ′ b′ o′ (named 0) (cur (i .0))) $ await ! tt $ pick ! (λ δ. split ! $
+                use2 W (later (some (λ (δ : GName). ‵ (MutRef (named 0) (ν ∷ []) Words .own (x δ (cur (i .0))) (vptr b′ o′ ∷ [])) ⊛ ‵ (LentAgain Words κ′ (ν ∷ []) q′ γ′ b′ o′ δ (cur (i .0))))))
+                (lends-again 𝓤 H A W Words (named 1) κ′ (ν ∷ []) q′ γ′ b′ o′ (named 0) (cur (i .0))) $ await ! tt $ pick ! (λ δ. split ! $
                 move ! (2 ∷ 0 ∷ []) $ use2 W (raw (PutEvent 𝓤 H A mem run .pre (to ν δ (i .0) e))) (goes ν δ (i .0) e (small less) p) $
                 calls-at ! fm (PutEvent 𝓤 H A mem run) known (to ν δ (i .0) e) (and-then ! (load ! (from ! (stop !)) (look ! 13 refl)) (and-then ! (load ! (from ! (stop !)) (look ! 7 refl)) (and-then ! (load ! (from ! (stop !)) (look ! 19 refl)) (no-more !)))) (λ w.
                 use1 W (later (some (λ (r : Unit {0}). ((‵ (flft (ν ∷ []) fullShare) ⊛ ‵ ftrue) ⊛ ‵ (unit .own r (w ∷ []))) ⊛ raw (ensured 𝓤 H A put-event.ended (put-event.clauses 𝓤 H A mem run) (ν ∷ [], tt) (x δ (cur (i .0)), (i .0, (e, tt))) tt r)))) (id⊢ 𝓤 _) $ await ! tt $ pick ! (λ r.

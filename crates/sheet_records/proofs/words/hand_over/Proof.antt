@@ -5,28 +5,23 @@ use native.Mathlib.Omega.{arith}
 use borrow.Author.Needs.{needs}
 use lib.ListN.{length, take}
 use lib.Seq.{sets}
+use Rattle.mass.proofs.RefusalLaws.{refuses, gives}
 use Rattle.plan.proofs.FilledLaws.{filled-none, filled-all}
-use Rattle.sheets.proofs.ReadLaws.{reading-stop, reading-go}
+use Rattle.sheets.specs.declared.SheetReading.the-variants as reading
 use Rattle.sheet_records.specs.SheetRecords.{handedNumber}
 use Rattle.sheet_records.proofs.SheetRecordsLaws.{handed-room}
 use Rattle.sheet_records.proofs.words.hand_over.Statement.{statement}
 use Rattle.sheet_records.proofs.words.hand_over.Tie as tie
 
-handed-number-requires : tie.Need-handed-number-requires
-handed-number-requires c κs = tt
-
 returns : tie.Need-returns
 returns c =
     let e = c .before .handed-number .ensures in
-    (reading-stop _ e (c .if1 .taken), filled-none _ _ _ (λ z. c .if1 .taken (e ∙ z)))
+    (refuses reading.Refused _ e (c .if1 .taken), filled-none _ _ _ (λ z. c .if1 .taken (e ∙ z)))
 
 -- the number is 0, so there is room
 none : (c : tie.Else1)
     → handedNumber (c .before .before .before .args .answer) (length (c .before .before .before .args .events .now) / 4) ≡ 0
 none c = sym (c .before .handed-number .ensures) ∙ c .if1 .left
-
-lines-in-requires : tie.Need-lines-in-requires
-lines-in-requires c κs = tt
 
 copy-words-requires : tie.Need-copy-words-requires
 copy-words-requires c κs =
@@ -34,14 +29,11 @@ copy-words-requires c κs =
     let l = handed-room (a .answer) (length (a .events .now) / 4) (none (c .before .before .before)) in
     (search needs, omega (arith, l, c .lines-in .ensures))
 
-counts-in-requires : tie.Need-counts-in-requires
-counts-in-requires c κs = tt
-
 returns-2 : tie.Need-returns-2
 returns-2 c =
     let n = none (c .before .before .before .before .before .before .before) in
     let a = c .before .before .before .before .before .before .before .before .before .before .args in (
-      reading-go _ n (c .counts-in .ensures),
+      ap reading.Accepted (c .counts-in .ensures) ∙ gives reading.Refused _ n,
       c .before .before .before .copy-words .ensures
           ∙ ap (λ (k : ℕ). sets (a .events .now) 0 (take (4 * k) (a .words .now))) (c .before .before .before .before .lines-in .ensures)
           ∙ filled-all _ _ (a .events .now) n,
@@ -51,11 +43,11 @@ pub hand-over-spec : {M : Type 1} → statement M
 hand-over-spec =
     tie.close
     (tie.spec
-    handed-number-requires
+    (λ c κs. tt)  -- handed-number-requires
     returns
-    lines-in-requires
+    (λ c κs. tt)  -- lines-in-requires
     (λ c. search needs)  -- mul-copy-words
     copy-words-requires
-    counts-in-requires
+    (λ c κs. tt)  -- counts-in-requires
     (λ c. search needs)  -- same-length
     returns-2)

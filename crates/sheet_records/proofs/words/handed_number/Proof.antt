@@ -5,18 +5,9 @@ use Rattle.sheet_records.specs.SheetRecords.{handedNumber}
 use Rattle.sheet_records.proofs.words.handed_number.Statement.{statement}
 use Rattle.sheet_records.proofs.words.handed_number.Tie as tie
 
-number-in-requires : tie.Need-number-in-requires
-number-in-requires c κs = tt
-
 returns : tie.Need-returns
 unfolding handedNumber
 returns c = stop _ (c .before .number-in .ensures) (c .if1 .taken)
-
-lines-in-requires : tie.Need-lines-in-requires
-lines-in-requires c κs = tt
-
-room-test-requires : tie.Need-room-test-requires
-room-test-requires c κs = tt
 
 returns-2 : tie.Need-returns-2
 unfolding handedNumber
@@ -28,4 +19,10 @@ returns-2 c =
 
 pub handed-number-spec : {M : Type 1} → statement M
 handed-number-spec =
-    tie.close (tie.spec number-in-requires returns lines-in-requires room-test-requires returns-2)
+    tie.close
+    (tie.spec
+    (λ c κs. tt)  -- number-in-requires
+    returns
+    (λ c κs. tt)  -- lines-in-requires
+    (λ c κs. tt)  -- room-test-requires
+    returns-2)

@@ -20,9 +20,6 @@ abbrev μ-loop : tie.MeasureT-loop
 loop-holds : tie.Need-loop-holds Inv-loop μ-loop
 loop-holds c = refl
 
-line-refusal-requires : tie.Need-line-refusal-requires Inv-loop μ-loop
-line-refusal-requires c κs = tt
-
 returns : tie.Need-returns Inv-loop μ-loop
 returns c =
     let l = c .before .before .before in
@@ -50,12 +47,6 @@ line-size-requires c κs = head-there c
 add-at : tie.Need-add-at Inv-loop μ-loop
 add-at c = omega (arith, there c)
 
-sub-left : tie.Need-sub-left Inv-loop μ-loop
-sub-left c = omega arith
-
-loop-less : tie.Need-loop-less Inv-loop μ-loop
-loop-less c = omega arith
-
 loop-again : tie.Need-loop-again Inv-loop μ-loop
 loop-again c =
     let l = c .before .before .before .before in
@@ -64,12 +55,6 @@ loop-again c =
     ∙ skip _ (c .before .before .line-refusal .ensures) (c .before .if1 .left) (last refl)
     ∙ sym (lines-step (a .nodes) (a .links) (l .loop .left) (l .loop .at) (a .s .now) (c .before .before .before .loop-test .taken))
     ∙ l .loop .inv
-
-left-of-requires : tie.Need-left-of-requires Inv-loop μ-loop
-left-of-requires c κs = tt
-
-left-test-requires : tie.Need-left-test-requires Inv-loop μ-loop
-left-test-requires c κs = tt
 
 returns-2 : tie.Need-returns-2 Inv-loop μ-loop
 returns-2 c =
@@ -84,13 +69,13 @@ lines-refusal-spec =
     Inv-loop
     μ-loop
     loop-holds
-    line-refusal-requires
+    (λ c κs. tt)  -- line-refusal-requires
     returns
     line-size-requires
     add-at
-    sub-left
-    loop-less
+    (λ c. omega arith)  -- sub-left
+    (λ c. omega arith)  -- loop-less
     loop-again
-    left-of-requires
-    left-test-requires
+    (λ c κs. tt)  -- left-of-requires
+    (λ c κs. tt)  -- left-test-requires
     returns-2)

@@ -6,12 +6,6 @@ use Rattle.sheets.proofs.CheckLaws.{capped-again}
 use Rattle.sheets.proofs.file.product.Statement.{statement}
 use Rattle.sheets.proofs.file.product.Tie as tie
 
-capped-requires : tie.Need-capped-requires
-capped-requires c κs = tt
-
-capped-requires-2 : tie.Need-capped-requires-2
-capped-requires-2 c κs = tt
-
 returns : tie.Need-returns
 returns c =
     let a = c .before .before .args in
@@ -20,4 +14,8 @@ returns c =
     ∙ capped-again (a .fit * a .hours) (a .extent)
 
 pub product-spec : {M : Type 1} → statement M
-product-spec = tie.close (tie.spec capped-requires capped-requires-2 returns)
+product-spec = tie.close
+    (tie.spec
+    (λ c κs. tt)  -- capped-requires
+    (λ c κs. tt)  -- capped-requires-2
+    returns)

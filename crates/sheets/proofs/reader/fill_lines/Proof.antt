@@ -72,9 +72,6 @@ members-of-requires c κs =
 line-probability-requires : tie.Need-line-probability-requires Inv-loop μ-loop
 line-probability-requires c κs = head-there (c .before .before .before)
 
-insert-requires : tie.Need-insert-requires Inv-loop μ-loop
-insert-requires c κs = omega arith
-
 line-size-requires : tie.Need-line-size-requires Inv-loop μ-loop
 line-size-requires c κs = head-there (c .before .before .before .before .before)
 
@@ -86,15 +83,6 @@ add-at c =
       c .line-size .ensures,
       line-fits _ _ (l .loop .at) (l .before .before .args .s .now) (accepted (c .before .before .before .before .before .before) .0),
     )
-
-add-done : tie.Need-add-done Inv-loop μ-loop
-add-done c = omega arith
-
-sub-left : tie.Need-sub-left Inv-loop μ-loop
-sub-left c = omega arith
-
-loop-less : tie.Need-loop-less Inv-loop μ-loop
-loop-less c = omega arith
 
 loop-again : tie.Need-loop-again Inv-loop μ-loop
 loop-again c =
@@ -144,11 +132,11 @@ fill-lines-spec =
     byte-at-requires
     members-of-requires
     line-probability-requires
-    insert-requires
+    (λ c κs. omega arith)  -- insert-requires
     line-size-requires
     add-at
-    add-done
-    sub-left
-    loop-less
+    (λ c. omega arith)  -- add-done
+    (λ c. omega arith)  -- sub-left
+    (λ c. omega arith)  -- loop-less
     loop-again
     returns)

@@ -13,12 +13,6 @@ use Rattle.sheets.proofs.ReadLaws.{counts-bounds, read-words}
 use Rattle.sheets.proofs.reader.read.Statement.{statement}
 use Rattle.sheets.proofs.reader.read.Tie as tie
 
-read-core-requires : tie.Need-read-core-requires
-read-core-requires c κs = tt
-
-counts-in-requires : tie.Need-counts-in-requires
-counts-in-requires c κs = tt
-
 -- the array keeps its length, and the counts are those of the answer
 words-long : (c : tie.After-read-core) → 512 ≡ length (c .read-core .last .1 .1 .0)
 words-long c =
@@ -66,8 +60,8 @@ pub read-spec : {M : Type 1} → statement M
 read-spec =
     tie.close
     (tie.spec
-    read-core-requires
-    counts-in-requires
+    (λ c κs. tt)  -- read-core-requires
+    (λ c κs. tt)  -- counts-in-requires
     slice-aggregate-copy-words
     mul-copy-words
     copy-words-requires

@@ -3,6 +3,7 @@ use mathlib.Core.Path.{_≡_, sym, _∙_, ap}
 use mathlib.Core.List.{map}
 use lib.ListN.{drop}
 use lib.Seq.{sets}
+use Rattle.mass.proofs.RefusalLaws.{refuses, gives}
 use Rattle.plan.specs.Lists.{eventWords}
 use Rattle.order.specs.Order.{ordered}
 use Rattle.plan.proofs.FilledLaws.{filled-none, filled-all}
@@ -10,9 +11,10 @@ use Rattle.sheets.specs.Sheet.{eventOfLine, sheetEvents}
 use Rattle.sheets.specs.SheetFile.{sheetRefusal, linesAt, sheetOf}
 use Rattle.sheets.specs.SheetCalls.{countsOf, readSheetRefusal}
 use Rattle.sheets.specs.declared.Counts.{Counts}
+use Rattle.sheets.specs.declared.SheetReading.the-variants as reading
 use Rattle.sheets.proofs.CheckLaws.{sheet-fits, accepted-lines, accepted-counts}
 use Rattle.insertion.specs.Inserted.{probability}
-use Rattle.sheets.proofs.ReadLaws.{reading-stop, reading-go, read-accepted}
+use Rattle.sheets.proofs.ReadLaws.{read-accepted}
 use Rattle.sheets.proofs.reader.read_core.Statement.{statement}
 use Rattle.sheets.proofs.reader.read_core.Tie as tie
 
@@ -28,7 +30,7 @@ accepted c = read-accepted (c .before .before .before .args .room) _ (none c)
 
 returns : tie.Need-returns
 returns c =
-    let e = c .before .read-test .ensures in (reading-stop _ e (c .if1 .taken), filled-none _ _ _ (λ z. c .if1 .taken (e ∙ z)))
+    let e = c .before .read-test .ensures in (refuses reading.Refused _ e (c .if1 .taken), filled-none _ _ _ (λ z. c .if1 .taken (e ∙ z)))
 
 counts-of-requires : tie.Need-counts-of-requires
 counts-of-requires c κs = sheet-fits _ (accepted c)
@@ -44,7 +46,7 @@ returns-2 c =
     let h = c .before .before in
     let n = none (h .before) in
     let a = h .before .before .before .before .args in (
-      reading-go _ n (h .counts-of .ensures),
+      ap reading.Accepted (h .counts-of .ensures) ∙ gives reading.Refused _ n,
       c .fill-lines .ensures
           ∙ ap (λ (x : Counts). sets (a .words .now) 0 (eventWords (ordered probability (map eventOfLine (linesAt (x .lines) (drop 8 (a .s .now))))))) (h .counts-of .ensures)
           ∙ filled-all (readSheetRefusal (a .room) (a .s .now)) _ (a .words .now) n,

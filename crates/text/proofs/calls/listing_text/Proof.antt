@@ -21,15 +21,20 @@ returns c =
 
 copy-bytes-requires : tie.Need-copy-bytes-requires
 copy-bytes-requires c κs =
-    let b = c .before .before .before .before .before .before .before .before .args .plan .now in
-    let put = c .before .before .before .before .put-listing .ensures in
-    (size-kept (replicate {A = ℕ} 92789 0) _ (listing intact b) _ (put .0) (put .1) (array-room b (λ i. omega (arith, c .before .before .before .before .before .before .before .shared-slice-known .given i))), c .before .before .if1 .left)
+    let k = c .before .before .before .before in
+    let b = k .before .before .before .before .args .plan .now in
+    let room = array-room b (λ i. omega (arith, k .before .before .before .shared-slice-known .given i)) in
+    let put = k .put-listing .ensures in
+    (size-kept (replicate {A = ℕ} 92789 0) _ (listing intact b) _ (put .0) (put .1) room, c .before .before .if1 .left)
 
 returns-2 : tie.Need-returns-2
 returns-2 c =
-    let a = c .before .before .before .before .before .before .before .before .before .before .before .args in
-    let put = c .before .before .before .before .before .before .before .put-listing .ensures in
-    text-answer _ _ _ (listing intact (a .plan .now)) (a .out .now) _ (array-room (a .plan .now) (λ i. omega (arith, c .before .before .before .before .before .before .before .before .before .before .shared-slice-known .given i))) (put .0) (put .1) (c .before .before .before .before .before .if1 .left) (c .before .before .copy-bytes .ensures)
+    let k = c .before .before .before .before .before .before .before in
+    let a = k .before .before .before .before .args in
+    let room = array-room (a .plan .now) (λ i. omega (arith, k .before .before .before .shared-slice-known .given i)) in
+    let put = k .put-listing .ensures in
+    text-answer _ _ _ (listing intact (a .plan .now)) (a .out .now) _ room (put .0) (put .1) (c .before .before .before .before .before .if1 .left)
+    (c .before .before .copy-bytes .ensures)
 
 pub listing-text-spec : {M : Type 1} → statement M
 listing-text-spec =

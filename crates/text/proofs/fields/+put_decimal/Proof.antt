@@ -63,7 +63,9 @@ put-decimal-put-decimal-requires : (t : ℕ) → put-decimal-lts.Need-put-decima
   put-decimal-below t,
   put-decimal.Post,
 ) (put-decimal-at t) put-decimal.Post
-put-decimal-put-decimal-requires t c κs = (search needs, omega (arith, c .before .before .before .pre .1, large-long (c .before .before .before .args .x) (c .before .if1 .left)))
+put-decimal-put-decimal-requires t c κs =
+    let e = c .before .before .before in
+    (search needs, omega (arith, e .pre .1, large-long (e .args .x) (c .before .if1 .left)))
 
 put-decimal-add-out-2 : (t : ℕ) → put-decimal-lts.Need-add-out-2 (
   put-decimal-below t,
@@ -81,13 +83,19 @@ put-decimal-slice-write-out-2 : (t : ℕ) → put-decimal-lts.Need-slice-write-o
   put-decimal-below t,
   put-decimal.Post,
 ) (put-decimal-at t) put-decimal.Post
-put-decimal-slice-write-out-2 t c = omega (arith, c .before .before .put-decimal .kept .0, c .before .before .put-decimal .ensures .1, c .before .before .before .before .before .before .pre .1, large-long (c .before .before .before .before .before .before .args .x) (c .before .before .before .before .if1 .left))
+put-decimal-slice-write-out-2 t c =
+    let k = c .before .before in
+    let e = k .before .before .before .before in
+    omega (arith, k .put-decimal .kept .0, k .put-decimal .ensures .1, e .pre .1, large-long (e .args .x) (k .before .before .if1 .left))
 
 put-decimal-add-result-2 : (t : ℕ) → put-decimal-lts.Need-add-result-2 (
   put-decimal-below t,
   put-decimal.Post,
 ) (put-decimal-at t) put-decimal.Post
-put-decimal-add-result-2 t c = omega (arith, c .before .before .put-decimal .kept .0, c .before .before .put-decimal .ensures .1, c .before .before .before .before .before .before .pre .1, large-long (c .before .before .before .before .before .before .args .x) (c .before .before .before .before .if1 .left))
+put-decimal-add-result-2 t c =
+    let k = c .before .before in
+    let e = k .before .before .before .before in
+    omega (arith, k .put-decimal .kept .0, k .put-decimal .ensures .1, e .pre .1, large-long (e .args .x) (k .before .before .if1 .left))
 
 put-decimal-same-length-2 : (t : ℕ) → put-decimal-lts.Need-same-length-2 (
   put-decimal-below t,

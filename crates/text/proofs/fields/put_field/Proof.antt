@@ -9,10 +9,16 @@ put-decimal-requires : tie.Need-put-decimal-requires
 put-decimal-requires c κs = omega (arith, c .before .before .pre, field-long (c .before .before .args .x) (c .before .before .args .end))
 
 slice-write-out : tie.Need-slice-write-out
-slice-write-out c = omega (arith, c .before .before .put-decimal .kept .0, c .before .before .put-decimal .ensures .1, c .before .before .before .before .before .pre, field-long (c .before .before .before .before .before .args .x) (c .before .before .before .before .before .args .end))
+slice-write-out c =
+    let k = c .before .before in
+    let e = k .before .before .before in
+    omega (arith, k .put-decimal .kept .0, k .put-decimal .ensures .1, e .pre, field-long (e .args .x) (e .args .end))
 
 add-result : tie.Need-add-result
-add-result c = omega (arith, c .before .before .put-decimal .kept .0, c .before .before .put-decimal .ensures .1, c .before .before .before .before .before .pre, field-long (c .before .before .before .before .before .args .x) (c .before .before .before .before .before .args .end))
+add-result c =
+    let k = c .before .before in
+    let e = k .before .before .before in
+    omega (arith, k .put-decimal .kept .0, k .put-decimal .ensures .1, e .pre, field-long (e .args .x) (e .args .end))
 
 returns : tie.Need-returns
 returns c = field-laid _ _ _ _ _ _ (c .before .before .put-decimal .ensures)

@@ -5,17 +5,40 @@ use borrow.Author.Needs.{needs}
 use Rattle.text.proofs.rows.put_head.Statement.{statement}
 use Rattle.text.proofs.rows.put_head.Tie as tie
 
+-- the entry, seen from the first field; the first field from the second
+abbrev entry : tie.After-put-field → tie.Start
+entry c = c .before .before .before
+
+abbrev first : tie.After-put-field2 → tie.After-put-field
+first c = c .before .before .before .before
+
 put-field-requires : tie.Need-put-field-requires
-put-field-requires c κs = omega (arith, c .before .before .pre, head-long (c .before .before .args .h .nodes) (c .before .before .args .h .links) (c .before .before .args .h .events) (c .before .before .args .t .count) (c .before .before .args .t .complete) (c .before .before .args .t .mass))
+put-field-requires c κs =
+    let e = c .before .before in
+    let h = e .args .h in
+    let t = e .args .t in
+    omega (arith, e .pre, head-long (h .nodes) (h .links) (h .events) (t .count) (t .complete) (t .mass))
 
 put-field-requires-2 : tie.Need-put-field-requires-2
-put-field-requires-2 c κs = omega (arith, c .before .before .before .before .before .before .pre, head-long (c .before .before .before .before .before .before .args .h .nodes) (c .before .before .before .before .before .before .args .h .links) (c .before .before .before .before .before .before .args .h .events) (c .before .before .before .before .before .before .args .t .count) (c .before .before .before .before .before .before .args .t .complete) (c .before .before .before .before .before .before .args .t .mass), c .before .before .before .put-field .kept .0, c .before .before .before .put-field .ensures .1)
+put-field-requires-2 c κs =
+    let f = c .before .before .before in
+    let h = entry f .args .h in
+    let t = entry f .args .t in
+    omega (arith, entry f .pre, head-long (h .nodes) (h .links) (h .events) (t .count) (t .complete) (t .mass), f .put-field .kept .0, f .put-field .ensures .1)
 
 put-line-requires : tie.Need-put-line-requires
-put-line-requires c κs = omega (arith, c .before .before .before .before .before .before .before .before .before .before .pre, head-long (c .before .before .before .before .before .before .before .before .before .before .args .h .nodes) (c .before .before .before .before .before .before .before .before .before .before .args .h .links) (c .before .before .before .before .before .before .before .before .before .before .args .h .events) (c .before .before .before .before .before .before .before .before .before .before .args .t .count) (c .before .before .before .before .before .before .before .before .before .before .args .t .complete) (c .before .before .before .before .before .before .before .before .before .before .args .t .mass), c .before .before .before .before .before .before .before .put-field .kept .0, c .before .before .before .before .before .before .before .put-field .ensures .1, c .before .before .before .put-field2 .kept .0, c .before .before .before .put-field2 .ensures .1)
+put-line-requires c κs =
+    let s = c .before .before .before in
+    let f = first s in
+    let h = entry f .args .h in
+    let t = entry f .args .t in
+    let long = head-long (h .nodes) (h .links) (h .events) (t .count) (t .complete) (t .mass) in
+    omega (arith, entry f .pre, long, f .put-field .kept .0, f .put-field .ensures .1, s .put-field2 .kept .0, s .put-field2 .ensures .1)
 
 returns : tie.Need-returns
-returns c = head-laid _ _ _ _ _ _ _ _ _ _ _ _ _ (c .before .before .before .before .before .before .before .before .before .before .put-field .ensures) (c .before .before .before .before .before .before .put-field2 .ensures) (c .before .before .put-line .ensures)
+returns c =
+    let s = c .before .before .before .before .before .before in
+    head-laid _ _ _ _ _ _ _ _ _ _ _ _ _ (first s .put-field .ensures) (s .put-field2 .ensures) (c .before .before .put-line .ensures)
 
 pub put-head-spec : {M : Type 1} → statement M
 put-head-spec =

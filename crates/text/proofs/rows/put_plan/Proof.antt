@@ -6,13 +6,22 @@ use Rattle.text.proofs.rows.put_plan.Statement.{statement}
 use Rattle.text.proofs.rows.put_plan.Tie as tie
 
 put-head-requires : tie.Need-put-head-requires
-put-head-requires c κs = omega (arith, c .before .before .pre .1, sums-long (c .before .before .args .h) (c .before .before .args .t) (c .before .before .args .sums .now))
+put-head-requires c κs =
+    let e = c .before .before in
+    omega (arith, e .pre .1, sums-long (e .args .h) (e .args .t) (e .args .sums .now))
 
 put-rows-requires : tie.Need-put-rows-requires
-put-rows-requires c κs = (listable _ _ _ (c .before .before .before .before .before .before .before .before .pre .0), omega (arith, c .before .before .before .before .before .before .before .before .pre .1, sums-long (c .before .before .before .before .before .before .before .before .args .h) (c .before .before .before .before .before .before .before .before .args .t) (c .before .before .before .before .before .before .before .before .args .sums .now), c .before .before .before .before .before .put-head .kept .0, c .before .before .before .before .before .put-head .ensures .1))
+put-rows-requires c κs =
+    let head = c .before .before .before .before .before in
+    let e = head .before .before .before in (
+      listable _ _ _ (e .pre .0),
+      omega (arith, e .pre .1, sums-long (e .args .h) (e .args .t) (e .args .sums .now), head .put-head .kept .0, head .put-head .ensures .1),
+    )
 
 returns : tie.Need-returns
-returns c = sums-laid _ _ _ _ _ _ _ _ (c .before .before .before .before .before .before .before .before .put-head .ensures) (c .before .before .put-rows .ensures)
+returns c =
+    let rows = c .before .before in
+    sums-laid _ _ _ _ _ _ _ _ (rows .before .before .before .before .before .before .put-head .ensures) (rows .put-rows .ensures)
 
 pub put-plan-spec : {M : Type 1} → statement M
 put-plan-spec =

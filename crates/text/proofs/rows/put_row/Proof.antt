@@ -4,8 +4,7 @@ use mathlib.Core.List.{List, _++_}
 use Prim.Native.Nat.{ℕ, _+_, _-_, _<_, _≤_}
 use native.Mathlib.Omega.{arith}
 use Rattle.pairs.specs.Pairs as pairs
-use Rattle.text.specs.Listing.{rowText}
-use Rattle.text.specs.Sums.{sumLine}
+use Rattle.text.specs.Sums.{sumLine, rowText}
 use Rattle.text.proofs.RowLaws.{Left, left-start, left-room, left-next, left-end, left-turn, row-end, lineAt, place-first, place-next, place-fits}
 use Rattle.text.proofs.rows.put_row.Statement.{statement}
 use Rattle.text.proofs.rows.put_row.Tie as tie

@@ -2,8 +2,8 @@
 use mathlib.Core.List.{List}
 use Prim.Native.Nat.{ℕ, _+_, _-_, _≤_}
 use native.Mathlib.Omega.{arith}
-use Rattle.text.specs.Listing.{rowText, rowsText, pairsText}
-use Rattle.text.specs.Sums.{sumLine}
+use Rattle.text.specs.Listing.{pairsText}
+use Rattle.text.specs.Sums.{sumLine, rowText, rowsText}
 use Rattle.text.proofs.RowLaws.{Left, left-room, left-next, left-end, left-row, rows-end, pairs-start}
 use Rattle.text.proofs.rows.put_rows.Statement.{statement}
 use Rattle.text.proofs.rows.put_rows.Tie as tie

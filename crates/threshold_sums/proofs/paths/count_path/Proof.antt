@@ -4,7 +4,9 @@ use mathlib.Core.Path.{_≡_}
 use Prim.Native.Nat.{_-_, _≤_}
 use borrow.Author.Needs.{needs}
 use native.Mathlib.Omega.{arith}
-use Rattle.threshold_sums.specs.Walked.{PathCounted}
+use lib.ListN.{getD}
+use Rattle.threshold_walk.specs.Paths.{sharedWalk}
+use Rattle.threshold_sums.specs.Walked.{placeNumbers, PathCounted}
 use Rattle.threshold_sums.proofs.Blocks.{lowest-least}
 use Rattle.threshold_sums.proofs.Counts.{counts-begin, counts-room, count-turned}
 use Rattle.threshold_sums.proofs.paths.count_path.Statement.{statement}
@@ -12,13 +14,14 @@ use Rattle.threshold_sums.proofs.paths.count_path.Tie as tie
 
 abbrev Inv-loop : tie.InvT-loop
 Inv-loop events words list active path rooms₀ counts₀ masses₀ lowest i₀ rooms counts masses i =
-    PathCounted events words list i path rooms₀ counts₀ masses₀ rooms counts masses × (i ≤ active)
+    PathCounted (sharedWalk events (getD list (active - 1) 0) words) list i path (placeNumbers rooms₀ counts₀ masses₀) (placeNumbers rooms counts masses)
+    × (i ≤ active)
 
 abbrev μ-loop : tie.MeasureT-loop
 μ-loop events words list active path rooms₀ counts₀ masses₀ lowest i₀ rooms counts masses i = active - i
 
 loop-holds : tie.Need-loop-holds Inv-loop μ-loop
-loop-holds c = (counts-begin _ _ _ _ _ _ _ (c .before .pre .1 .1 .1 .0), omega arith)
+loop-holds c = (counts-begin _ _ _ _ (c .before .pre .1 .1 .1 .0), omega arith)
 
 ends-of-requires : tie.Need-ends-of-requires Inv-loop μ-loop
 ends-of-requires c κs =
@@ -34,7 +37,7 @@ add-counts c =
       fits =
           omega (
             arith,
-            counts-room _ _ _ _ _ _ _ _ _ _ _ _ (in-loop .before .loop .inv .0) (in-loop .loop-test .taken) (p .1 .1 .1 .1) _ (one .examined-by .ensures) .0,
+            counts-room _ _ _ _ _ _ _ (in-loop .before .loop .inv .0) (in-loop .loop-test .taken) (p .1 .1 .1 .1) _ (one .examined-by .ensures) .0,
           );
     }
 
@@ -47,7 +50,7 @@ mul-masses-2 c =
       fits =
           omega (
             arith,
-            counts-room _ _ _ _ _ _ _ _ _ _ _ _ (in-loop .before .loop .inv .0) (in-loop .loop-test .taken) (p .1 .1 .1 .1) _ (one .examined-by .ensures) .1,
+            counts-room _ _ _ _ _ _ _ (in-loop .before .loop .inv .0) (in-loop .loop-test .taken) (p .1 .1 .1 .1) _ (one .examined-by .ensures) .1,
           );
     }
 
@@ -60,7 +63,7 @@ add-masses c =
       fits =
           omega (
             arith,
-            counts-room _ _ _ _ _ _ _ _ _ _ _ _ (in-loop .before .loop .inv .0) (in-loop .loop-test .taken) (p .1 .1 .1 .1) _ (one .examined-by .ensures) .1,
+            counts-room _ _ _ _ _ _ _ (in-loop .before .loop .inv .0) (in-loop .loop-test .taken) (p .1 .1 .1 .1) _ (one .examined-by .ensures) .1,
           );
     }
 
@@ -69,7 +72,7 @@ loop-again c =
     let one = c .before .before .before .before .before in
     let ends = one .before .before .before in
     let in-loop = ends .before .before in (
-      count-turned _ _ _ _ _ _ _ _ _ _ _ (in-loop .before .loop .inv .0) (omega (arith, in-loop .loop-test .taken, in-loop .before .before .before .pre .1 .0 .0 .few)) _ (ends .ends-of .ensures .0) (ends .ends-of .ensures .1) _ (one .examined-by .ensures) _
+      count-turned _ _ _ _ _ _ (in-loop .before .loop .inv .0) (omega (arith, in-loop .loop-test .taken, in-loop .before .before .before .pre .1 .0 .0 .few)) _ (ends .ends-of .ensures .0) (ends .ends-of .ensures .1) _ (one .examined-by .ensures) _
           (c .left-of .ensures),
       omega (arith, in-loop .loop-test .taken),
     )
@@ -77,7 +80,7 @@ loop-again c =
 returns : tie.Need-returns Inv-loop μ-loop
 returns c =
     let e : c .before .loop .i ≡ c .before .before .before .args .active = omega (arith, c .loop-test .left, c .before .loop .inv .1) in
-    rw (← e) (c .before .loop .inv .0)
+    rw e at (c .before .loop .inv .0)
 
 pub count-path-spec : {M : Type 1} → statement M
 count-path-spec =

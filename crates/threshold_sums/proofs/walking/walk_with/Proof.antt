@@ -2,24 +2,23 @@
 -- come give its plan's answers; all else is untouched. The measure: how many ends of the lowest are to come, then how many branches are
 -- pending. Assumes nothing.
 use mathlib.Core.Logic.{inl, inr}
-use Prim.Native.Nat.{_+_, _-_, _*_}
 use native.Mathlib.Omega.{arith}
-use lib.ListN.{length}
-use Rattle.threshold_walk.specs.Stack.{toCome, Stack}
-use Rattle.threshold_sums.specs.Walked.{Ledgers, Kept}
-use Rattle.threshold_sums.proofs.Turns.{path-fits, counts-fit, decided, ledgers-on, kept-begin, kept-on}
+use Rattle.threshold_walk.specs.Stack.{Stack}
+use Rattle.threshold_walk.specs.Paths.{sharedWalk, leftToTake}
+use Rattle.threshold_sums.specs.Walked.{plansOf, placeNumbers, AllCountedSoFar, Kept}
+use Rattle.threshold_sums.proofs.Turns.{path-fits, counts-fit, decided, all-counted-on, kept-begin, kept-on}
 use Rattle.threshold_sums.proofs.walking.walk_with.Statement.{statement}
 use Rattle.threshold_sums.proofs.walking.walk_with.Tie as tie
 
 abbrev Inv-loop : tie.InvT-loop
 Inv-loop h links words table list active stack₀ start rooms₀ counts₀ masses₀ lower₀ lowest at₀ stack rooms counts masses lower at =
     Stack (h .events) at stack
-    × Ledgers h links words list active at stack rooms counts masses lower
-    × Kept h active rooms₀ counts₀ masses₀ lower₀ rooms counts masses lower
+    × AllCountedSoFar (plansOf h links words list) active at stack (placeNumbers rooms counts masses) lower
+    × Kept h active (placeNumbers rooms₀ counts₀ masses₀) lower₀ (placeNumbers rooms counts masses) lower
 
 abbrev μ-loop : tie.MeasureT-loop
 μ-loop h links words table list active stack₀ start rooms₀ counts₀ masses₀ lower₀ lowest at₀ stack rooms counts masses lower at =
-    length (toCome (h .events) lowest words at stack) * 1024 + (640 - at)
+    leftToTake (sharedWalk (h .events) lowest words) at stack
 
 sub-lowest : tie.Need-sub-lowest Inv-loop μ-loop
 sub-lowest c = c .before .pre .1 .1 .0 .1
@@ -33,7 +32,7 @@ element-copy-out-lowest c = omega (arith, c .before .pre .1 .1 .0 .0 .few, c .be
 loop-holds : tie.Need-loop-holds Inv-loop μ-loop
 loop-holds c =
     let p = c .before .before .pre in
-    (p .1 .1 .1 .0 .0, p .1 .1 .1 .1, kept-begin _ _ _ _ _ _ (p .1 .1 .1 .0 .2))
+    (p .1 .1 .1 .0 .0, p .1 .1 .1 .1, kept-begin _ _ _ _ (p .1 .1 .1 .0 .2))
 
 sub-if1 : tie.Need-sub-if1 Inv-loop μ-loop
 sub-if1 c = c .before .before .before .before .pre .1 .1 .0 .1
@@ -69,10 +68,10 @@ add-path-requires c κs =
       (
         p .1 .0,
         (
-          (p .1 .1 .0 .0, p .1 .1 .0 .1, decided _ _ _ _ _ (p .1 .1 .0 .0) (p .0) (p .1 .1 .0 .2) _ _ _ _ _ _ (loop .loop .inv .1) _ _ t),
+          (p .1 .1 .0 .0, p .1 .1 .0 .1, decided _ _ (p .1 .1 .0 .0) (p .0) (p .1 .1 .0 .2) _ _ _ _ (loop .loop .inv .1) _ _ t),
           (
             omega (arith, p .1 .1 .1 .0 .1, loop .loop .inv .2 .sized),
-            path-fits _ _ _ _ _ (p .1 .1 .0 .0) (p .0) (p .1 .1 .0 .2) _ _ _ _ _ _ (loop .loop .inv .1) _ _ t,
+            path-fits _ _ (p .1 .1 .0 .0) (p .0) (p .1 .1 .0 .2) _ _ _ _ (loop .loop .inv .1) _ _ t,
           ),
         ),
       ),
@@ -89,7 +88,7 @@ count-path-requires c κs =
         (p .1 .1 .0 .0, p .1 .1 .0 .1),
         (
           t .sound,
-          (loop .loop .inv .2 .arrays, counts-fit _ _ _ _ _ (p .1 .1 .0 .0) (p .0) (p .1 .1 .0 .2) _ _ _ _ _ _ (loop .loop .inv .1) _ _ t),
+          (loop .loop .inv .2 .arrays, counts-fit _ _ (p .1 .1 .0 .0) (p .0) (p .1 .1 .0 .2) _ _ _ _ (loop .loop .inv .1) _ _ t),
         ),
       ),
     )
@@ -105,8 +104,8 @@ loop-again c =
     let t = near .next-path .ensures in
     let added = c .before .before .before .before .before .before .add-path .ensures in (
       t .held,
-      ledgers-on _ _ _ _ _ (p .1 .1 .0 .0) (p .0) (p .1 .1 .0 .2) _ _ _ _ _ _ (loop .loop .inv .1) _ _ t _ added _ _ _ (c .count-path .ensures),
-      kept-on _ _ _ _ _ (p .1 .1 .0 .0) (p .0) (p .1 .1 .0 .2) _ _ _ _ _ _ (loop .loop .inv .1) _ _ t _ added _ _ _ (c .count-path .ensures) _ _ _ _
+      all-counted-on _ _ (p .1 .1 .0 .0) (p .0) (p .1 .1 .0 .2) _ _ _ _ (loop .loop .inv .1) _ _ t _ added _ (c .count-path .ensures),
+      kept-on _ _ (p .1 .1 .0 .0) (p .0) (p .1 .1 .0 .2) _ _ _ _ (loop .loop .inv .1) _ _ t _ added _ (c .count-path .ensures) _ _
           (loop .loop .inv .2),
     )
 

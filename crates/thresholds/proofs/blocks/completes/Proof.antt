@@ -20,9 +20,6 @@ abbrev μ-loop : tie.MeasureT-loop
 loop-holds : tie.Need-loop-holds Inv-loop μ-loop
 loop-holds c = (omega arith, refl, λ j h. absurd (omega arith))
 
-loop-less : tie.Need-loop-less Inv-loop μ-loop
-loop-less c = omega arith
-
 loop-again : tie.Need-loop-again Inv-loop μ-loop
 loop-again c =
     let b = c .before .before in
@@ -52,6 +49,6 @@ completes-spec =
     (λ c. search needs)  -- mul-flags
     (λ c. search needs)  -- array-write-flags
     (λ c. search needs)  -- add-i
-    loop-less
+    (λ c. omega arith)  -- loop-less
     loop-again
     returns)

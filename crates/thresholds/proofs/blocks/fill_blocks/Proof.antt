@@ -25,7 +25,7 @@ raise-blocks-requires c κs =
     let a = s .args in
     let p = s .pre in
     rw (n .start-of .ensures)
-    (may-raise (a .h) (a .links .now) (a .words .now) (a .list .now) (p .0 .1) (p .0 .0 .links-held .nodes-fit) (p .1 .0 .1) _ _ _ (a .lower .now) _
+    (may-raise (a .h) (a .links .now) (a .words .now) (a .list .now) (p .0 .1) (p .0 .0 .links-held .nodes-fit) (p .1 .0 .1) _ (a .lower .now) _
     (w .walk-blocks .ensures)
     (a .upper .now)
     (p .1 .1 .0)
@@ -42,12 +42,12 @@ returns c =
     let b = w .walk-blocks .ensures in
     let few = p .0 .0 .links-held .nodes-fit in
     let r = rw (n .start-of .ensures) at (raise .raise-blocks .ensures) in (
-      answers (a .h) (a .links .now) (a .words .now) (a .list .now) (p .0 .1) few (p .1 .0 .1) _ _ _ (a .lower .now) _ b _ (c .completes .ensures),
+      answers (a .h) (a .links .now) (a .words .now) (a .list .now) (p .0 .1) few (p .1 .0 .1) _ (a .lower .now) _ b _ (c .completes .ensures),
       (
-        lowers-laid (a .h) (a .links .now) (a .words .now) (a .list .now) (p .0 .1) few (p .1 .0 .1) _ _ _ (a .lower .now) _ b (p .1 .1 .0),
+        lowers-laid (a .h) (a .links .now) (a .words .now) (a .list .now) (p .0 .1) few (p .1 .0 .1) _ (a .lower .now) _ b (p .1 .1 .0),
         (
-          uppers-laid (a .h) (a .links .now) (a .words .now) (a .list .now) (p .0 .1) few (p .1 .0 .1) _ _ _ (a .lower .now) _ b (a .upper .now) _ (p .1 .1 .1) r,
-          blocks-enclosed (a .h) (a .links .now) (a .words .now) (a .list .now) (p .0 .1) few (p .1 .0 .1) _ _ _ (a .lower .now) _ b (a .upper .now) _ (p .1 .1 .1) r,
+          uppers-laid (a .h) (a .links .now) (a .words .now) (a .list .now) (p .0 .1) few (p .1 .0 .1) _ (a .lower .now) _ b (a .upper .now) _ (p .1 .1 .1) r,
+          blocks-enclosed (a .h) (a .links .now) (a .words .now) (a .list .now) (p .0 .1) few (p .1 .0 .1) _ (a .lower .now) _ b (a .upper .now) _ (p .1 .1 .1) r,
         ),
       ),
     )

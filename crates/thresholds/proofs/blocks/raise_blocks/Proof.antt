@@ -43,9 +43,6 @@ copy-raised-requires c κs =
 add-i : tie.Need-add-i Inv-loop μ-loop
 add-i c = omega (arith, entry (c .before .before .before .before .before .before .before) .pre .few)
 
-loop-less : tie.Need-loop-less Inv-loop μ-loop
-loop-less c = omega arith
-
 loop-again : tie.Need-loop-again Inv-loop μ-loop
 loop-again c =
     let b = c .before .before .before .before .before .before .before in
@@ -73,7 +70,7 @@ raise-blocks-spec =
     sub-copy-raised
     copy-raised-requires
     add-i
-    loop-less
+    (λ c. omega arith)  -- loop-less
     loop-again
     same-length
     returns)

@@ -77,8 +77,6 @@ returns c =
     (a .words .now)
     _
     _
-    _
-    _
     (w .walk-all .ensures)
 
 pub walk-blocks-spec : {M : Type 1} → statement M

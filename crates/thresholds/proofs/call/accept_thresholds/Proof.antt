@@ -2,10 +2,10 @@
 use borrow.Author.Needs.{needs}
 use mathlib.Core.Path.{_≡_, sym, ap, subst, _∙_}
 use native.Mathlib.Omega.{arith}
-use Rattle.plan.specs.LentLists.{listsNumber}
+use Rattle.plan.specs.LentLists.{Lent, inWords, listsNumber}
 use Rattle.plan.specs.declared.Header.{Header}
 use Rattle.lent.specs.Taken.{Taken}
-use Rattle.thresholds.specs.Thresholds.{headerAt}
+use Rattle.thresholds.specs.Thresholds.{headerAt, lentAt}
 use Rattle.thresholds.proofs.WalkLaws.{size-most}
 use Rattle.thresholds.proofs.Outcome.{lists-refuse, thresholds-refuse, rooms-decide, rooms-fit}
 use Rattle.thresholds.proofs.call.accept_thresholds.Statement.{statement}
@@ -15,11 +15,14 @@ use Rattle.thresholds.proofs.call.accept_thresholds.Tie as tie
 abbrev entry : tie.After-accept → tie.Start
 entry k = k .before .before .before .before .before .before .before
 
--- the tests of the lists, with the header that has threshold 1
-lists-are : (k : tie.After-accept) → k .accept .result ≡ listsNumber (headerAt (entry k .args .h) 1) (entry k .args .links .now) (entry k .args .events .now)
+-- what is lent, with the threshold 1
+abbrev lent : tie.After-accept → Lent
+lent k = lentAt (entry k .args .h) (entry k .args .links .now) (entry k .args .events .now) 1
+
+lists-are : (k : tie.After-accept) → k .accept .result ≡ listsNumber (lent k)
 lists-are k =
     k .accept .ensures .0
-    ∙ ap (λ (x : Header). listsNumber x (entry k .args .links .now) (entry k .args .events .now)) (k .before .before .before .header-at .ensures)
+    ∙ ap (λ (x : Header). listsNumber (inWords x (entry k .args .links .now) (entry k .args .events .now))) (k .before .before .before .header-at .ensures)
 
 taken : (k : tie.After-accept) → k .accept .result ≡ 0
     → Taken (headerAt (entry k .args .h) 1) (entry k .args .links .now) (entry k .args .events .now) (k .accept .last .1 .1 .1 .0) (k .accept .last .1 .1 .1 .1 .0)
@@ -30,7 +33,7 @@ taken k z =
 returns : tie.Need-returns
 returns c =
     let a = entry (c .before) .args in (
-      lists-refuse (a .h) (a .links .now) (a .events .now) (a .list .now) (a .lower-room) (a .upper-room) _ (lists-are (c .before)) (c .if1 .taken),
+      lists-refuse (lent (c .before)) (a .list .now) (a .lower-room) (a .upper-room) _ (lists-are (c .before)) (c .if1 .taken),
       λ z. absurd (c .if1 .taken z),
     )
 
@@ -38,7 +41,7 @@ returns-2 : tie.Need-returns-2
 returns-2 c =
     let e = c .before .before in
     let a = entry (e .before) .args in (
-      thresholds-refuse (a .h) (a .links .now) (a .events .now) (a .list .now) (a .lower-room) (a .upper-room) _ (lists-are (e .before)) (e .if1 .left) _
+      thresholds-refuse (lent (e .before)) (a .list .now) (a .lower-room) (a .upper-room) _ (lists-are (e .before)) (e .if1 .left) _
           (c .before .thresholds-test .ensures)
           (c .if2 .taken),
       λ z. absurd (c .if2 .taken z),
@@ -65,18 +68,15 @@ returns-3 c =
     let e = t .before in
     let a = entry (e .before) .args in
     let short = rw (c .before .start-of .ensures) at (c .bounds-test .ensures) in (
-      rooms-decide (a .h) (a .links .now) (a .events .now) (a .list .now) (a .lower-room) (a .upper-room) _ (lists-are (e .before)) (e .if1 .left) _ _
+      rooms-decide (lent (e .before)) (a .list .now) (a .lower-room) (a .upper-room) _ (lists-are (e .before)) (e .if1 .left) _ _
           (t .thresholds-test .ensures)
           (f .if2 .left)
           short,
       λ z.
-          let fit = rooms-fit (a .h) (a .links .now) (a .events .now) (a .list .now) (a .lower-room) (a .upper-room) (sym short ∙ z) in
-          record {
-            taken = taken (e .before) (e .if1 .left);
-            tested = sym (t .thresholds-test .ensures) ∙ f .if2 .left;
-            lower-room = fit .0;
-            upper-room = fit .1;
-          },
+          let fit = rooms-fit (lent (e .before)) (a .list .now) (a .lower-room) (a .upper-room) (sym short ∙ z) in (
+            taken (e .before) (e .if1 .left),
+            record { tested = sym (t .thresholds-test .ensures) ∙ f .if2 .left; lower-room = fit .0; upper-room = fit .1 },
+          ),
     )
 
 pub accept-thresholds-spec : {M : Type 1} → statement M

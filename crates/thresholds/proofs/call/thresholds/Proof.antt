@@ -1,8 +1,9 @@
 -- `thresholds::call::thresholds` meets its contract: at each `return` the tests that led there decide the answer. Assumes nothing.
 use borrow.Author.Needs.{needs}
 use mathlib.Core.Path.{sym, _∙_}
+use lib.ListN.{length}
 use Rattle.bounds.proofs.Outcome.{arrays-valid}
-use Rattle.thresholds.specs.Thresholds.{thresholdsNumber}
+use Rattle.thresholds.specs.Thresholds.{lentAt, thresholdsNumber}
 use Rattle.thresholds.proofs.Outcome.{call-refused, call-done}
 use Rattle.thresholds.proofs.call.thresholds.Statement.{statement}
 use Rattle.thresholds.proofs.call.thresholds.Tie as tie
@@ -18,7 +19,7 @@ returns : tie.Need-returns
 returns c =
     let k = c .before .before in
     let a = entry k .args in
-    let number = thresholdsNumber (a .h) (a .links .now) (a .events .now) (a .list .now) (a .lower .now) (a .upper .now) in
+    let number = thresholdsNumber (lentAt (a .h) (a .links .now) (a .events .now) 1) (a .list .now) (length (a .lower .now)) (length (a .upper .now)) in
     call-refused number (a .h) (a .links .now) (a .events .now) (a .list .now) (a .lower .now) (a .upper .now) _ _ (c .refused .ensures)
     (k .accept-thresholds .ensures .0)
     (c .before .if1 .taken)
@@ -29,7 +30,7 @@ fill-blocks-requires c κs =
     let e = x .before in
     let t = e .before .accept-thresholds .ensures .1 (e .if1 .left) in
     rw (x .header-at .ensures)
-    ((t .taken .held, arrays-valid _ _ _ _ _ (t .taken)), ((t .taken .limited, t .tested), (t .lower-room, t .upper-room)))
+    ((t .0 .held, arrays-valid _ _ _ _ _ (t .0)), ((t .0 .limited, t .1 .tested), (t .1 .lower-room, t .1 .upper-room)))
 
 returns-2 : tie.Need-returns-2
 returns-2 c =
@@ -40,10 +41,10 @@ returns-2 c =
     let tests = k .accept-thresholds .ensures in
     let t = tests .1 (e .if1 .left) in
     let a = entry k .args in
-    let number = thresholdsNumber (a .h) (a .links .now) (a .events .now) (a .list .now) (a .lower .now) (a .upper .now) in
+    let number = thresholdsNumber (lentAt (a .h) (a .links .now) (a .events .now) 1) (a .list .now) (length (a .lower .now)) (length (a .upper .now)) in
     call-done number (a .h) (a .links .now) (a .events .now) (a .list .now) (a .lower .now) (a .upper .now) _ _ _ _ _ _ (sym (tests .0) ∙ e .if1 .left)
     (x .header-at .ensures)
-    (t .taken .denoted)
+    (t .0 .denoted)
     (fill .fill-blocks .ensures)
 
 pub thresholds-spec : {M : Type 1} → statement M

@@ -25,17 +25,8 @@ returns c = no-threshold (c .before .args .list .now) (c .if1 .taken)
 returns-2 : tie.Need-returns-2 Inv-loop μ-loop
 returns-2 c = too-many (c .before .before .args .list .now) (omega arith)
 
-add-above : tie.Need-add-above Inv-loop μ-loop
-add-above c = omega arith
-
 loop-holds : tie.Need-loop-holds Inv-loop μ-loop
 loop-holds c = (omega arith, refl)
-
-mul-t : tie.Need-mul-t Inv-loop μ-loop
-mul-t c = omega arith
-
-shared-slice-read-t : tie.Need-shared-slice-read-t Inv-loop μ-loop
-shared-slice-read-t c = omega arith
 
 returns-3 : tie.Need-returns-3 Inv-loop μ-loop
 returns-3 c =
@@ -48,12 +39,6 @@ returns-4 c =
     let b = c .before .before .before .before in
     let list = entry b .args .list .now in
     not-falling list (sym (b .loop .inv .1) ∙ high-stops _ list (b .loop .i) (c .before .before .before .loop-test .taken) (omega arith))
-
-add-i : tie.Need-add-i Inv-loop μ-loop
-add-i c = omega arith
-
-loop-less : tie.Need-loop-less Inv-loop μ-loop
-loop-less c = omega arith
 
 loop-again : tie.Need-loop-again Inv-loop μ-loop
 loop-again c =
@@ -75,13 +60,13 @@ thresholds-test-spec =
     μ-loop
     returns
     returns-2
-    add-above
+    (λ c. omega arith)  -- add-above
     loop-holds
-    mul-t
-    shared-slice-read-t
+    (λ c. omega arith)  -- mul-t
+    (λ c. omega arith)  -- shared-slice-read-t
     returns-3
     returns-4
-    add-i
-    loop-less
+    (λ c. omega arith)  -- add-i
+    (λ c. omega arith)  -- loop-less
     loop-again
     returns-5)

@@ -12,13 +12,13 @@ links-at-requires c κs = c .before .pre .links-held
 list-ends-requires : tie.Need-list-ends-requires
 list-ends-requires c κs = (
   c .before .before .before .before .before .links-at .ensures,
-  ready-whole _ _ _ _ _ (begun-alone _ _ _ _ _ _ _ refl (c .before .before .before .begin .ensures)) (c .before .before .before .before .before .before .before .pre),
+  ready-whole _ _ _ _ _ (begun-alone _ _ _ refl (c .before .before .before .begin .ensures)) (c .before .before .before .before .before .before .before .pre),
 )
 
 returns : tie.Need-returns
 returns c =
     let e = c .before .before .list-ends .ensures in
-    let b = begun-alone _ _ _ _ _ _ _ refl (c .before .before .before .before .before .before .begin .ensures) in
+    let b = begun-alone _ _ _ refl (c .before .before .before .before .before .before .begin .ensures) in
     rw (whole-listing _ _ _ _ _ b _) at e
 
 pub list-all-spec : {M : Type 1} → statement M

@@ -5,10 +5,10 @@ use Rattle.walk.proofs.ahead.come_to.Statement.{statement}
 use Rattle.walk.proofs.ahead.come_to.Tie as tie
 
 returns : tie.Need-returns
-returns c = sym (descent-cut _ _ _ _ _ _ (c .if1 .taken))
+returns c = sym (descent-cut _ _ _ _ _ (c .if1 .taken))
 
 returns-2 : tie.Need-returns-2
-returns-2 c = sym (descent-enough _ _ _ _ _ _ (c .if1 .left))
+returns-2 c = sym (descent-enough _ _ _ _ _ (c .if1 .left))
 
 pub come-to-spec : {M : Type 1} → statement M
 come-to-spec = tie.close (tie.spec returns returns-2)

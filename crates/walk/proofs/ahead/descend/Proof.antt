@@ -5,26 +5,8 @@ use Rattle.walk.proofs.Descents.{under, taken, taken-ends, taken-mass, 
 use Rattle.walk.proofs.ahead.descend.Statement.{statement}
 use Rattle.walk.proofs.ahead.descend.Tie as tie
 
-mul-depth : tie.Need-mul-depth
-mul-depth c = omega arith
-
-element-copy-out-depth : tie.Need-element-copy-out-depth
-element-copy-out-depth c = omega arith
-
-add-mass : tie.Need-add-mass
-add-mass c = omega arith
-
-mul-mass : tie.Need-mul-mass
-mul-mass c = omega arith
-
-element-copy-out-mass : tie.Need-element-copy-out-mass
-element-copy-out-mass c = omega arith
-
-add-t18 : tie.Need-add-t18
-add-t18 c = omega arith
-
-sub-t19 : tie.Need-sub-t19
-sub-t19 c =
+sub-t20 : tie.Need-sub-t20
+sub-t20 c =
     let s = c .before .before .before in
     omega (arith, run-some (s .args .count) (s .args .threshold) (s .args .events .now) (s .args .at) (s .args .stack .now) (s .pre .3) (s .pre .2) (c .if1 .taken))
 
@@ -32,27 +14,6 @@ returns : tie.Need-returns
 returns c =
     let s = c .before .before .before in
     taken-run _ _ _ _ _ (s .pre .3) (s .pre .2) (c .if1 .taken)
-
-add-low : tie.Need-add-low
-add-low c = omega arith
-
-mul-low : tie.Need-mul-low
-mul-low c = omega arith
-
-element-copy-out-low : tie.Need-element-copy-out-low
-element-copy-out-low c = omega arith
-
-add-high : tie.Need-add-high
-add-high c = omega arith
-
-mul-high : tie.Need-mul-high
-mul-high c = omega arith
-
-element-copy-out-high : tie.Need-element-copy-out-high
-element-copy-out-high c = omega arith
-
-add-go-down : tie.Need-add-go-down
-add-go-down c = omega arith
 
 go-down-requires : tie.Need-go-down-requires
 go-down-requires c κs =
@@ -78,20 +39,20 @@ pub descend-spec : {M : Type 1} → statement M
 descend-spec =
     tie.close
     (tie.spec
-    mul-depth
-    element-copy-out-depth
-    add-mass
-    mul-mass
-    element-copy-out-mass
-    add-t18
-    sub-t19
+    (λ c. omega arith)  -- mul-depth
+    (λ c. omega arith)  -- element-copy-out-depth
+    (λ c. omega arith)  -- add-mass
+    (λ c. omega arith)  -- mul-mass
+    (λ c. omega arith)  -- element-copy-out-mass
+    (λ c. omega arith)  -- add-t19
+    sub-t20
     returns
-    add-low
-    mul-low
-    element-copy-out-low
-    add-high
-    mul-high
-    element-copy-out-high
-    add-go-down
+    (λ c. omega arith)  -- add-low
+    (λ c. omega arith)  -- mul-low
+    (λ c. omega arith)  -- element-copy-out-low
+    (λ c. omega arith)  -- add-high
+    (λ c. omega arith)  -- mul-high
+    (λ c. omega arith)  -- element-copy-out-high
+    (λ c. omega arith)  -- add-go-down
     go-down-requires
     returns-2)

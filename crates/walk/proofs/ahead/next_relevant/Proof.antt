@@ -26,9 +26,6 @@ descend-requires c κs =
     let s = c .before .before .before .before in
     (s .pre .0, s .pre .1, c .before .before .loop-test .taken, c .before .before .before .loop .inv .held)
 
-sub-left : tie.Need-sub-left Inv-loop μ-loop
-sub-left c = omega arith
-
 delay-requires : tie.Need-delay-requires Inv-loop μ-loop
 delay-requires c κs =
     let d = c .before .before .descend .ensures in
@@ -85,7 +82,7 @@ next-relevant-spec =
     (λ c κs. search needs)  -- none-at-requires
     returns
     descend-requires
-    sub-left
+    (λ c. omega arith)  -- sub-left
     delay-requires
     returns-2
     (λ c κs. search needs)  -- reachable-requires

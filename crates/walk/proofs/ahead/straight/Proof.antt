@@ -29,12 +29,6 @@ returns-2 c = path-ended _ _ (c .before .before .before .before .before .pre .3)
 works-on-requires : tie.Need-works-on-requires Inv-loop μ-loop
 works-on-requires c κs = (omega arith, c .before .before .before .loop .inv .1, probable _ _ (c .before .before .before .before .before .pre .3) _ (c .if2 .left))
 
-add-d : tie.Need-add-d Inv-loop μ-loop
-add-d c = omega arith
-
-loop-less : tie.Need-loop-less Inv-loop μ-loop
-loop-less c = omega arith
-
 loop-again : tie.Need-loop-again Inv-loop μ-loop
 loop-again c =
     let p = c .works-on .ensures in
@@ -54,6 +48,6 @@ straight-spec =
     returns
     returns-2
     works-on-requires
-    add-d
-    loop-less
+    (λ c. omega arith)  -- add-d
+    (λ c. omega arith)  -- loop-less
     loop-again)

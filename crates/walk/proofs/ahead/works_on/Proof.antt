@@ -1,6 +1,5 @@
 -- `walk::ahead::works_on` meets its contract: the two parts are what the event leaves of each. Assumes nothing.
 use borrow.Author.Needs.{needs}
-use native.Mathlib.Omega.{arith}
 use Rattle.walk.proofs.Parts.{first-fits, second-fits, low-fits, units-fit, high-fits, kept, carried}
 use Rattle.walk.proofs.ahead.works_on.Statement.{statement}
 use Rattle.walk.proofs.ahead.works_on.Tie as tie

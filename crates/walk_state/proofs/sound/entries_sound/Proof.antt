@@ -20,42 +20,6 @@ abbrev μ-loop : tie.MeasureT-loop
 loop-holds : tie.Need-loop-holds Inv-loop μ-loop
 loop-holds c = (omega arith, omega arith, omega arith, refl)
 
-mul-depth : tie.Need-mul-depth Inv-loop μ-loop
-mul-depth c = omega arith
-
-element-copy-out-depth : tie.Need-element-copy-out-depth Inv-loop μ-loop
-element-copy-out-depth c = omega arith
-
-add-mass : tie.Need-add-mass Inv-loop μ-loop
-add-mass c = omega arith
-
-mul-mass : tie.Need-mul-mass Inv-loop μ-loop
-mul-mass c = omega arith
-
-element-copy-out-mass : tie.Need-element-copy-out-mass Inv-loop μ-loop
-element-copy-out-mass c = omega arith
-
-add-entry-sound : tie.Need-add-entry-sound Inv-loop μ-loop
-add-entry-sound c = omega arith
-
-mul-entry-sound : tie.Need-mul-entry-sound Inv-loop μ-loop
-mul-entry-sound c = omega arith
-
-element-copy-out-entry-sound : tie.Need-element-copy-out-entry-sound Inv-loop μ-loop
-element-copy-out-entry-sound c = omega arith
-
-add-entry-sound-2 : tie.Need-add-entry-sound-2 Inv-loop μ-loop
-add-entry-sound-2 c = omega arith
-
-mul-entry-sound-2 : tie.Need-mul-entry-sound-2 Inv-loop μ-loop
-mul-entry-sound-2 c = omega arith
-
-element-copy-out-entry-sound-2 : tie.Need-element-copy-out-entry-sound-2 Inv-loop μ-loop
-element-copy-out-entry-sound-2 c = omega arith
-
-sub-entry-sound : tie.Need-sub-entry-sound Inv-loop μ-loop
-sub-entry-sound c = omega arith
-
 returns : tie.Need-returns Inv-loop μ-loop
 returns c =
     let l = c .before .before .before .before .before .before .before in
@@ -68,12 +32,6 @@ returns c =
 sub-left : tie.Need-sub-left Inv-loop μ-loop
 sub-left c =
     omega (arith, c .entry-mass .ensures, entry-fits _ _ _ _ _ _ _ (sym (c .before .before .entry-sound .ensures) ∙ not-false _ (c .before .if1 .left)))
-
-add-i : tie.Need-add-i Inv-loop μ-loop
-add-i c = omega arith
-
-loop-less : tie.Need-loop-less Inv-loop μ-loop
-loop-less c = omega arith
 
 loop-again : tie.Need-loop-again Inv-loop μ-loop
 loop-again c =
@@ -101,23 +59,23 @@ entries-sound-spec =
     Inv-loop
     μ-loop
     loop-holds
-    mul-depth
-    element-copy-out-depth
-    add-mass
-    mul-mass
-    element-copy-out-mass
-    add-entry-sound
-    mul-entry-sound
-    element-copy-out-entry-sound
-    add-entry-sound-2
-    mul-entry-sound-2
-    element-copy-out-entry-sound-2
-    sub-entry-sound
+    (λ c. omega arith)  -- mul-depth
+    (λ c. omega arith)  -- element-copy-out-depth
+    (λ c. omega arith)  -- add-mass
+    (λ c. omega arith)  -- mul-mass
+    (λ c. omega arith)  -- element-copy-out-mass
+    (λ c. omega arith)  -- add-entry-sound
+    (λ c. omega arith)  -- mul-entry-sound
+    (λ c. omega arith)  -- element-copy-out-entry-sound
+    (λ c. omega arith)  -- add-entry-sound-2
+    (λ c. omega arith)  -- mul-entry-sound-2
+    (λ c. omega arith)  -- element-copy-out-entry-sound-2
+    (λ c. omega arith)  -- sub-entry-sound
     (λ c κs. search needs)  -- entry-sound-requires
     returns
     (λ c κs. search needs)  -- entry-mass-requires
     sub-left
-    add-i
-    loop-less
+    (λ c. omega arith)  -- add-i
+    (λ c. omega arith)  -- loop-less
     loop-again
     returns-2)

@@ -1,2 +1,0 @@
--- Laws that the proofs of the crate `further_answers` share.
-pub mod NumberLaws

@@ -1,2 +1,0 @@
--- Laws that the proofs of the crate `sheet_answers` share.
-pub mod NumberLaws
