@@ -14,14 +14,14 @@ use Rattle.bounds.specs.declared.Paired.{Paired}
 
 -- the header of five numbers
 abbrev pub headerWith : ℕ → ℕ → ℕ → ℕ → ℕ → Header
-headerWith nodes links events threshold limit =
-    record { nodes = nodes; links = links; events = events; threshold = threshold; limit = limit }
+headerWith nodes links events threshold cap =
+    record { nodes = nodes; links = links; events = events; threshold = threshold; cap = cap }
 
 -- ---- a plan that is read: its five numbers
 
 abbrev pub headerValues : Reading → List ℕ
 headerValues answer =
-    headerIn answer .nodes ∷ headerIn answer .links ∷ headerIn answer .events ∷ headerIn answer .threshold ∷ headerIn answer .limit ∷ []
+    headerIn answer .nodes ∷ headerIn answer .links ∷ headerIn answer .events ∷ headerIn answer .threshold ∷ headerIn answer .cap ∷ []
 
 -- ---- a plan that is written: the size of the file
 

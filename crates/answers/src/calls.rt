@@ -20,7 +20,7 @@ pub fn give_header(answer: Reading, numbers: &mut [u64]) -> u32
     let h = files::header_in(answer);
     give_three(numbers, h.nodes, h.links, h.events);
     put(numbers, 3, h.threshold);
-    put(numbers, 4, h.limit);
+    put(numbers, 4, h.cap);
     match answer {
         Reading::Refused(number) => number,
         Reading::Accepted(_) => 0,

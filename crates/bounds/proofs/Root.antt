@@ -29,9 +29,9 @@ use Rattle.bounds.specs.Calls.{totalsOf}
 module _ (h : Header) (links words : List ℕ) (at : ℕ) (stack lower : List ℕ) (b : Alone 0 whole 0 0 at stack) (clear : Cleared lower) where
   -- nothing is examined at the root
   abbrev start : RunState
-  start = runState stack lower (record { at = at; left = h .limit; number = 0; mass = 0 })
+  start = runState stack lower (record { at = at; left = h .cap; number = 0; mass = 0 })
 
-  pub ready-whole : Held h links words → h .limit < 4294967296 → Ready h links words start
+  pub ready-whole : Held h links words → h .cap < 4294967296 → Ready h links words start
   ready-whole held few =
       record {
         held = held;
@@ -40,7 +40,7 @@ module _ (h : Header) (links words : List ℕ) (at : ℕ) (stack lower : List �
         below = λ i. omega (arith, clear .zeros i);
         fits =
             rw (begun-whole at stack b (h .events) (h .threshold) words)
-            (omega (arith, masses-le (h .threshold) (h .limit) whole (eventsOf (h .events) words) (held-probable h links words held)));
+            (omega (arith, masses-le (h .threshold) (h .cap) whole (eventsOf (h .events) words) (held-probable h links words held)));
         counted = omega arith;
       }
 
@@ -54,11 +54,11 @@ module _ (h : Header) (links words : List ℕ) (at : ℕ) (stack lower : List �
 
     firsts : reached h words start ≡ firstEnds p
     unfolding planOfLists
-    firsts = ap (take (h .limit)) from-root
+    firsts = ap (take (h .cap)) from-root
 
-    left-over : drop (p .limit) (planEnds p) ≡ coming h words r
+    left-over : drop (p .cap) (planEnds p) ≡ coming h words r
     unfolding planOfLists
-    left-over = sym (t .rest ∙ ap (drop (h .limit)) from-root)
+    left-over = sym (t .rest ∙ ap (drop (h .cap)) from-root)
 
     pub whole-totals : (c : ℕ) → c ≡ digit (leb 512 (r .sums .at)) → (record { count = r .sums .number; complete = c; mass = r .sums .mass }) ≡ totalsOf p
     whole-totals c e =

@@ -30,7 +30,7 @@ plan2 =
       links = record { low = 0; high = 1 } ∷ [];
       events = record { probability = 100000000; nodes = 0; links = 1 } ∷ [];
       threshold = 100000000000000000;
-      limit = 100;
+      cap = 100;
     }
 
 abbrev bothBounds : ℕ → PairBounds
@@ -55,11 +55,11 @@ example-exact = (refl, refl)
 
 -- its lists; with a cap of 0 in the second case
 abbrev header : ℕ → Header
-header limit = record { nodes = 2; links = 1; events = 1; threshold = 1; limit = limit }
+header cap = record { nodes = 2; links = 1; events = 1; threshold = 1; cap = cap }
 
 abbrev number : ℕ → List ℕ → List ℕ → ℕ → ℕ
-number limit lower windows minute =
-    runAtNumber (inWords (header limit) (0 ∷ 1 ∷ []) (100000000 ∷ 0 ∷ 1 ∷ 0 ∷ [])) (length lower) 1 windows minute
+number cap lower windows minute =
+    runAtNumber (inWords (header cap) (0 ∷ 1 ∷ []) (100000000 ∷ 0 ∷ 1 ∷ 0 ∷ [])) (length lower) 1 windows minute
 
 -- a window whose end is its start, and a minute past the week: 6 for the cap, 12 for a list of bounds, 21, then 22
 example-order : (number 100 (7 ∷ []) (0 ∷ 1 ∷ 0 ∷ 1 ∷ 0 ∷ []) 0 ≡ 0) × (number 0 [] (7 ∷ 7 ∷ 0 ∷ 0 ∷ 0 ∷ []) 10080 ≡ 6)

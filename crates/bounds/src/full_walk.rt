@@ -41,7 +41,7 @@ pub fn walk_all(
     let at = walk::begin(&mut stack);
     let so_far = Tally {
         at,
-        left: h.limit,
+        left: h.cap,
         number: 0,
         mass: 0,
     };

@@ -41,10 +41,10 @@ module _ (b : List ℕ) (bytes : Bytes b) (e : refusal b ≡ 0) where
 
 -- the header of a refusal has no node: the writer refuses it, and leaves the output as it was
 none-written : (links : List ℕ) (records : List Event) (out left : List ℕ) (w : Writing)
-    → Outcome (inRecords (record { nodes = 0; links = 0; events = 0; threshold = 0; limit = 0 }) links records) out left w → left ≡ out
+    → Outcome (inRecords (record { nodes = 0; links = 0; events = 0; threshold = 0; cap = 0 }) links records) out left w → left ≡ out
 unfolding writeNumber listsNumber first
 none-written links records out left w o =
-    let l : Lent = inRecords (record { nodes = 0; links = 0; events = 0; threshold = 0; limit = 0 }) links records in
+    let l : Lent = inRecords (record { nodes = 0; links = 0; events = 0; threshold = 0; cap = 0 }) links records in
     o .1 ∙ ap (λ (x : Writing). filled (writtenNumber x) (layout (planLent l)) out) (o .0)
 
 refused-first : (b : List ℕ) (room k : ℕ) → refusal b ≡ suc k → copyNumber b room ≡ suc k

@@ -216,7 +216,7 @@ pub fn header_in(answer: Reading) -> Header
             links: 0,
             events: 0,
             threshold: 0,
-            limit: 0,
+            cap: 0,
         },
         Reading::Accepted(header) => header,
     }

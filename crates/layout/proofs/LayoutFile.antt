@@ -13,11 +13,11 @@ use Rattle.mass.specs.Refusal.{first}
 use Rattle.mass.proofs.RefusalLaws.{first-none, refuse-none}
 use Rattle.mass.specs.Split.{certain, whole}
 use Rattle.plan.specs.Plan.{Plan, Link}
-use Rattle.refusals.specs.Tests.{markTest, versionTest, countsTest, thresholdTest, limitTest, endsTest}
+use Rattle.refusals.specs.Tests.{markTest, versionTest, countsTest, thresholdTest, capTest, endsTest}
 use Rattle.plan.specs.Lists.{linksOf, linkBytes}
 use Rattle.plan.specs.Layout.{value, little, eventBytes, headerBytes, layout, Bytes}
 use Rattle.plan.specs.File.{headerRefusal, linksRefusal, eventsRefusal, refusal, planOf, versionIn, nodesIn, linksIn, eventsIn, thresholdIn}
-use Rattle.plan.specs.File.{limitIn}
+use Rattle.plan.specs.File.{capIn}
 use Rattle.plan.specs.LentLists.{linkListRefusal, eventListRefusal, planRefusal}
 use Rattle.refusals.proofs.TestLaws.{short-none, short-pass, mark-none, version-none, counts-none, or-none, Ranges}
 use Rattle.layout.proofs.LayoutNumbers.{value-little, bytes-drop, little-again}
@@ -127,14 +127,14 @@ fields-again b h =
 threshold-fits : (t : ℕ) → thresholdTest t ≡ 0 → t < 256 ^ 8
 threshold-fits t e = let h : t ≤ whole = ltb-false whole t (or-none (ltb t 1) (ltb whole t) (refuse-none _ 4 e) .1) in omega arith
 
-limit-fits : (c : ℕ) → limitTest c ≡ 0 → c < 256 ^ 4
-limit-fits c e = let h : c ≤ 1000000 = ltb-false 1000000 c (or-none (ltb c 1) (ltb 1000000 c) (refuse-none _ 5 e) .1) in omega arith
+cap-fits : (c : ℕ) → capTest c ≡ 0 → c < 256 ^ 4
+cap-fits c e = let h : c ≤ 1000000 = ltb-false 1000000 c (or-none (ltb c 1) (ltb 1000000 c) (refuse-none _ 5 e) .1) in omega arith
 
 -- what a valid plan says
 pub record ValidPlan (p : Plan) : Type 0 where
   pub counts : countsTest (p .nodes) (length (p .links)) (length (p .events)) ≡ 0
   pub threshold : thresholdTest (p .threshold) ≡ 0
-  pub limit : limitTest (p .limit) ≡ 0
+  pub cap : capTest (p .cap) ≡ 0
   pub links : linkListRefusal (p .nodes) (p .links) ≡ 0
   pub events : eventListRefusal (p .nodes) (length (p .links)) certain (p .events) ≡ 0
 
@@ -145,11 +145,11 @@ valid-none p e =
     let t = first-none _ _ (c .1) in
     let m = first-none _ _ (t .1) in
     let l = first-none _ _ (m .1) in
-    record { counts = c .0; threshold = t .0; limit = m .0; links = l .0; events = first-none _ _ (l .1) .0 }
+    record { counts = c .0; threshold = t .0; cap = m .0; links = l .0; events = first-none _ _ (l .1) .0 }
 
 pub valid-pass : (p : Plan) → ValidPlan p → planRefusal p ≡ 0
 unfolding planRefusal first
-valid-pass p v = rw (v .counts, v .threshold, v .limit, v .links, v .events)
+valid-pass p v = rw (v .counts, v .threshold, v .cap, v .links, v .events)
 
 -- what an accepted header says
 pub record AcceptedHeader (b : List ℕ) : Type 0 where
@@ -158,7 +158,7 @@ pub record AcceptedHeader (b : List ℕ) : Type 0 where
   pub version : versionTest (versionIn b) ≡ 0
   pub counts : countsTest (nodesIn b) (linksIn b) (eventsIn b) ≡ 0
   pub threshold : thresholdTest (thresholdIn b) ≡ 0
-  pub limit : limitTest (limitIn b) ≡ 0
+  pub cap : capTest (capIn b) ≡ 0
 
 pub header-none : (b : List ℕ) → headerRefusal b ≡ 0 → AcceptedHeader b
 unfolding headerRefusal
@@ -174,12 +174,12 @@ header-none b e =
       version = v .0;
       counts = c .0;
       threshold = t .0;
-      limit = first-none _ _ (t .1) .0;
+      cap = first-none _ _ (t .1) .0;
     }
 
 pub header-pass : (b : List ℕ) → AcceptedHeader b → headerRefusal b ≡ 0
 unfolding headerRefusal first
-header-pass b a = rw (short-pass (length b) 20 (a .long), a .mark, a .version, a .counts, a .threshold, a .limit)
+header-pass b a = rw (short-pass (length b) 20 (a .long), a .mark, a .version, a .counts, a .threshold, a .cap)
 
 -- what an accepted list of bytes says
 pub record AcceptedFile (b : List ℕ) : Type 0 where
@@ -208,9 +208,9 @@ module _ (p : Plan) (v : ValidPlan p) where
   unfolding layout headerBytes little
   threshold-back = unfold little in (value-little 8 (p .threshold) (threshold-fits (p .threshold) (v .threshold)))
 
-  limit-back : limitIn (layout p) ≡ p .limit
+  cap-back : capIn (layout p) ≡ p .cap
   unfolding layout headerBytes little
-  limit-back = unfold little in (value-little 4 (p .limit) (limit-fits (p .limit) (v .limit)))
+  cap-back = unfold little in (value-little 4 (p .cap) (cap-fits (p .cap) (v .cap)))
 
   after-header : drop 20 (layout p) ≡ linkBytes (p .links) ++ eventBytes (p .events)
   unfolding layout headerBytes little
@@ -235,7 +235,7 @@ module _ (p : Plan) (v : ValidPlan p) where
               version = unfold value in refl;
               counts = v .counts;
               threshold = rw threshold-back (v .threshold);
-              limit = rw limit-back (v .limit);
+              cap = rw cap-back (v .cap);
             };
         links = links-accepted (p .nodes) (p .links) (eventBytes (p .events)) (v .links) .accepted;
         events =
@@ -264,7 +264,7 @@ module _ (p : Plan) (v : ValidPlan p) where
         links-back,
         events-back,
         threshold-back,
-        limit-back,
+        cap-back,
         after-links,
         after-header,
         links-accepted (p .nodes) (p .links) (eventBytes (p .events)) (v .links) .back,
@@ -294,7 +294,7 @@ module _ (b : List ℕ) (bytes : Bytes b) (a : AcceptedFile b) where
       record {
         counts = rw (link-part .counted, event-part .counted) (a .header .counts);
         threshold = a .header .threshold;
-        limit = a .header .limit;
+        cap = a .header .cap;
         links = link-part .valid;
         events = rw (link-part .counted) (event-part .valid);
       }
@@ -311,7 +311,7 @@ module _ (b : List ℕ) (bytes : Bytes b) (a : AcceptedFile b) where
       let two : little 2 1 ≡ take 2 (drop 3 b) = rw (version-none (versionIn b) (a .header .version)) at (field 2 3 (omega arith)) in
       rw (
         append-assoc (little 2 1) _ (drop 20 b),
-        append-assoc (little 8 (thresholdIn b)) (little 4 (limitIn b)) (drop 20 b),
+        append-assoc (little 8 (thresholdIn b)) (little 4 (capIn b)) (drop 20 b),
         link-part .counted,
         event-part .counted,
         two,

@@ -37,7 +37,7 @@ fullPlan =
       links = replicate 128 (record { low = 0; high = 1 });
       events = replicate 128 fullEvent;
       threshold = 1;
-      limit = 1;
+      cap = 1;
     }
 
 pub full-valid : planRefusal fullPlan ≡ 0

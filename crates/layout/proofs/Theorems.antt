@@ -69,7 +69,7 @@ lists-denote l e =
     (record {
       counts = rw (length-links-of (l .header .links) (l .links), length-events-of (l .header .events) (l .words)) (c .0);
       threshold = t .0;
-      limit = m .0;
+      cap = m .0;
       links = k .0;
       events = rw (length-links-of (l .header .links) (l .links)) (first-none _ _ (k .1) .0);
     })
@@ -88,7 +88,7 @@ lists-accepted l long wide e =
     rw (
       counts,
       v .threshold,
-      v .limit,
+      v .cap,
       room-pass (length (l .links)) (2 * h .links) (omega (arith, fit .links-fit)),
       room-pass (l .room) (h .events) (omega (arith, fit .events-fit)),
       v .links,

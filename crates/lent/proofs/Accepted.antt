@@ -11,7 +11,7 @@ use lib.ListN.{length}
 use Rattle.mass.proofs.RefusalLaws.{refuse-none}
 use Rattle.mass.specs.Split.{certain}
 use Rattle.plan.specs.Plan.{Link}
-use Rattle.refusals.specs.Tests.{endsTest, limitTest}
+use Rattle.refusals.specs.Tests.{endsTest, capTest}
 use Rattle.plan.specs.Lists.{linksOf, eventsOf}
 use Rattle.plan.specs.LentLists.{linkListRefusal, planRefusal, planOfLists, inWords, listsNumber}
 use Rattle.plan.specs.Held.{EndsBelow, Falling, Held}
@@ -35,9 +35,9 @@ ends-below nodes [] e i h = absurd (omega arith)
 ends-below nodes (l ∷ ls) e zero h = ends-none nodes (l .low) (l .high) (link-list-none nodes l ls e .0)
 ends-below nodes (l ∷ ls) e (suc i) h = ends-below nodes ls (link-list-none nodes l ls e .1) i (omega arith)
 
-limit-few : (limit : ℕ) → limitTest limit ≡ 0 → limit < 4294967296
-limit-few limit e =
-    let most : limit ≤ 1000000 = ltb-false 1000000 limit (or-none (ltb limit 1) (ltb 1000000 limit) (refuse-none _ 5 e) .1) in
+cap-few : (cap : ℕ) → capTest cap ≡ 0 → cap < 4294967296
+cap-few cap e =
+    let most : cap ≤ 1000000 = ltb-false 1000000 cap (or-none (ltb cap 1) (ltb 1000000 cap) (refuse-none _ 5 e) .1) in
     omega arith
 
 -- what the lists of a valid plan hold
@@ -67,9 +67,9 @@ module _ (h : Header) (links words : List ℕ) (good : planRefusal (planOfLists 
         falling = events-fall;
       }
 
-  pub plan-limited : h .limit < 4294967296
+  pub plan-cap-small : h .cap < 4294967296
   unfolding planOfLists
-  plan-limited = limit-few (h .limit) (valid .limit)
+  plan-cap-small = cap-few (h .cap) (valid .cap)
 
 -- accepted lists were taken by copies of their first 256 bytes and 512 words
 pub taken : (h : Header) (links events bytes wide : List ℕ) → length bytes ≡ 256 → length wide ≡ 512 → (bytes′ wide′ : List ℕ)
@@ -84,5 +84,5 @@ taken h links events bytes wide b w bytes′ wide′ c d z =
       valid = good;
       held = plan-held h bytes′ wide′ held′;
       some-node = plan-counted h links events good .some;
-      limited = plan-limited h links events good;
+      cap-small = plan-cap-small h links events good;
     }

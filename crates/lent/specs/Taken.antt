@@ -13,4 +13,4 @@ pub record Taken (h : Header) (links events bytes words : List ℕ) : Type 0 whe
   pub valid : planRefusal (planOfLists h links events) ≡ 0
   pub held : Held h bytes words
   pub some-node : 1 ≤ h .nodes
-  pub limited : h .limit < 4294967296
+  pub cap-small : h .cap < 4294967296

@@ -122,7 +122,7 @@ pub fn lists_refusal(h: Header, links: &[u8], events: &[u64]) -> u32
     let numbers = [
         refusals::counts_test(h.nodes, h.links, h.events),
         refusals::threshold_test(h.threshold),
-        refusals::limit_test(h.limit),
+        refusals::cap_test(h.cap),
     ];
     let header = refusals::first_of(&numbers);
     if header != 0 {

@@ -70,7 +70,7 @@ Each P (entry ∷ entries) = P entry × Each P entries
 
 -- "N = 2 and one link 0-1, t = 1, cap = 100, unless said": plans of two nodes, by links, events, t and cap
 abbrev two : List Link → List Event → ℕ → ℕ → Plan
-two links events t limit = record { nodes = 2; links = links; events = events; threshold = t; limit = limit }
+two links events t cap = record { nodes = 2; links = links; events = events; threshold = t; cap = cap }
 
 -- the link 0-1, and an event of probability q on a set of links
 abbrev line : Link
@@ -91,7 +91,7 @@ triangle =
       links = record { low = 0; high = 1 } ∷ record { low = 0; high = 2 } ∷ record { low = 1; high = 2 } ∷ [];
       events = on 1 1 ∷ on 2 1 ∷ on 4 1 ∷ [];
       threshold = 1;
-      limit = 100;
+      cap = 100;
     }
 
 -- 1. "No link, no event, t = 10^18: examined 1, bounds 10^18 and 10^18."
@@ -205,7 +205,7 @@ number9 = planned (record {
 -- 10. "N = 1, no link, no event: no pairs."
 abbrev pub number10 : MarkedEntry
 number10 = planned (record {
-  plan = record { nodes = 1; links = []; events = []; threshold = 1; limit = 100 };
+  plan = record { nodes = 1; links = []; events = []; threshold = 1; cap = 100 };
   examined = 1;
   complete = 1;
   mass = 1000000000000000000;

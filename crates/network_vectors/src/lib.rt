@@ -45,7 +45,7 @@ pub fn held(n: usize, links: &[u8; 256], count: usize) -> bool
         links: count as u64,
         events: 0,
         threshold: 1,
-        limit: 1,
+        cap: 1,
     };
     lent::lists_refusal(h, links, &words) == 0
 }

@@ -24,7 +24,7 @@ use Rattle.node_reach.specs.NodeReach.{linksNumber, nodeTest, reachIn, r
 
 -- a header without events
 abbrev pub plain : ℕ → ℕ → Header
-plain nodes count = record { nodes = nodes; links = count; events = 0; threshold = 1; limit = 1 }
+plain nodes count = record { nodes = nodes; links = count; events = 0; threshold = 1; cap = 1 }
 
 -- tests that pass may be left out
 left-out : (counts room ends : ℕ) → first (counts ∷ 0 ∷ 0 ∷ room ∷ 0 ∷ ends ∷ 0 ∷ []) ≡ first (counts ∷ room ∷ ends ∷ [])

@@ -19,7 +19,7 @@ fn accept_links(nodes: u64, count: u64, links: &[u8], bytes: &mut [u8; 256]) -> 
         links: count,
         events: 0,
         threshold: 1,
-        limit: 1,
+        cap: 1,
     };
     let none = [0u64; 1];
     let mut words = [0u64; 512];

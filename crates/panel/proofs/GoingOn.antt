@@ -11,7 +11,7 @@ use Rattle.sets.specs.Sets.{digit}
 use Rattle.plan.specs.Plan.{Plan}
 use Rattle.plan.specs.Held.{Held}
 use Rattle.plan.specs.LentLists.{planOfLists}
-use Rattle.lent.proofs.Accepted.{plan-held, plan-limited}
+use Rattle.lent.proofs.Accepted.{plan-held, plan-cap-small}
 use Rattle.network.specs.Outage.{intact}
 use Rattle.walk.specs.Scenario.{Scenario}
 use Rattle.walk.specs.Ends.{End, sumEnds}
@@ -40,8 +40,8 @@ module _ (w : Walk) (s : SoundWalk w) where
   pub held : Held (w .header) (w .links) (w .events)
   held = plan-held (w .header) (w .links) (w .events) (s .valid)
 
-  pub limited : w .header .limit < 4294967296
-  limited = plan-limited (w .header) (w .links) (w .events) (s .valid)
+  pub cap-small : w .header .cap < 4294967296
+  cap-small = plan-cap-small (w .header) (w .links) (w .events) (s .valid)
 
   module _ (stack-size : length (w .stack) ≡ 512) where
     pub sound-stack : Stack (w .header .events) (w .at) (w .stack)
@@ -53,7 +53,7 @@ module _ (w : Walk) (s : SoundWalk w) where
           entries = entries-are _ (whole - w .mass) (drop (w .at) (w .stack)) (omega arith) (s .entries) .0;
         }
 
-    pub ready : (allowed : ℕ) → allowed + w .reached ≤ w .header .limit → length (w .sums) ≡ 2016
+    pub ready : (allowed : ℕ) → allowed + w .reached ≤ w .header .cap → length (w .sums) ≡ 2016
         → Ready (w .header) (w .links) (w .events) (runState (w .stack) (w .sums) (tallyOf w allowed))
     ready allowed fits size =
         record {
@@ -70,7 +70,7 @@ module _ (w : Walk) (s : SoundWalk w) where
                     (held-probable (w .header) (w .links) (w .events) held)
                     allowed,
               );
-          counted = omega (arith, s .few, limited);
+          counted = omega (arith, s .few, cap-small);
         }
 
 -- ---- the first ends of a list, and more of them
@@ -126,7 +126,7 @@ module _ (w : Walk) (allowed : ℕ) (stack′ sums′ : List ℕ) (r : Tally)
   got-is = omega (arith, t .left, length-take allowed (endsToCome w))
 
   -- what it has so far is that of the plan with a cap of so many ends
-  module _ (n : ℕ) (at : WalkAt intact (walkPlan w) n w) (fits : allowed + n ≤ w .header .limit) where
+  module _ (n : ℕ) (at : WalkAt intact (walkPlan w) n w) (fits : allowed + n ≤ w .header .cap) where
     abbrev p : Plan
     p = walkPlan w
 
@@ -176,7 +176,7 @@ module _ (w : Walk) (allowed : ℕ) (stack′ sums′ : List ℕ) (r : Tally)
     kept-here : WalkAt intact p (n + (allowed - r .left)) (walkOn (allowed - r .left))
     kept-here = subst (λ (x : ℕ). WalkAt intact p (n + x) (walkOn x)) (sym same-got) own-kept
 
-  kept : (q : Plan) (n : ℕ) → WalkAt intact q n w → allowed + w .reached ≤ w .header .limit
+  kept : (q : Plan) (n : ℕ) → WalkAt intact q n w → allowed + w .reached ≤ w .header .cap
       → WalkAt intact q (n + (allowed - r .left)) (walkOn (allowed - r .left))
   kept q n at fits =
       subst (λ (x : Plan). WalkAt intact x n w → WalkAt intact x (n + (allowed - r .left)) (walkOn (allowed - r .left))) (at .plan)
@@ -184,7 +184,7 @@ module _ (w : Walk) (allowed : ℕ) (stack′ sums′ : List ℕ) (r : Tally)
       at
 
   -- law: it has reached so many ends more as there are of those allowed, and a walk of a plan stays one
-  pub walked : allowed + w .reached ≤ w .header .limit → WalkedOn w allowed (walkOn (allowed - r .left))
+  pub walked : allowed + w .reached ≤ w .header .cap → WalkedOn w allowed (walkOn (allowed - r .left))
   walked fits =
       record {
         reached = ap (λ (x : ℕ). w .reached + x) got-is;

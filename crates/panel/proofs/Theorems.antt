@@ -79,7 +79,7 @@ own-left w n at =
       at .within,
       ap length (at .ends),
       length-drop n (planEnds (walkPlan w)),
-      length-take (w .header .limit) (planEnds (walkPlan w)),
+      length-take (w .header .cap) (planEnds (walkPlan w)),
     )
 
 pub walk-left : (p : Plan) (n : ℕ) (w : Walk) → WalkAt intact p n w → endsLeft w ≡ length (firstEnds p) - n
@@ -119,12 +119,12 @@ quota-empty p n w quota k r at went some more empty =
 
 -- ---- the cap of an accepted plan, and any cap up to it
 
-cap-range : (p : Plan) → planRefusal p ≡ 0 → (1 ≤ p .limit) × (p .limit ≤ 1000000)
+cap-range : (p : Plan) → planRefusal p ≡ 0 → (1 ≤ p .cap) × (p .cap ≤ 1000000)
 cap-range p e =
-    let t = or-none (ltb (p .limit) 1) (ltb 1000000 (p .limit)) (refuse-none _ 5 (valid-none p e .limit)) in
-    (ltb-false (p .limit) 1 (t .0), ltb-false 1000000 (p .limit) (t .1))
+    let t = or-none (ltb (p .cap) 1) (ltb 1000000 (p .cap)) (refuse-none _ 5 (valid-none p e .cap)) in
+    (ltb-false (p .cap) 1 (t .0), ltb-false 1000000 (p .cap) (t .1))
 
-capped-valid : (p : Plan) (n : ℕ) → planRefusal p ≡ 0 → 1 ≤ n → n ≤ p .limit → planRefusal (capped p n) ≡ 0
+capped-valid : (p : Plan) (n : ℕ) → planRefusal p ≡ 0 → 1 ≤ n → n ≤ p .cap → planRefusal (capped p n) ≡ 0
 capped-valid p n e some under =
     let v = valid-none p e in
     let most : n ≤ 1000000 = omega (arith, cap-range p e .1) in
@@ -132,7 +132,7 @@ capped-valid p n e some under =
     (record {
       counts = v .counts;
       threshold = v .threshold;
-      limit = rw (le-ltb n 1 some, le-ltb 1000000 n most);
+      cap = rw (le-ltb n 1 some, le-ltb 1000000 n most);
       links = v .links;
       events = v .events;
     })
@@ -185,19 +185,19 @@ module _ (p : Plan) where
   -- a cap that takes the same ends
   module _ (m : ℕ) (is : m ≡ length (firstEnds p)) where
     same-ends : take m (planEnds p) ≡ firstEnds p
-    same-ends = ap (λ (x : ℕ). take x (planEnds p)) is ∙ take-there (p .limit) (planEnds p)
+    same-ends = ap (λ (x : ℕ). take x (planEnds p)) is ∙ take-there (p .cap) (planEnds p)
 
     same-complete : complete (capped p m) ≡ complete p
-    same-complete = step (decLe (length (planEnds p)) (p .limit))
+    same-complete = step (decLe (length (planEnds p)) (p .cap))
       where
-        long : length (firstEnds p) ≡ min (p .limit) (length (planEnds p))
-        long = length-take (p .limit) (planEnds p)
+        long : length (firstEnds p) ≡ min (p .cap) (length (planEnds p))
+        long = length-take (p .cap) (planEnds p)
 
-        step : Dec (length (planEnds p) ≤ p .limit) → complete (capped p m) ≡ complete p
+        step : Dec (length (planEnds p) ≤ p .cap) → complete (capped p m) ≡ complete p
         step (yes h) =
-            ap digit (le-leb (length (planEnds p)) m (omega (arith, is, long)) ∙ sym (le-leb (length (planEnds p)) (p .limit) h))
+            ap digit (le-leb (length (planEnds p)) m (omega (arith, is, long)) ∙ sym (le-leb (length (planEnds p)) (p .cap) h))
         step (no h) =
-            ap digit (lt-leb (length (planEnds p)) m (omega (arith, is, long)) ∙ sym (lt-leb (length (planEnds p)) (p .limit) (omega arith)))
+            ap digit (lt-leb (length (planEnds p)) m (omega (arith, is, long)) ∙ sym (lt-leb (length (planEnds p)) (p .cap) (omega arith)))
 
     same-totals : totalsOf (capped p m) ≡ totalsOf p
     same-totals =
@@ -212,15 +212,15 @@ module _ (p : Plan) where
         }
 
   -- law: after a begin and one go-on with k = cap and enough quota, looks show what the run gives
-  pub run-in-steps : (w : Walk) (quota : Quota) (r : GoneOn) → WalkAt intact p 0 w → p .limit ≤ quota .left → WentOn w quota (p .limit) r
+  pub run-in-steps : (w : Walk) (quota : Quota) (r : GoneOn) → WalkAt intact p 0 w → p .cap ≤ quota .left → WentOn w quota (p .cap) r
       → (r .number ≡ 0) × (lookOf (r .walk) ≡ totalsOf p)
       × ((v x : ℕ) → v < x → x < p .nodes → lookPairOf (r .walk) v x ≡ boundsOf intact p v x)
   run-in-steps w quota r at enough went =
       let all : r .reached ≡ length (firstEnds p) =
-      omega (arith, reaches p 0 w quota (p .limit) r at went, length-take (p .limit) (planEnds p)) in
+      omega (arith, reaches p 0 w quota (p .cap) r at went, length-take (p .cap) (planEnds p)) in
       let same : 0 + r .reached ≡ r .reached = omega arith in
       let here = subst (λ (x : ℕ). WalkAt intact p x (r .walk)) same (went .moved p 0 at) in (
-        went .number ∙ not-empty w quota (p .limit) (omega (arith, cap-range p (at .valid) .0)),
+        went .number ∙ not-empty w quota (p .cap) (omega (arith, cap-range p (at .valid) .0)),
         looked p (r .reached) (r .walk) here ∙ same-totals (r .reached) all,
         λ v x l k. pair-looked p (r .reached) (r .walk) here v x l k ∙ same-bounds (r .reached) all v x,
       )

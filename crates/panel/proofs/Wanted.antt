@@ -50,7 +50,7 @@ module _ (w : Walk) where
   unfolding openEnds
   open-ended h e = rw (e, le-ltb (w .at) 512 h, openEnds)
 
-  pub open-sound : w .at < 512 → sound w ≡ true → openEnds w ≡ w .header .limit - w .reached
+  pub open-sound : w .at < 512 → sound w ≡ true → openEnds w ≡ w .header .cap - w .reached
   unfolding openEnds
   open-sound h e = rw (e, lt-ltb (w .at) 512 h, openEnds)
 
@@ -85,7 +85,7 @@ module _ (w : Walk) (size : length (w .stack) ≡ 512) (k : ℕ) where
   -- what holds where an end may be reached
   pub record Open : Type 0 where
     pub is-sound : sound w ≡ true
-    pub allows : openEnds w ≡ w .header .limit - w .reached
+    pub allows : openEnds w ≡ w .header .cap - w .reached
     pub some : 0 < length (endsToCome w)
     pub wanted : 0 < endsWanted w k
 
@@ -102,7 +102,7 @@ module _ (w : Walk) (size : length (w .stack) ≡ 512) (k : ℕ) where
             is-sound = e;
             allows = left;
             some = some;
-            wanted = rw (wanted-sound w k e) (some-wanted k (w .header .limit - w .reached) (length (endsToCome w)) (rw left at z) some);
+            wanted = rw (wanted-sound w k e) (some-wanted k (w .header .cap - w .reached) (length (endsToCome w)) (rw left at z) some);
           }
 
 -- ---- the quota
@@ -170,12 +170,12 @@ module _ (w : Walk) (quota : Quota) (k : ℕ) where
 module _ (w : Walk) (quota : Quota) (k : ℕ) (size : length (w .stack) ≡ 512) (o : Open w size k) (allowed : ℕ)
     (fits : allowed ≡ min (min k (openEnds w)) (quota .left)) where
   abbrev cap-left : ℕ
-  cap-left = w .header .limit - w .reached
+  cap-left = w .header .cap - w .reached
 
   fits-cap : allowed ≡ min (min k cap-left) (quota .left)
   fits-cap = fits ∙ ap (λ (x : ℕ). min (min k x) (quota .left)) (o .allows)
 
-  pub under-cap : allowed + w .reached ≤ w .header .limit
+  pub under-cap : allowed + w .reached ≤ w .header .cap
   under-cap = omega (arith, fits-cap, sound-is w (o .is-sound) .under-cap)
 
   -- the walk goes on to `r`

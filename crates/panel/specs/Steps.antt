@@ -13,7 +13,7 @@ use Rattle.panel.specs.Walks.{endsToCome, WalkAt}
 
 -- how many ends the cap still allows: none from a state that is no walk or has no end to come
 unfoldable pub openEnds : Walk → ℕ
-openEnds w = elim (sound w && ltb (w .at) 512) [ true ↦ w .header .limit - w .reached | false ↦ 0 ]
+openEnds w = elim (sound w && ltb (w .at) 512) [ true ↦ w .header .cap - w .reached | false ↦ 0 ]
 
 -- how many of so many ends there are
 abbrev pub endsThere : Walk → ℕ → ℕ

@@ -18,7 +18,7 @@ use Rattle.walk_state.specs.declared.Walk.{Walk}
 
 -- "a run whose cap is the number of ends reached so far": the plan with its cap replaced by r
 abbrev pub capped : Plan → ℕ → Plan
-capped p r = record { nodes = p .nodes; links = p .links; events = p .events; threshold = p .threshold; limit = r }
+capped p r = record { nodes = p .nodes; links = p .links; events = p .events; threshold = p .threshold; cap = r }
 
 -- the plan that a walk holds
 abbrev pub walkPlan : Walk → Plan
@@ -30,7 +30,7 @@ endsToCome w = toCome (w .header .events) (w .header .threshold) (w .events) (w 
 
 -- "the ends the walk still has under the plan's cap"
 abbrev pub endsLeft : Walk → ℕ
-endsLeft w = min (w .header .limit - w .reached) (length (endsToCome w))
+endsLeft w = min (w .header .cap - w .reached) (length (endsToCome w))
 
 -- w is a walk of the plan p that has reached its first r ends: the others are to come, and what it has so far is that of the plan with
 -- cap r
@@ -38,7 +38,7 @@ pub record WalkAt (out : Outage) (p : Plan) (r : ℕ) (w : Walk) : Type 0 where
   pub plan : walkPlan w ≡ p
   pub valid : planRefusal p ≡ 0
   pub reached : w .reached ≡ r
-  pub under-cap : r ≤ p .limit
+  pub under-cap : r ≤ p .cap
   pub within : r ≤ length (planEnds p)
   pub stacked : Stack (w .header .events) (w .at) (w .stack)
   pub ends : endsToCome w ≡ drop r (planEnds p)

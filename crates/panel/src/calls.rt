@@ -102,12 +102,12 @@ fn ends_open(w: Walk) -> u64
     if 512 <= w.at {
         return 0;
     }
-    h.limit - w.reached
+    h.cap - w.reached
 }
 
 // Goes on with a walk, by the loop of the run, for at most so many ends as are allowed.
 fn reach(w: Walk, allowed: u64) -> Walk
-    requires { ⌜ (sound w ≡ true) × (allowed + w .reached ≤ w .header .limit) ⌝ }
+    requires { ⌜ (sound w ≡ true) × (allowed + w .reached ≤ w .header .cap) ⌝ }
     ensures { λ r. ⌜ WalkedOn w allowed r ⌝ }
 {
     let h = w.header;

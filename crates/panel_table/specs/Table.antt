@@ -15,7 +15,7 @@ use Rattle.panel.specs.declared.GoneOn.{GoneOn}
 
 -- its header with a cap, its links, and four words for each event
 abbrev pub tableHeader : ℕ → Header
-tableHeader limit = record { nodes = 3; links = 3; events = 4; threshold = 56000000000000000; limit = limit }
+tableHeader cap = record { nodes = 3; links = 3; events = 4; threshold = 56000000000000000; cap = cap }
 
 abbrev pub tableLinks : List ℕ
 tableLinks = 0 ∷ 1 ∷ 0 ∷ 2 ∷ 1 ∷ 2 ∷ []
@@ -26,8 +26,8 @@ tableEvents =
 
 -- what a begin of this plan with a cap answers: the walk at its root, or the number and a walk of zeros
 abbrev pub begunWith : ℕ → WalkAnswer
-begunWith limit =
-    walkAnswer (listsNumber (inWords (tableHeader limit) tableLinks tableEvents)) (rootWalk (tableHeader limit) tableLinks tableEvents)
+begunWith cap =
+    walkAnswer (listsNumber (inWords (tableHeader cap) tableLinks tableEvents)) (rootWalk (tableHeader cap) tableLinks tableEvents)
 
 -- the walk that a go-on for at most k ends leaves
 pub record LeftBy (w : Walk) (quota : Quota) (k : ℕ) (r : Walk) : Type 0 where

@@ -12,7 +12,7 @@ fn same_header(label: &[u8], got: Walk, want: Walk) {
     same_part(label, b"links", a.links, b.links);
     same_part(label, b"events", a.events, b.events);
     same_part(label, b"threshold", a.threshold, b.threshold);
-    same_part(label, b"cap", a.limit, b.limit);
+    same_part(label, b"cap", a.cap, b.cap);
 }
 
 fn same_links(label: &[u8], got: [u8; 256], want: [u8; 256]) {

@@ -8,7 +8,7 @@ use lib.Seq.{sets}
 use Rattle.mass.specs.Refusal.{first, answered}
 use Rattle.refusals.specs.Tests.{roomTest}
 use Rattle.plan.specs.Layout.{layout}
-use Rattle.plan.specs.File.{refusal, memberRefusal, nodesIn, linksIn, eventsIn, thresholdIn, limitIn}
+use Rattle.plan.specs.File.{refusal, memberRefusal, nodesIn, linksIn, eventsIn, thresholdIn, capIn}
 use Rattle.plan.specs.LentLists.{Lent, listsNumber, planLent}
 use Rattle.plan.specs.declared.Header.{Header}
 use Rattle.plan.specs.declared.Element.{Element}
@@ -50,7 +50,7 @@ headerOf b =
       links = linksIn b;
       events = eventsIn b;
       threshold = thresholdIn b;
-      limit = limitIn b;
+      cap = capIn b;
     }
 
 -- reading a plan: 1 to 11, then 12 where a lent list has no room; the lists have room for `linkRoom` bytes and `eventRoom` whole events
@@ -68,7 +68,7 @@ readingNumber (reading.Accepted header) = 0
 
 -- the header of an answer: all numbers are 0 where it refuses
 abbrev pub headerIn : Reading → Header
-headerIn (reading.Refused number) = record { nodes = 0; links = 0; events = 0; threshold = 0; limit = 0 }
+headerIn (reading.Refused number) = record { nodes = 0; links = 0; events = 0; threshold = 0; cap = 0 }
 headerIn (reading.Accepted header) = header
 
 -- writing a plan: the tests of the lists, then 12 where the output has no room

@@ -11,7 +11,7 @@ use Rattle.mass.specs.Split.{certain, probabilityTest}
 use Rattle.plan.specs.Plan.{Plan, Event}
 use Rattle.plan.specs.Lists.{linksOf}
 use Rattle.plan.specs.Layout.{value}
-use Rattle.refusals.specs.Tests.{shortTest, markTest, versionTest, countsTest, thresholdTest, limitTest, endsTest, orderTest, memberTest}
+use Rattle.refusals.specs.Tests.{shortTest, markTest, versionTest, countsTest, thresholdTest, capTest, endsTest, orderTest, memberTest}
 use Rattle.refusals.specs.Tests.{rank, leftTest}
 
 -- the fields of the header: the version, the counts of nodes, links and events, the threshold and the cap
@@ -30,8 +30,8 @@ eventsIn b = getD b 7 0
 abbrev pub thresholdIn : List ℕ → ℕ
 thresholdIn b = value (take 8 (drop 8 b))
 
-abbrev pub limitIn : List ℕ → ℕ
-limitIn b = value (take 4 (drop 16 b))
+abbrev pub capIn : List ℕ → ℕ
+capIn b = value (take 4 (drop 16 b))
 
 -- "1 for the header, then 2 to 6"
 unfoldable pub headerRefusal : List ℕ → ℕ
@@ -42,7 +42,7 @@ headerRefusal b =
     ∷ versionTest (versionIn b)
     ∷ countsTest (nodesIn b) (linksIn b) (eventsIn b)
     ∷ thresholdTest (thresholdIn b)
-    ∷ limitTest (limitIn b)
+    ∷ capTest (capIn b)
     ∷ [])
 
 -- "each link, 1 then 7"
@@ -133,5 +133,5 @@ planOf b =
       links = linksOf (linksIn b) (drop 20 b);
       events = eventsAt (eventsIn b) (drop (20 + 2 * linksIn b) b);
       threshold = thresholdIn b;
-      limit = limitIn b;
+      cap = capIn b;
     }

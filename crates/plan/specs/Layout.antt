@@ -53,7 +53,7 @@ headerBytes p =
     ++ (p .nodes
     ∷ length (p .links)
     ∷ length (p .events)
-    ∷ (little 8 (p .threshold) ++ little 4 (p .limit))))
+    ∷ (little 8 (p .threshold) ++ little 4 (p .cap))))
 
 -- the file of a plan
 unfoldable pub layout : Plan → List ℕ

@@ -7,7 +7,7 @@ use Rattle.mass.specs.Refusal.{first, each}
 use Rattle.mass.specs.Split.{certain, probabilityTest}
 use Rattle.plan.specs.Plan.{Plan, Link, Event}
 use Rattle.plan.specs.Lists.{linksOf, eventsOf}
-use Rattle.refusals.specs.Tests.{countsTest, thresholdTest, limitTest, endsTest, orderTest, setsTest, roomTest}
+use Rattle.refusals.specs.Tests.{countsTest, thresholdTest, capTest, endsTest, orderTest, setsTest, roomTest}
 use Rattle.plan.specs.declared.Header.{Header}
 
 -- "each link, 7"
@@ -31,7 +31,7 @@ planRefusal p =
     first
     (countsTest (p .nodes) (length (p .links)) (length (p .events))
     ∷ thresholdTest (p .threshold)
-    ∷ limitTest (p .limit)
+    ∷ capTest (p .cap)
     ∷ linkListRefusal (p .nodes) (p .links)
     ∷ eventListRefusal (p .nodes) (length (p .links)) certain (p .events)
     ∷ [])
@@ -44,7 +44,7 @@ planOfLists h links words =
       links = linksOf (h .links) links;
       events = eventsOf (h .events) words;
       threshold = h .threshold;
-      limit = h .limit;
+      cap = h .cap;
     }
 
 -- what is lent to a call: the header, the bytes of the links, the words of the events, and how many whole events there is room for
@@ -69,7 +69,7 @@ listsNumber l =
     first
     (countsTest (l .header .nodes) (l .header .links) (l .header .events)
     ∷ thresholdTest (l .header .threshold)
-    ∷ limitTest (l .header .limit)
+    ∷ capTest (l .header .cap)
     ∷ roomTest (length (l .links)) (2 * l .header .links)
     ∷ roomTest (l .room) (l .header .events)
     ∷ linkListRefusal (l .header .nodes) (linksOf (l .header .links) (l .links))

@@ -22,7 +22,7 @@ pub record Plan : Type 0 where
   pub links : List Link
   pub events : List Event
   pub threshold : ℕ
-  pub limit : ℕ
+  pub cap : ℕ
 
 -- link i of a list
 abbrev pub linkAt : List Link → ℕ → Link

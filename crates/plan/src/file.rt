@@ -26,7 +26,7 @@ pub fn header_refusal(s: &[u8]) -> u32
         refusals::version_test(number_at(s, 3, 2)),
         refusals::counts_test(byte_at(s, 5), byte_at(s, 6), byte_at(s, 7)),
         refusals::threshold_test(number_at(s, 8, 8)),
-        refusals::limit_test(number_at(s, 16, 4)),
+        refusals::cap_test(number_at(s, 16, 4)),
     ];
     refusals::first_of(&tests)
 }
@@ -41,7 +41,7 @@ pub fn header_of(s: &[u8]) -> Header
         links: byte_at(s, 6),
         events: byte_at(s, 7),
         threshold: number_at(s, 8, 8),
-        limit: number_at(s, 16, 4),
+        cap: number_at(s, 16, 4),
     }
 }
 

@@ -19,7 +19,7 @@ pub struct Header {
     pub links: u64,
     pub events: u64,
     pub threshold: u64,
-    pub limit: u64,
+    pub cap: u64,
 }
 
 // A member of an event, by its number.

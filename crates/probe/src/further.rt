@@ -19,20 +19,20 @@ pub extern "C" fn probe_figure(
     links_count: u64,
     events_count: u64,
     threshold: u64,
-    limit: u64,
+    cap: u64,
     links: &[u8],
     events: &[u64],
     v: u64,
     w: u64,
     bits: &mut [u64],
 ) -> u32
-    ensures number { λ r. ⌜ r ≡ pairNumber (inWords (headerWith nodes «links_count» «events_count» threshold limit)
+    ensures number { λ r. ⌜ r ≡ pairNumber (inWords (headerWith nodes «links_count» «events_count» threshold cap)
         (now (links .entry)) (now (events .entry))) v w ⌝ }
     ensures bits { λ r. ⌜ now (bits .exit) ≡ laid (figureValues (figureOf intact r
-        (planOfLists (headerWith nodes «links_count» «events_count» threshold limit) (now (links .entry)) (now (events .entry))) v w))
+        (planOfLists (headerWith nodes «links_count» «events_count» threshold cap) (now (links .entry)) (now (events .entry))) v w))
         (now (bits .entry)) ⌝ }
 {
-    let h = header(nodes, links_count, events_count, threshold, limit);
+    let h = header(nodes, links_count, events_count, threshold, cap);
     further_answers::give_figure(readings::figure(h, links, events, v, w), bits)
 }
 
@@ -42,20 +42,20 @@ pub extern "C" fn probe_witness(
     links_count: u64,
     events_count: u64,
     threshold: u64,
-    limit: u64,
+    cap: u64,
     links: &[u8],
     events: &[u64],
     v: u64,
     w: u64,
     result: &mut [u64],
 ) -> u32
-    ensures number { λ r. ⌜ r ≡ witnessNumber intact (inWords (headerWith nodes «links_count» «events_count» threshold limit)
+    ensures number { λ r. ⌜ r ≡ witnessNumber intact (inWords (headerWith nodes «links_count» «events_count» threshold cap)
         (now (links .entry)) (now (events .entry))) v w ⌝ }
     ensures result { λ r. ⌜ now (result .exit) ≡ laid (failingValues (witnessOf intact
-        (inWords (headerWith nodes «links_count» «events_count» threshold limit) (now (links .entry)) (now (events .entry))) v w))
+        (inWords (headerWith nodes «links_count» «events_count» threshold cap) (now (links .entry)) (now (events .entry))) v w))
         (now (result .entry)) ⌝ }
 {
-    let h = header(nodes, links_count, events_count, threshold, limit);
+    let h = header(nodes, links_count, events_count, threshold, cap);
     further_answers::give_failing(readings::witness(h, links, events, v, w), result)
 }
 
@@ -74,7 +74,7 @@ pub extern "C" fn probe_credit(
     links_count: u64,
     events_count: u64,
     threshold: u64,
-    limit: u64,
+    cap: u64,
     links: &[u8],
     events: &[u64],
     v: u64,
@@ -84,12 +84,12 @@ pub extern "C" fn probe_credit(
     rate: u64,
     result: &mut [u64],
 ) -> u32
-    ensures number { λ r. ⌜ r ≡ creditNumber (inWords (headerWith nodes «links_count» «events_count» threshold limit)
+    ensures number { λ r. ⌜ r ≡ creditNumber (inWords (headerWith nodes «links_count» «events_count» threshold cap)
         (now (links .entry)) (now (events .entry))) v w fee «limit_seconds» rate ⌝ }
     ensures result { λ r. ⌜ now (result .exit) ≡ laid (creditsValues (creditOf intact
-        (inWords (headerWith nodes «links_count» «events_count» threshold limit) (now (links .entry)) (now (events .entry))) v w
+        (inWords (headerWith nodes «links_count» «events_count» threshold cap) (now (links .entry)) (now (events .entry))) v w
         fee «limit_seconds» rate)) (now (result .entry)) ⌝ }
 {
-    let h = header(nodes, links_count, events_count, threshold, limit);
+    let h = header(nodes, links_count, events_count, threshold, cap);
     credit_answers::credit(h, links, events, v, w, fee, limit_seconds, rate, result)
 }

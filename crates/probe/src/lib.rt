@@ -50,15 +50,15 @@ pub extern "C" fn probe_read(
     answers::give_header(files::read(plan, links, events), numbers)
 }
 
-fn header(nodes: u64, links: u64, events: u64, threshold: u64, limit: u64) -> Header
-    ensures { λ r. ⌜ r ≡ headerWith nodes links events threshold limit ⌝ }
+fn header(nodes: u64, links: u64, events: u64, threshold: u64, cap: u64) -> Header
+    ensures { λ r. ⌜ r ≡ headerWith nodes links events threshold cap ⌝ }
 {
     Header {
         nodes,
         links,
         events,
         threshold,
-        limit,
+        cap,
     }
 }
 
@@ -68,22 +68,22 @@ pub extern "C" fn probe_write(
     links_count: u64,
     events_count: u64,
     threshold: u64,
-    limit: u64,
+    cap: u64,
     links: &[u8],
     events: &[u64],
     out: &mut [u8],
     size: &mut [u64],
 ) -> u32
-    ensures number { λ r. ⌜ r ≡ writeNumber (inWords (headerWith nodes «links_count» «events_count» threshold limit)
+    ensures number { λ r. ⌜ r ≡ writeNumber (inWords (headerWith nodes «links_count» «events_count» threshold cap)
         (now (links .entry)) (now (events .entry))) (length (now (out .entry))) ⌝ }
     ensures out { λ r. ⌜ now (out .exit) ≡ filled r (layout
-        (planOfLists (headerWith nodes «links_count» «events_count» threshold limit) (now (links .entry)) (now (events .entry))))
+        (planOfLists (headerWith nodes «links_count» «events_count» threshold cap) (now (links .entry)) (now (events .entry))))
         (now (out .entry)) ⌝ }
     ensures size { λ r. ⌜ now (size .exit) ≡ laid (sizeValues (writeAnswer r (length (layout
-        (planOfLists (headerWith nodes «links_count» «events_count» threshold limit) (now (links .entry)) (now (events .entry)))))))
+        (planOfLists (headerWith nodes «links_count» «events_count» threshold cap) (now (links .entry)) (now (events .entry)))))))
         (now (size .entry)) ⌝ }
 {
-    let h = header(nodes, links_count, events_count, threshold, limit);
+    let h = header(nodes, links_count, events_count, threshold, cap);
     answers::give_size(writer::write(h, links, events, out), size)
 }
 
@@ -93,26 +93,26 @@ pub extern "C" fn probe_run(
     links_count: u64,
     events_count: u64,
     threshold: u64,
-    limit: u64,
+    cap: u64,
     links: &[u8],
     events: &[u64],
     lower: &mut [u64],
     upper: &mut [u64],
     result: &mut [u64],
 ) -> u32
-    ensures number { λ r. ⌜ r ≡ runNumber (inWords (headerWith nodes «links_count» «events_count» threshold limit)
+    ensures number { λ r. ⌜ r ≡ runNumber (inWords (headerWith nodes «links_count» «events_count» threshold cap)
         (now (links .entry)) (now (events .entry))) (length (now (lower .entry))) (length (now (upper .entry))) ⌝ }
     ensures lowers { λ r. ⌜ now (lower .exit) ≡ filled r (lowerList intact
-        (planOfLists (headerWith nodes «links_count» «events_count» threshold limit) (now (links .entry)) (now (events .entry))))
+        (planOfLists (headerWith nodes «links_count» «events_count» threshold cap) (now (links .entry)) (now (events .entry))))
         (now (lower .entry)) ⌝ }
     ensures uppers { λ r. ⌜ now (upper .exit) ≡ filled r (upperList intact
-        (planOfLists (headerWith nodes «links_count» «events_count» threshold limit) (now (links .entry)) (now (events .entry))))
+        (planOfLists (headerWith nodes «links_count» «events_count» threshold cap) (now (links .entry)) (now (events .entry))))
         (now (upper .entry)) ⌝ }
     ensures result { λ r. ⌜ now (result .exit) ≡ laid (totalsValues (ranAnswer r (totalsOf
-        (planOfLists (headerWith nodes «links_count» «events_count» threshold limit) (now (links .entry)) (now (events .entry))))))
+        (planOfLists (headerWith nodes «links_count» «events_count» threshold cap) (now (links .entry)) (now (events .entry))))))
         (now (result .entry)) ⌝ }
 {
-    let h = header(nodes, links_count, events_count, threshold, limit);
+    let h = header(nodes, links_count, events_count, threshold, cap);
     answers::give_totals(bounds::run(h, links, events, lower, upper), result)
 }
 
@@ -122,19 +122,19 @@ pub extern "C" fn probe_pair(
     links_count: u64,
     events_count: u64,
     threshold: u64,
-    limit: u64,
+    cap: u64,
     links: &[u8],
     events: &[u64],
     v: u64,
     w: u64,
     result: &mut [u64],
 ) -> u32
-    ensures number { λ r. ⌜ r ≡ pairNumber (inWords (headerWith nodes «links_count» «events_count» threshold limit)
+    ensures number { λ r. ⌜ r ≡ pairNumber (inWords (headerWith nodes «links_count» «events_count» threshold cap)
         (now (links .entry)) (now (events .entry))) v w ⌝ }
     ensures result { λ r. ⌜ now (result .exit) ≡ laid (boundsValues (pairAnswer r (boundsOf intact
-        (planOfLists (headerWith nodes «links_count» «events_count» threshold limit) (now (links .entry)) (now (events .entry))) v w)))
+        (planOfLists (headerWith nodes «links_count» «events_count» threshold cap) (now (links .entry)) (now (events .entry))) v w)))
         (now (result .entry)) ⌝ }
 {
-    let h = header(nodes, links_count, events_count, threshold, limit);
+    let h = header(nodes, links_count, events_count, threshold, cap);
     run_answers::pair(h, links, events, v, w, result)
 }

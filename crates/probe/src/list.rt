@@ -16,20 +16,20 @@ pub extern "C" fn probe_topologies(
     links_count: u64,
     events_count: u64,
     threshold: u64,
-    limit: u64,
+    cap: u64,
     links: &[u8],
     events: &[u64],
     list: &mut [u64],
     result: &mut [u64],
 ) -> u32
-    ensures number { λ r. ⌜ r ≡ topologiesNumber intact (inWords (headerWith nodes «links_count» «events_count» threshold limit)
+    ensures number { λ r. ⌜ r ≡ topologiesNumber intact (inWords (headerWith nodes «links_count» «events_count» threshold cap)
         (now (links .entry)) (now (events .entry))) (now (list .entry)) ⌝ }
-    ensures list { λ r. ⌜ now (list .exit) ≡ listAfter intact (inWords (headerWith nodes «links_count» «events_count» threshold limit)
+    ensures list { λ r. ⌜ now (list .exit) ≡ listAfter intact (inWords (headerWith nodes «links_count» «events_count» threshold cap)
         (now (links .entry)) (now (events .entry))) (now (list .entry)) ⌝ }
     ensures result { λ r. ⌜ now (result .exit) ≡ laid (entriesValues (listedAnswer r (length (topologyListIn intact
-        (inWords (headerWith nodes «links_count» «events_count» threshold limit) (now (links .entry)) (now (events .entry)))
+        (inWords (headerWith nodes «links_count» «events_count» threshold cap) (now (links .entry)) (now (events .entry)))
         (now (list .entry)) .entries)))) (now (result .entry)) ⌝ }
 {
-    let h = header(nodes, links_count, events_count, threshold, limit);
+    let h = header(nodes, links_count, events_count, threshold, cap);
     further_answers::give_entries(topology_list::topologies(h, links, events, list), result)
 }

@@ -14,7 +14,7 @@ pub extern "C" fn probe_thresholds(
     nodes: u64,
     links_count: u64,
     events_count: u64,
-    limit: u64,
+    cap: u64,
     links: &[u8],
     events: &[u64],
     thresholds: &[u64],
@@ -23,23 +23,23 @@ pub extern "C" fn probe_thresholds(
     result: &mut [u64],
 ) -> u32
     ensures number { λ r. ⌜ r ≡ thresholdsNumber
-        (lentAt (commonWith nodes «links_count» «events_count» limit) (now (links .entry)) (now (events .entry)) 1)
+        (lentAt (commonWith nodes «links_count» «events_count» cap) (now (links .entry)) (now (events .entry)) 1)
         (now (thresholds .entry)) (length (now (lower .entry))) (length (now (upper .entry))) ⌝ }
     ensures lowers { λ r. ⌜ now (lower .exit) ≡ filled r (blocks
-        (λ t. lowerList intact (planAt (commonWith nodes «links_count» «events_count» limit) (now (links .entry)) (now (events .entry)) t))
+        (λ t. lowerList intact (planAt (commonWith nodes «links_count» «events_count» cap) (now (links .entry)) (now (events .entry)) t))
         (now (thresholds .entry))) (now (lower .entry)) ⌝ }
     ensures uppers { λ r. ⌜ now (upper .exit) ≡ filled r (blocks
-        (λ t. upperList intact (planAt (commonWith nodes «links_count» «events_count» limit) (now (links .entry)) (now (events .entry)) t))
+        (λ t. upperList intact (planAt (commonWith nodes «links_count» «events_count» cap) (now (links .entry)) (now (events .entry)) t))
         (now (thresholds .entry))) (now (upper .entry)) ⌝ }
     ensures result { λ r. ⌜ now (result .exit) ≡ laid (placesValues (thresholdsAnswer r
-        (planAt (commonWith nodes «links_count» «events_count» limit) (now (links .entry)) (now (events .entry))) (now (thresholds .entry))))
+        (planAt (commonWith nodes «links_count» «events_count» cap) (now (links .entry)) (now (events .entry))) (now (thresholds .entry))))
         (now (result .entry)) ⌝ }
 {
     let h = CommonHeader {
         nodes,
         links: links_count,
         events: events_count,
-        limit,
+        cap,
     };
     threshold_answers::thresholds(h, links, events, thresholds, lower, upper, result)
 }

@@ -27,21 +27,21 @@ pub extern "C" fn probe_begin(
     links_count: u64,
     events_count: u64,
     threshold: u64,
-    limit: u64,
+    cap: u64,
     links: &[u8],
     events: &[u64],
     state: &mut [u64],
 ) -> u32
-    ensures number { λ r. ⌜ r ≡ beginNumber (inWords (headerWith nodes «links_count» «events_count» threshold limit)
+    ensures number { λ r. ⌜ r ≡ beginNumber (inWords (headerWith nodes «links_count» «events_count» threshold cap)
         (now (links .entry)) (now (events .entry))) (length (now (state .entry))) ⌝ }
     ensures state { λ r. ⌜ now (state .exit) ≡ filled r (walkWords (rootWalk
-        (headerWith nodes «links_count» «events_count» threshold limit) (now (links .entry)) (now (events .entry))))
+        (headerWith nodes «links_count» «events_count» threshold cap) (now (links .entry)) (now (events .entry))))
         (now (state .entry)) ⌝ }
     ensures begun { λ r. ⌜ (r ≡ 0 → WalkAt intact (planOfLists
-        (headerWith nodes «links_count» «events_count» threshold limit) (now (links .entry)) (now (events .entry))) 0
+        (headerWith nodes «links_count» «events_count» threshold cap) (now (links .entry)) (now (events .entry))) 0
         (walkOf (now (state .exit)))) ⌝ }
 {
-    let h = header(nodes, links_count, events_count, threshold, limit);
+    let h = header(nodes, links_count, events_count, threshold, cap);
     panel_calls::begin(h, links, events, state)
 }
 

@@ -16,7 +16,7 @@ pub extern "C" fn probe_run_at(
     links_count: u64,
     events_count: u64,
     threshold: u64,
-    limit: u64,
+    cap: u64,
     links: &[u8],
     events: &[u64],
     windows: &[u64],
@@ -25,19 +25,19 @@ pub extern "C" fn probe_run_at(
     upper: &mut [u64],
     result: &mut [u64],
 ) -> u32
-    ensures number { λ r. ⌜ r ≡ runAtNumber (inWords (headerWith nodes «links_count» «events_count» threshold limit)
+    ensures number { λ r. ⌜ r ≡ runAtNumber (inWords (headerWith nodes «links_count» «events_count» threshold cap)
         (now (links .entry)) (now (events .entry)))
         (length (now (lower .entry))) (length (now (upper .entry))) (now (windows .entry)) minute ⌝ }
     ensures lowers { λ r. ⌜ now (lower .exit) ≡ filled r (lowerList (takenOut (now (windows .entry)) minute)
-        (planOfLists (headerWith nodes «links_count» «events_count» threshold limit) (now (links .entry)) (now (events .entry))))
+        (planOfLists (headerWith nodes «links_count» «events_count» threshold cap) (now (links .entry)) (now (events .entry))))
         (now (lower .entry)) ⌝ }
     ensures uppers { λ r. ⌜ now (upper .exit) ≡ filled r (upperList (takenOut (now (windows .entry)) minute)
-        (planOfLists (headerWith nodes «links_count» «events_count» threshold limit) (now (links .entry)) (now (events .entry))))
+        (planOfLists (headerWith nodes «links_count» «events_count» threshold cap) (now (links .entry)) (now (events .entry))))
         (now (upper .entry)) ⌝ }
     ensures result { λ r. ⌜ now (result .exit) ≡ laid (totalsValues (ranAnswer r (totalsOf
-        (planOfLists (headerWith nodes «links_count» «events_count» threshold limit) (now (links .entry)) (now (events .entry))))))
+        (planOfLists (headerWith nodes «links_count» «events_count» threshold cap) (now (links .entry)) (now (events .entry))))))
         (now (result .entry)) ⌝ }
 {
-    let h = header(nodes, links_count, events_count, threshold, limit);
+    let h = header(nodes, links_count, events_count, threshold, cap);
     run_answers::run_at(h, links, events, windows, minute, lower, upper, result)
 }

@@ -30,11 +30,11 @@ module _ (h : Header) (links words : List ℕ) (at : ℕ) (stack : List ℕ) (v 
   seeking-whole held inside =
       record { held = held; stacked = begun-stack 0 whole 0 0 at stack b (omega arith) (h .events) (root-entry (h .events)); inside = inside }
 
-  firsts : reached h words at stack (h .limit) ≡ examined (planOfLists h links words)
+  firsts : reached h words at stack (h .cap) ≡ examined (planOfLists h links words)
   unfolding planOfLists
-  firsts = ap (λ (l : List End). scenarios (take (h .limit) l)) (begun-whole at stack b (h .events) (h .threshold) words)
+  firsts = ap (λ (l : List End). scenarios (take (h .cap) l)) (begun-whole at stack b (h .events) (h .threshold) words)
 
-  pub answers-whole : searched intact (planOfLists h links words) v w (reached h words at stack (h .limit))
+  pub answers-whole : searched intact (planOfLists h links words) v w (reached h words at stack (h .cap))
       ≡ searched intact (planOfLists h links words) v w (examined (planOfLists h links words))
   answers-whole = ap (searched intact (planOfLists h links words) v w) firsts
 

@@ -24,13 +24,13 @@ use Rattle.mass.specs.Split.{whole}
 
 -- two nodes, the link 0-1, and an event of probability q on it
 abbrev pub line : ℕ → ℕ → ℕ → Plan
-line q t limit =
+line q t cap =
     record {
       nodes = 2;
       links = record { low = 0; high = 1 } ∷ [];
       events = record { probability = q; nodes = 0; links = 1 } ∷ [];
       threshold = t;
-      limit = limit;
+      cap = cap;
     }
 
 abbrev noWitness : Plan → ℕ
@@ -56,7 +56,7 @@ twice t =
       links = record { low = 0; high = 1 } ∷ [];
       events = record { probability = 500000000; nodes = 0; links = 1 } ∷ record { probability = 100000000; nodes = 0; links = 1 } ∷ [];
       threshold = t;
-      limit = 100;
+      cap = 100;
     }
 
 -- its witness is the first, event 1 alone, and not the likeliest, event 0 alone; where a threshold of 1/10 drops the first, it is the next

@@ -98,7 +98,7 @@ fn search_all(h: Header, links: &[u8; 256], words: &[u64; 512], v: usize, w: usi
     let table = network::links_at(h.nodes as usize, links, h.links as usize);
     let mut stack = [0u64; 512];
     let at = walk::begin(&mut stack);
-    search_on(h, links, words, &table, &mut stack, at, v, w, h.limit)
+    search_on(h, links, words, &table, &mut stack, at, v, w, h.cap)
 }
 
 // The witness: the first examined scenario, in the walk's order, that disconnects the pair, as the set of its failing events; 14 where there

@@ -29,10 +29,10 @@ use Rattle.record_runs.proofs.RunLaws.{Promised, Outcome}
 
 -- the header of a refusal has no node: the run refuses it, and leaves the lists as they were
 none-run : (links lo up : List ℕ) (records : List Event) (w : Ran) (lo′ up′ : List ℕ)
-    → Outcome (inRecords (record { nodes = 0; links = 0; events = 0; threshold = 0; limit = 0 }) links records) lo up w lo′ up′ → (lo′ ≡ lo) × (up′ ≡ up)
+    → Outcome (inRecords (record { nodes = 0; links = 0; events = 0; threshold = 0; cap = 0 }) links records) lo up w lo′ up′ → (lo′ ≡ lo) × (up′ ≡ up)
 unfolding runNumber listsNumber first
 none-run links lo up records w lo′ up′ o =
-    let l : Lent = inRecords (record { nodes = 0; links = 0; events = 0; threshold = 0; limit = 0 }) links records in (
+    let l : Lent = inRecords (record { nodes = 0; links = 0; events = 0; threshold = 0; cap = 0 }) links records in (
       o .1 .0 ∙ ap (λ (x : Ran). filled (ranNumber x) (lowerList intact (planLent l)) lo) (o .0),
       o .1 .1 .0 ∙ ap (λ (x : Ran). filled (ranNumber x) (upperList intact (planLent l)) up) (o .0),
     )

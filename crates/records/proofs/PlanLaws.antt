@@ -108,7 +108,7 @@ bridged h links es room long = ap (λ (ws : List ℕ). listsNumber (inWords h li
 
 -- computed: three records, all zeros, beside a header with five events. The used part of the words meets 12; all 512 of them would be accepted.
 abbrev five : Header
-five = record { nodes = 1; links = 0; events = 5; threshold = 1; limit = 1 }
+five = record { nodes = 1; links = 0; events = 5; threshold = 1; cap = 1 }
 
 example-bridged : (listsNumber (inWords five [] (wordsUsed 3 (replicate 512 0))) ≡ 12) × (listsNumber (inWords five [] (replicate 512 0)) ≡ 0)
 unfolding listsNumber linkListRefusal eventListRefusal linksOf eventsOf first

@@ -27,8 +27,8 @@ abbrev pub thresholdTest : ℕ → ℕ
 thresholdTest t = refuse (ltb t 1 || ltb whole t) 5
 
 -- 6: the cap is 0 or above 1,000,000
-abbrev pub limitTest : ℕ → ℕ
-limitTest limit = refuse (ltb limit 1 || ltb 1000000 limit) 6
+abbrev pub capTest : ℕ → ℕ
+capTest cap = refuse (ltb cap 1 || ltb 1000000 cap) 6
 
 -- 7: a link end is N or more, or the first is not smaller than the second
 abbrev pub endsTest : ℕ → ℕ → ℕ → ℕ

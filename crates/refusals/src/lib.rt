@@ -7,7 +7,7 @@ ghost use mathlib.Core.Path.{_≡_};
 ghost use Prim.Native.Nat.{_^_, _≤_, _<_};
 ghost use lib.Dec.{leb};
 ghost use Rattle.sets.specs.Sets.{joined};
-ghost use Rattle.refusals.specs.Tests.{shortTest, markTest, versionTest, countsTest, thresholdTest, limitTest};
+ghost use Rattle.refusals.specs.Tests.{shortTest, markTest, versionTest, countsTest, thresholdTest, capTest};
 ghost use Rattle.refusals.specs.Tests.{endsTest, orderTest, countOfKind, memberTest, setsTest, leftTest, roomTest};
 
 // 1: fewer than `need` bytes are left.
@@ -80,13 +80,13 @@ pub fn threshold_test(t: u64) -> u32
 }
 
 // 6: the cap is 0 or above 1,000,000.
-pub fn limit_test(limit: u64) -> u32
-    ensures { λ r. ⌜ r ≡ limitTest limit ⌝ }
+pub fn cap_test(cap: u64) -> u32
+    ensures { λ r. ⌜ r ≡ capTest cap ⌝ }
 {
-    if limit < 1 {
+    if cap < 1 {
         return 6;
     }
-    if 1_000_000 < limit {
+    if 1_000_000 < cap {
         return 6;
     }
     0

@@ -10,7 +10,7 @@ use lib.ListN.{length, length-map}
 use lib.Seq.{sets, length-sets}
 use Rattle.mass.specs.Refusal.{first}
 use Rattle.mass.specs.Split.{certain}
-use Rattle.refusals.specs.Tests.{countsTest, thresholdTest, limitTest}
+use Rattle.refusals.specs.Tests.{countsTest, thresholdTest, capTest}
 use Rattle.refusals.proofs.TestLaws.{counts-pass, room-pass}
 use Rattle.order.specs.Falling.{FallingFrom, AtMost, having}
 use Rattle.order.proofs.OrderLaws.{Every, every-ordered, length-ordered}
@@ -113,20 +113,20 @@ pub events-accepted : (s : Sheet) → ValidSheet s → eventListRefusal (s .node
 events-accepted s v = falling-accepted (s .nodes) (s .links) certain (sheetEvents s) (events-falling s v) (events-within s v)
 
 -- a plan of them with good links and a good threshold and cap is accepted
-pub plan-accepted : (s : Sheet) → ValidSheet s → (links : List Link) (threshold limit : ℕ)
+pub plan-accepted : (s : Sheet) → ValidSheet s → (links : List Link) (threshold cap : ℕ)
     → length links ≡ s .links
     → linkListRefusal (s .nodes) links ≡ 0
     → thresholdTest threshold ≡ 0
-    → limitTest limit ≡ 0
-    → planRefusal (record { nodes = s .nodes; links = links; events = sheetEvents s; threshold = threshold; limit = limit }) ≡ 0
-plan-accepted s v links threshold limit count good t c =
-    valid-pass (record { nodes = s .nodes; links = links; events = sheetEvents s; threshold = threshold; limit = limit })
+    → capTest cap ≡ 0
+    → planRefusal (record { nodes = s .nodes; links = links; events = sheetEvents s; threshold = threshold; cap = cap }) ≡ 0
+plan-accepted s v links threshold cap count good t c =
+    valid-pass (record { nodes = s .nodes; links = links; events = sheetEvents s; threshold = threshold; cap = cap })
     (record {
       counts =
           rw (count, length-events s)
           (counts-pass (s .nodes) (s .links) (length (s .lines)) (v .some-node) (v .nodes-fit) (v .links-fit) (v .lines-fit));
       threshold = t;
-      limit = c;
+      cap = c;
       links = good;
       events = rw count (events-accepted s v);
     })
@@ -142,7 +142,7 @@ pub lists-accepted : (b links words : List ℕ) (h : Header)
     → h .links ≡ linksIn b
     → h .events ≡ linesIn b
     → thresholdTest (h .threshold) ≡ 0
-    → limitTest (h .limit) ≡ 0
+    → capTest (h .cap) ≡ 0
     → 2 * h .links ≤ length links
     → linkListRefusal (h .nodes) (linksOf (h .links) links) ≡ 0
     → listsNumber (inWords h links (sets words 0 (sheetWords b))) ≡ 0

@@ -74,7 +74,7 @@ module _ (p : Plan) (q : Probabilities (p .events)) (cut : Scenario → Bool) wh
       at-most false = omega arith
 
       held : Enclosed whole (p .events) (firstEnds p) 1 (λ s. digit (cut s))
-      held = enclosure (p .threshold) (p .limit) whole (p .events) q 1 (λ s. digit (cut s)) (λ s. at-most (cut s))
+      held = enclosure (p .threshold) (p .cap) whole (p .events) q 1 (λ s. digit (cut s)) (λ s. at-most (cut s))
 
   -- law: its gap as a difference, which loses nothing since lower is at most upper
   pub demand3-gap : (upper p cut - lower p cut) * scale (length (p .events))

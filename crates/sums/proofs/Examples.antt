@@ -13,8 +13,8 @@ use Rattle.sums.specs.Bounds.{lower, upper}
 
 -- one event of probability 1/10 that cuts the pair, with room for both ends of the walk and for one
 abbrev example : ℕ → Plan
-example limit =
-    record { nodes = 2; links = []; events = record { probability = 100000000; nodes = 0; links = 1 } ∷ []; threshold = 1; limit = limit }
+example cap =
+    record { nodes = 2; links = []; events = record { probability = 100000000; nodes = 0; links = 1 } ∷ []; threshold = 1; cap = cap }
 
 abbrev firstFails : Scenario → Bool
 firstFails s = getD s 0 false

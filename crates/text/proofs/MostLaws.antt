@@ -12,10 +12,10 @@ use Rattle.mass.specs.Refusal.{refuse, first}
 use Rattle.mass.proofs.RefusalLaws.{refuse-none}
 use Rattle.mass.specs.Split.{whole, certain, probabilityTest}
 use Rattle.plan.specs.Plan.{Plan}
-use Rattle.refusals.specs.Tests.{shortTest, markTest, versionTest, countsTest, thresholdTest, limitTest, endsTest, orderTest, memberTest}
+use Rattle.refusals.specs.Tests.{shortTest, markTest, versionTest, countsTest, thresholdTest, capTest, endsTest, orderTest, memberTest}
 use Rattle.refusals.specs.Tests.{countOfKind, rank}
 use Rattle.plan.specs.File.{headerRefusal, linksRefusal, memberRefusal, membersRefusal, eventRefusal, eventsRefusal, refusal, planOf}
-use Rattle.plan.specs.File.{nodesIn, linksIn, eventsIn, versionIn, thresholdIn, limitIn, probabilityIn, membersIn, eventSize}
+use Rattle.plan.specs.File.{nodesIn, linksIn, eventsIn, versionIn, thresholdIn, capIn, probabilityIn, membersIn, eventSize}
 use Rattle.plan.specs.LentLists.{planRefusal}
 use Rattle.refusals.proofs.TestLaws.{counts-none, Ranges, or-none}
 use Rattle.layout.proofs.LayoutFile.{valid-none}
@@ -64,8 +64,8 @@ counts-most nodes links events = refuse-most (ltb nodes 1 || ltb 64 nodes || ltb
 threshold-most : (t : ℕ) → thresholdTest t ≤ 11
 threshold-most t = refuse-most (ltb t 1 || ltb whole t) 5 (omega arith)
 
-limit-most : (limit : ℕ) → limitTest limit ≤ 11
-limit-most limit = refuse-most (ltb limit 1 || ltb 1000000 limit) 6 (omega arith)
+cap-most : (cap : ℕ) → capTest cap ≤ 11
+cap-most cap = refuse-most (ltb cap 1 || ltb 1000000 cap) 6 (omega arith)
 
 member-test-most : (nodes links least kind number : ℕ) → memberTest nodes links least kind number ≤ 11
 member-test-most nodes links least kind number =
@@ -120,7 +120,7 @@ header-most b =
     (first-most _ _ (mark-most 82 83 71 (getD b 0 0) (getD b 1 0) (getD b 2 0))
     (first-most _ _ (version-most (versionIn b))
     (first-most _ _ (counts-most (nodesIn b) (linksIn b) (eventsIn b))
-    (first-most _ _ (threshold-most (thresholdIn b)) (first-most _ _ (limit-most (limitIn b)) none-most)))))
+    (first-most _ _ (threshold-most (thresholdIn b)) (first-most _ _ (cap-most (capIn b)) none-most)))))
 
 pub refusal-most : (b : List ℕ) → refusal b ≤ 11
 unfolding refusal
@@ -213,7 +213,7 @@ module _ (p : Plan) (valid : planRefusal p ≡ 0) where
       (ranges .links-fit)
       (ranges .events-fit)
       number-most
-      (digit-most (leb (length (planEnds p)) (p .limit)))
+      (digit-most (leb (length (planEnds p)) (p .cap)))
       (massExamined-le p (plan-probable p valid)) in
       let rows = pairs-most-long (pairLine intact p) (p .nodes) pair-most (ranges .nodes-fit) in
       rw (length-append (line (p .nodes ∷ length (p .links) ∷ length (p .events) ∷ count p ∷ complete p ∷ massExamined p ∷ [])) (pairsText (pairLine intact p) (p .nodes)))

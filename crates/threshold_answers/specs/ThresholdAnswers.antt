@@ -9,7 +9,7 @@ use Rattle.thresholds.specs.declared.Answered.{Answered}
 
 -- the header of four numbers
 abbrev pub commonWith : ℕ → ℕ → ℕ → ℕ → CommonHeader
-commonWith nodes links events limit = record { nodes = nodes; links = links; events = events; limit = limit }
+commonWith nodes links events cap = record { nodes = nodes; links = links; events = events; cap = cap }
 
 -- three lists, an entry of each in turn
 abbrev pub inTurn : List ℕ → List ℕ → List ℕ → List ℕ

@@ -44,8 +44,8 @@ ones-le [] = omega arith
 ones-le (dropped ∷ list) = omega (arith, ones-le list)
 ones-le (relevant s m ∷ list) = omega (arith, ones-le list)
 
-count-le : (p : Plan) → count p ≤ p .limit
-count-le p = omega (arith, count-sum p, ones-le (firstEnds p), length-take (p .limit) (planEnds p))
+count-le : (p : Plan) → count p ≤ p .cap
+count-le p = omega (arith, count-sum p, ones-le (firstEnds p), length-take (p .cap) (planEnds p))
 
 -- below one more is at most
 one-more : (n m r : ℕ) → r ≡ m + 1 → ltb n r ≡ leb n m
@@ -60,7 +60,7 @@ abbrev coming : Plans → ℕ → ℕ → List ℕ → List End
 coming ps i at stack = toCome (ps .header .events) (getD (ps .list) i 0) (ps .words) at stack
 
 module _ (ps : Plans) (active : ℕ) (f : FallingFirst active (ps .list)) (held : Held (ps .header) (ps .links) (ps .words))
-    (limited : ps .header .limit < 4294967296) (at : ℕ) (stack : List ℕ) (n : PlaceNumbers) (lower : List ℕ)
+    (cap-small : ps .header .cap < 4294967296) (at : ℕ) (stack : List ℕ) (n : PlaceNumbers) (lower : List ℕ)
     (sofar : AllCountedSoFar ps active at stack n lower) (stack′ : List ℕ) (path : WorksPath)
     (t : PathTaken (sharedWalk (ps .header .events) (getD (ps .list) (active - 1) 0) (ps .words)) at stack stack′ path) where
   -- the ends to come of a threshold are those of the path, and those then to come
@@ -176,8 +176,8 @@ module _ (ps : Plans) (number : ℕ) (n₀ : PlaceNumbers) (lower₀ : List ℕ)
     firsts : (i : ℕ) → i < number → take (getD (n₀ .rooms) i 0 - 1) (coming ps i at stack) ≡ firstEnds (planFor ps i)
     unfolding planOfLists
     firsts i l =
-        let cap-ends : getD (n₀ .rooms) i 0 - 1 ≡ ps .header .limit = omega (arith, fresh .full i l) in
-        ap (λ (m : ℕ). take m (coming ps i at stack)) cap-ends ∙ ap (take (ps .header .limit)) (ends-are i l)
+        let cap-ends : getD (n₀ .rooms) i 0 - 1 ≡ ps .header .cap = omega (arith, fresh .full i l) in
+        ap (λ (m : ℕ). take m (coming ps i at stack)) cap-ends ∙ ap (take (ps .header .cap)) (ends-are i l)
 
     zero-at : (i : ℕ) → i < number → (v w : ℕ) → v < w → w < ps .header .nodes
         → getD lower₀ (place (ps .header .nodes) v w + pairCount (ps .header .nodes) * i) 0 ≡ 0
@@ -202,7 +202,7 @@ module _ (ps : Plans) (number : ℕ) (n₀ : PlaceNumbers) (lower₀ : List ℕ)
           below = λ v w k m. omega (arith, zero-at i l v w k m);
           ends =
               ap (λ (x : List End). digit (ltb (length x) (getD (n₀ .rooms) i 0))) (ends-are i l)
-              ∙ ap digit (one-more (length (planEnds (planFor ps i))) (ps .header .limit) (getD (n₀ .rooms) i 0) (fresh .full i l));
+              ∙ ap digit (one-more (length (planEnds (planFor ps i))) (ps .header .cap) (getD (n₀ .rooms) i 0) (fresh .full i l));
         }
 
     pub walk-begins : Walking ps number n₀ lower₀ number at stack n₀ lower₀

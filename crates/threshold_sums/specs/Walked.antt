@@ -23,7 +23,7 @@ use Rattle.threshold_walk.specs.declared.WorksPath.{WorksPath}
 
 -- a header with another threshold
 abbrev pub withThreshold : Header → ℕ → Header
-withThreshold h t = record { nodes = h .nodes; links = h .links; events = h .events; threshold = t; limit = h .limit }
+withThreshold h t = record { nodes = h .nodes; links = h .links; events = h .events; threshold = t; cap = h .cap }
 
 -- the plan of the arrays with the threshold t
 abbrev pub planWith : Header → List ℕ → List ℕ → ℕ → Plan
@@ -164,7 +164,7 @@ pub record Kept (h : Header) (active : ℕ) (n : PlaceNumbers) (lower : List ℕ
 pub record Fresh (h : Header) (number : ℕ) (n : PlaceNumbers) (lower : List ℕ) : Type 0 where
   pub arrays : Places n
   pub fits : pairCount (h .nodes) * number ≤ length lower
-  pub full : (i : ℕ) → i < number → getD (n .rooms) i 0 ≡ h .limit + 1
+  pub full : (i : ℕ) → i < number → getD (n .rooms) i 0 ≡ h .cap + 1
   pub none : (i : ℕ) → getD (n .counts) i 0 ≡ 0
   pub empty : (i : ℕ) → getD (n .masses) i 0 ≡ 0
   pub zeros : (j : ℕ) → j < pairCount (h .nodes) * number → getD lower j 0 ≡ 0

@@ -32,7 +32,7 @@ fn walk_with(
 ) -> usize
     requires { ⌜ Held h (now links) (now words) ⌝ }
     requires { ⌜ LinksAt (now links) (h .links) (now table) ⌝ }
-    requires { ⌜ FallingFirst active (now list) × (1 ≤ active) × (h .limit < 4294967296) ⌝ }
+    requires { ⌜ FallingFirst active (now list) × (1 ≤ active) × (h .cap < 4294967296) ⌝ }
     requires { ⌜ Stack (h .events) start (now stack) × (pairCount (h .nodes) * active ≤ length (now lower))
         × Places (placeNumbers (now rooms) (now counts) (now masses)) ⌝ }
     requires { ⌜ AllCountedSoFar (plansOf h (now links) (now words) (now list)) active start (now stack)
@@ -93,7 +93,7 @@ pub fn walk_all(
     lower: &mut [u64],
 )
     requires { ⌜ Held h (now links) (now words) ⌝ }
-    requires { ⌜ FallingFirst number (now list) × (h .limit < 4294967296) ⌝ }
+    requires { ⌜ FallingFirst number (now list) × (h .cap < 4294967296) ⌝ }
     requires { ⌜ Fresh h number (placeNumbers (now rooms) (now counts) (now masses)) (now lower) ⌝ }
     ensures { λ r. ⌜ AllHoldAnswers (plansOf h (now (links .entry)) (now (words .entry)) (now (list .entry))) number
         (placeNumbers (now (rooms .entry)) (now (counts .entry)) (now (masses .entry))) (now (lower .entry))

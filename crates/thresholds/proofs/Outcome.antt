@@ -60,7 +60,7 @@ pub same-plans : (h : CommonHeader) (links events bytes words : List ℕ)
     → planWith (headerAt h 1) bytes words ≡ planAt h links events
 unfolding planOfLists
 same-plans h links events bytes words e =
-    fun-ext (λ t. λ i. record { nodes = h .nodes; links = e i .links; events = e i .events; threshold = t; limit = h .limit })
+    fun-ext (λ t. λ i. record { nodes = h .nodes; links = e i .links; events = e i .events; threshold = t; cap = h .cap })
 
 -- ---- the call, refused with a number, 0 if it is not
 

@@ -54,34 +54,34 @@ module _ (list falling : List ℕ) (tested : thresholdsTest list ≡ 0) (is : fa
   -- the arrays of places were of zeros, the rooms are set, and the blocks cleared
   module _ (h : Header) (rooms₀ counts masses rooms lower cleared : List ℕ)
       (z : (rooms₀ ≡ zeros) × ((counts ≡ zeros) × (masses ≡ zeros)))
-      (set-rooms : rooms ≡ sets rooms₀ 0 (map (λ x. (h .limit + 1) + x) (take (length list) (drop 0 masses))))
+      (set-rooms : rooms ≡ sets rooms₀ 0 (map (λ x. (h .cap + 1) + x) (take (length list) (drop 0 masses))))
       (room : pairCount (h .nodes) * length list ≤ length lower)
       (clear : cleared ≡ sets lower 0 (replicate (pairCount (h .nodes) * length list) 0)) where
     abbrev size : ℕ
     size = pairCount (h .nodes) * length list
 
-    abbrev limits : List ℕ
-    limits = map (λ x. (h .limit + 1) + x) (take (length list) zeros)
+    abbrev full-rooms : List ℕ
+    full-rooms = map (λ x. (h .cap + 1) + x) (take (length list) zeros)
 
-    limits-long : length limits ≡ length list
-    limits-long =
-        length-map (take (length list) zeros) (λ x. (h .limit + 1) + x) ∙ length-take-le (length list) zeros (omega (arith, few))
+    full-rooms-long : length full-rooms ≡ length list
+    full-rooms-long =
+        length-map (take (length list) zeros) (λ x. (h .cap + 1) + x) ∙ length-take-le (length list) zeros (omega (arith, few))
 
-    rooms-are : rooms ≡ sets zeros 0 limits
-    rooms-are = set-rooms ∙ (λ i. sets (z .0 i) 0 (map (λ x. (h .limit + 1) + x) (take (length list) (z .1 .1 i))))
+    rooms-are : rooms ≡ sets zeros 0 full-rooms
+    rooms-are = set-rooms ∙ (λ i. sets (z .0 i) 0 (map (λ x. (h .cap + 1) + x) (take (length list) (z .1 .1 i))))
 
-    rooms-set : (i : ℕ) → i < length list → getD rooms i 0 ≡ h .limit + 1
+    rooms-set : (i : ℕ) → i < length list → getD rooms i 0 ≡ h .cap + 1
     rooms-set i l =
         ap (λ (x : List ℕ). getD x i 0) rooms-are
-        ∙ ap (λ (k : ℕ). getD (sets zeros 0 limits) k 0) (sym (add-zero i))
-        ∙ sets-in zeros 0 limits (omega (arith, limits-long, few)) i (omega (arith, limits-long))
-        ∙ map-at (λ x. (h .limit + 1) + x) (take (length list) zeros) i (omega (arith, length-take-le (length list) zeros (omega (arith, few))))
+        ∙ ap (λ (k : ℕ). getD (sets zeros 0 full-rooms) k 0) (sym (add-zero i))
+        ∙ sets-in zeros 0 full-rooms (omega (arith, full-rooms-long, few)) i (omega (arith, full-rooms-long))
+        ∙ map-at (λ x. (h .cap + 1) + x) (take (length list) zeros) i (omega (arith, length-take-le (length list) zeros (omega (arith, few))))
         ∙ omega (arith, getD-take (length list) zeros i 0 l, zeros-at 16 i)
 
     rooms-none : (i : ℕ) → length list ≤ i → getD rooms i 0 ≡ 0
     rooms-none i l =
         ap (λ (x : List ℕ). getD x i 0) rooms-are
-        ∙ sets-past zeros 0 limits (omega (arith, limits-long, few)) i (omega (arith, limits-long))
+        ∙ sets-past zeros 0 full-rooms (omega (arith, full-rooms-long, few)) i (omega (arith, full-rooms-long))
         ∙ zeros-at 16 i
 
     no-count : (i : ℕ) → getD counts i 0 ≡ 0
@@ -112,7 +112,7 @@ module _ (list falling : List ℕ) (tested : thresholdsTest list ≡ 0) (is : fa
         record {
           arrays =
               record {
-                rooms-size = ap length rooms-are ∙ length-sets zeros 0 limits;
+                rooms-size = ap length rooms-are ∙ length-sets zeros 0 full-rooms;
                 counts-size = ap length (z .1 .0);
                 masses-size = ap length (z .1 .1);
               };

@@ -20,13 +20,13 @@ use Rattle.thresholds.specs.declared.CommonHeader.{CommonHeader}
 
 -- two nodes, the link 0-1 and an event of 1/10 on it, with a cap
 abbrev header : ℕ → CommonHeader
-header limit = record { nodes = 2; links = 1; events = 1; limit = limit }
+header cap = record { nodes = 2; links = 1; events = 1; cap = cap }
 
 abbrev event : List ℕ
 event = 100000000 ∷ 0 ∷ 1 ∷ 0 ∷ []
 
 abbrev number : ℕ → List ℕ → List ℕ → List ℕ → List ℕ → List ℕ → ℕ
-number limit links events list lower upper = thresholdsNumber (lentAt (header limit) links events 1) list (length lower) (length upper)
+number cap links events list lower upper = thresholdsNumber (lentAt (header cap) links events 1) list (length lower) (length upper)
 
 -- each test decides over those after it: the cap, a short list of links, a link, an event, the thresholds, then either list of bounds; there
 -- is no 5

@@ -20,7 +20,7 @@ use Rattle.thresholds.specs.declared.Answered.{Answered}
 
 -- the header of a run with the threshold t
 abbrev pub headerAt : CommonHeader → ℕ → Header
-headerAt h t = record { nodes = h .nodes; links = h .links; events = h .events; threshold = t; limit = h .limit }
+headerAt h t = record { nodes = h .nodes; links = h .links; events = h .events; threshold = t; cap = h .cap }
 
 -- what is lent, with the threshold t
 abbrev pub lentAt : CommonHeader → List ℕ → List ℕ → ℕ → Lent

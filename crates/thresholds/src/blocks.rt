@@ -32,7 +32,7 @@ fn walk_blocks(
     lower: &mut [u64],
 )
     requires { ⌜ Held h (now links) (now words) ⌝ }
-    requires { ⌜ (h .limit < 4294967296) × (thresholdsTest (now list) ≡ 0) ⌝ }
+    requires { ⌜ (h .cap < 4294967296) × (thresholdsTest (now list) ≡ 0) ⌝ }
     requires { ⌜ (now rooms ≡ replicate 16 0) × ((now counts ≡ replicate 16 0) × (now masses ≡ replicate 16 0)) ⌝ }
     requires { ⌜ pairCount (h .nodes) * length (now list) ≤ length (now lower) ⌝ }
     ensures { λ r. ⌜ BlocksWalked (plansOf h (now (links .entry)) (now (words .entry)) (now (list .entry)))
@@ -43,7 +43,7 @@ fn walk_blocks(
     let mut falling = [0u64; 16];
     lent::copy_words(list, &mut falling, number);
     // Zeros, raised by one more than the cap where there is a threshold.
-    copy_raised(masses, &mut *rooms, 0, number, h.limit + 1);
+    copy_raised(masses, &mut *rooms, 0, number, h.cap + 1);
     pairs::clear(&mut *lower, start_of(n, n) * number);
     walk_all(
         h,
@@ -111,7 +111,7 @@ pub fn fill_blocks(
     upper: &mut [u64],
 ) -> Answered
     requires { ⌜ Held h (now links) (now words) × (planRefusal (planOfLists h (now links) (now words)) ≡ 0) ⌝ }
-    requires { ⌜ (h .limit < 4294967296) × (thresholdsTest (now list) ≡ 0) ⌝ }
+    requires { ⌜ (h .cap < 4294967296) × (thresholdsTest (now list) ≡ 0) ⌝ }
     requires { ⌜ (pairCount (h .nodes) * length (now list) ≤ length (now lower))
         × (pairCount (h .nodes) * length (now list) ≤ length (now upper)) ⌝ }
     ensures answer { λ r. ⌜ r ≡ answerOf (planWith h (now (links .entry)) (now (words .entry))) (now (list .entry)) ⌝ }

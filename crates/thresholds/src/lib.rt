@@ -11,7 +11,7 @@ pub struct CommonHeader {
     pub nodes: u64,
     pub links: u64,
     pub events: u64,
-    pub limit: u64,
+    pub cap: u64,
 }
 
 // What the call answers: the number of the refusal (0 for none) and, for each of 16 places, the examined count, complete (1 or 0) and E.

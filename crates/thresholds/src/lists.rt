@@ -14,7 +14,7 @@ pub fn header_at(h: CommonHeader, threshold: u64) -> Header
         links: h.links,
         events: h.events,
         threshold,
-        limit: h.limit,
+        cap: h.cap,
     }
 }
 

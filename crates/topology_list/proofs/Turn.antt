@@ -99,7 +99,7 @@ pub record Turn (h : Header) (links words : List ℕ) (at₀ : ℕ) (stack₀ li
   pub fits : massesIn (entriesOf count list) + sumEnds (λ s m. m) (nextEnds h words at stack left) ≤ whole
 
 pub turn-begun : (h : Header) (links words : List ℕ) (at₀ : ℕ) (stack₀ list₀ : List ℕ) → MassesFit h links words at₀ stack₀
-    → Turn h links words at₀ stack₀ list₀ (h .limit) stack₀ list₀ at₀ (h .limit) 0
+    → Turn h links words at₀ stack₀ list₀ (h .cap) stack₀ list₀ at₀ (h .cap) 0
 unfolding entriesOf
 turn-begun h links words at₀ stack₀ list₀ ready =
     record {
@@ -195,14 +195,14 @@ module _ (h : Header) (links words : List ℕ) (at : ℕ) (stack : List ℕ) (b 
         stacked = begun-stack 0 whole 0 0 at stack b (omega arith) (h .events) (root-entry (h .events));
         light =
             rw (begun-whole at stack b (h .events) (h .threshold) words)
-            (masses-le (h .threshold) (h .limit) whole (eventsOf (h .events) words) (held-probable h links words held));
+            (masses-le (h .threshold) (h .cap) whole (eventsOf (h .events) words) (held-probable h links words held));
       }
 
   pub whole-listing : (room : ℕ)
-      → placedAll room (topologyAfter intact (planOfLists h links words)) (topologyList [] 0) (nextEnds h words at stack (h .limit))
+      → placedAll room (topologyAfter intact (planOfLists h links words)) (topologyList [] 0) (nextEnds h words at stack (h .cap))
       ≡ topologyListOf intact room (planOfLists h links words)
   unfolding planOfLists topologyListOf
   whole-listing room =
       ap
-      (λ (l : List End). placedAll room (topologyAfter intact (planOfLists h links words)) (topologyList [] 0) (take (h .limit) l))
+      (λ (l : List End). placedAll room (topologyAfter intact (planOfLists h links words)) (topologyList [] 0) (take (h .cap) l))
       (begun-whole at stack b (h .events) (h .threshold) words)

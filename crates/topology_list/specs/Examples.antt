@@ -25,7 +25,7 @@ example t =
       links = record { low = 0; high = 1 } ∷ [];
       events = event 0 1 ∷ event 0 1 ∷ [];
       threshold = t;
-      limit = 100;
+      cap = 100;
     }
 
 abbrev up : Topology

@@ -17,4 +17,4 @@ nextEnds h words at stack k = take k (toCome (h .events) (h .threshold) words at
 pub record MassesFit (h : Header) (links words : List ℕ) (at : ℕ) (stack : List ℕ) : Type 0 where
   pub held : Held h links words
   pub stacked : Stack (h .events) at stack
-  pub light : sumEnds (λ s m. m) (nextEnds h words at stack (h .limit)) ≤ whole
+  pub light : sumEnds (λ s m. m) (nextEnds h words at stack (h .cap)) ≤ whole

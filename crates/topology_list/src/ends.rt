@@ -51,7 +51,7 @@ fn topology_of(
     }
 }
 
-// Places the topologies of the relevant scenarios among the next h.limit ends of a walk.
+// Places the topologies of the relevant scenarios among the next h.cap ends of a walk.
 fn list_ends(
     h: Header,
     links: &[u8; 256],
@@ -65,11 +65,11 @@ fn list_ends(
     requires { ⌜ MassesFit h (now links) (now words) start (now stack) ⌝ }
     ensures { λ r. ⌜ HoldsList
         (placedAll (length (now (list .entry)) / 4) (topologyAfter intact (planOfLists h (now (links .entry)) (now (words .entry))))
-        (topologyList [] 0) (nextEnds h (now (words .entry)) start (now (stack .entry)) (h .limit)))
+        (topologyList [] 0) (nextEnds h (now (words .entry)) start (now (stack .entry)) (h .cap)))
         0 (now (list .entry)) (now (list .exit)) r ⌝ }
 {
     let mut at = start;
-    let mut left = h.limit;
+    let mut left = h.cap;
     let mut count = 0;
     // Placing the topologies of the next `left` ends into the list of `count` entries gives what the call is to give.
     // A scenario that is found takes one end or more, so `left` falls in each turn that does not return.

@@ -39,7 +39,7 @@ pub fn plan(
     nodes: u64,
     links: u64,
     events: u64,
-    limit: u64,
+    cap: u64,
     bytes: &[u8],
     words: &[u64],
     number: u64,
@@ -48,7 +48,7 @@ pub fn plan(
         nodes,
         links,
         events,
-        limit,
+        cap,
     };
     let good = [2u64, 1];
     let zero = [0u64];
@@ -62,7 +62,7 @@ fn three_nodes() -> CommonHeader {
         nodes: 3,
         links: 0,
         events: 0,
-        limit: 100,
+        cap: 100,
     }
 }
 

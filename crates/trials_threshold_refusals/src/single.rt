@@ -27,12 +27,12 @@ fn at(label: &[u8], a: Answered, place: usize, count: u64, complete: u64, mass: 
     same_part(label, b"E", masses[place], mass);
 }
 
-fn head(nodes: u64, links: u64, events: u64, limit: u64) -> CommonHeader {
+fn head(nodes: u64, links: u64, events: u64, cap: u64) -> CommonHeader {
     CommonHeader {
         nodes,
         links,
         events,
-        limit,
+        cap,
     }
 }
 

@@ -26,7 +26,7 @@ fn asked(label: &[u8], cap: u64, text: &[u8]) {
         nodes: 3,
         links: 2,
         events: 4,
-        limit: cap,
+        cap,
     };
     let a = thresholds::thresholds(h, &links, &events, &list, &mut lower, &mut upper);
     rows(label, a, &lower, &upper, text);

@@ -21,7 +21,7 @@ fn asked(label: &[u8], cap: u64, list: &[u64], text: &[u8]) {
         nodes: 3,
         links: 2,
         events: 2,
-        limit: cap,
+        cap,
     };
     let a = thresholds::thresholds(h, &links, &events, list, &mut lower, &mut upper);
     rows(label, a, &lower, &upper, text);

@@ -15,15 +15,15 @@ pub const BYTE: u8 = 170;
 pub const WORD: u64 = 77;
 
 // The header with these numbers.
-pub fn header(nodes: u64, links: u64, events: u64, threshold: u64, limit: u64) -> Header
-    ensures { λ r. ⌜ r ≡ record { nodes = nodes; links = links; events = events; threshold = threshold; limit = limit } ⌝ }
+pub fn header(nodes: u64, links: u64, events: u64, threshold: u64, cap: u64) -> Header
+    ensures { λ r. ⌜ r ≡ record { nodes = nodes; links = links; events = events; threshold = threshold; cap = cap } ⌝ }
 {
     Header {
         nodes: nodes,
         links: links,
         events: events,
         threshold: threshold,
-        limit: limit,
+        cap: cap,
     }
 }
 
@@ -102,7 +102,7 @@ pub fn accepted(label: &[u8], answer: Reading, want: Header) {
             same_part(label, b"links", h.links, want.links);
             same_part(label, b"events", h.events, want.events);
             same_part(label, b"threshold", h.threshold, want.threshold);
-            same_part(label, b"cap", h.limit, want.limit);
+            same_part(label, b"cap", h.cap, want.cap);
         }
     }
 }

@@ -142,7 +142,7 @@ examined-sound p s h = (r .entries, omega (arith, r .mass, r .enough))
     found = scenario-end s (firstEnds p) (among-member s (examined p) h)
 
     r : Relevant (p .threshold) whole (p .events) s (found .0)
-    r = relevant-sound (p .threshold) (p .limit) whole (p .events) s (found .0) (found .1)
+    r = relevant-sound (p .threshold) (p .cap) whole (p .events) s (found .0) (found .1)
 
 -- law: the masses of the first k ends sum to at most the mass that the walk starts from
 pub masses-le : (t k m : ℕ) (events : List Event) → Probabilities events → sumEnds (λ s x. x) (take k (ends t m events)) ≤ m

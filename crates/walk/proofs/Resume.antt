@@ -119,18 +119,18 @@ module _ (count threshold : ℕ) (words : List ℕ) where
       stack-some count threshold (eventsOf count words) (drop at stack) (s .entries) (omega (arith, length-drop at stack, s .sized))
 
   -- so complete is 1 where the stack is empty after the first cap ends, else 0
-  pub complete-at : (p : Plan) (at : ℕ) (stack : List ℕ) → Stack count at stack → drop (p .limit) (planEnds p) ≡ toCome count threshold words at stack
+  pub complete-at : (p : Plan) (at : ℕ) (stack : List ℕ) → Stack count at stack → drop (p .cap) (planEnds p) ≡ toCome count threshold words at stack
       → complete p ≡ digit (leb 512 at)
   complete-at p at stack s e = step (decLe 512 at)
     where
       step : Dec (512 ≤ at) → complete p ≡ digit (leb 512 at)
       step (yes h) =
           let last : at ≡ 512 = omega (arith, s .within) in
-          let nothing : drop (p .limit) (planEnds p) ≡ [] = e ∙ ap (λ (i : ℕ). toCome count threshold words i stack) last ∙ none-to-come stack (s .sized) in
-          ap digit (le-leb (length (planEnds p)) (p .limit) (omega (arith, length-drop (p .limit) (planEnds p), ap length nothing)) ∙ sym (le-leb 512 at h))
+          let nothing : drop (p .cap) (planEnds p) ≡ [] = e ∙ ap (λ (i : ℕ). toCome count threshold words i stack) last ∙ none-to-come stack (s .sized) in
+          ap digit (le-leb (length (planEnds p)) (p .cap) (omega (arith, length-drop (p .cap) (planEnds p), ap length nothing)) ∙ sym (le-leb 512 at h))
       step (no h) =
-          let some : 0 < length (drop (p .limit) (planEnds p)) = rw e (some-to-come at stack s (omega arith)) in
-          ap digit (lt-leb (length (planEnds p)) (p .limit) (omega (arith, length-drop (p .limit) (planEnds p), some)) ∙ sym (lt-leb 512 at (omega arith)))
+          let some : 0 < length (drop (p .cap) (planEnds p)) = rw e (some-to-come at stack s (omega arith)) in
+          ap digit (lt-leb (length (planEnds p)) (p .cap) (omega (arith, length-drop (p .cap) (planEnds p), some)) ∙ sym (lt-leb 512 at (omega arith)))
 
 -- ---- a step
 

@@ -38,13 +38,13 @@ pub examined-iff : (p : Plan) → Probabilities (p .events) → complete p ≡ 1
     → (isExamined p s ≡ true) ↔ ((length s ≡ length (p .events)) × (p .threshold ≤ finalMass whole (p .events) s))
 examined-iff p q c s = (examined-sound p s, back)
   where
-    enough : (b : Bool) → leb (length (planEnds p)) (p .limit) ≡ b → digit b ≡ 1 → length (planEnds p) ≤ p .limit
-    enough true e d = leb-true (length (planEnds p)) (p .limit) e
+    enough : (b : Bool) → leb (length (planEnds p)) (p .cap) ≡ b → digit b ≡ 1 → length (planEnds p) ≤ p .cap
+    enough true e d = leb-true (length (planEnds p)) (p .cap) e
     enough false e d = absurd (omega arith)
 
     back : (length s ≡ length (p .events)) × (p .threshold ≤ finalMass whole (p .events) s) → isExamined p s ≡ true
     back h =
-        rw (take-all (p .limit) (planEnds p) (enough (leb (length (planEnds p)) (p .limit)) refl c))
+        rw (take-all (p .cap) (planEnds p) (enough (leb (length (planEnds p)) (p .cap)) refl c))
         (member-among
         s
         (scenarios (planEnds p))
@@ -56,7 +56,7 @@ examined-iff p q c s = (examined-sound p s, back)
 
 -- E is at most 10^18
 pub massExamined-le : (p : Plan) → Probabilities (p .events) → massExamined p ≤ whole
-massExamined-le p q = masses-le (p .threshold) (p .limit) whole (p .events) q
+massExamined-le p q = masses-le (p .threshold) (p .cap) whole (p .events) q
 
 -- "Examined count × t is at most 10^18."
 pub count-le : (p : Plan) → Probabilities (p .events) → count p * p .threshold ≤ whole
@@ -64,13 +64,13 @@ count-le p q =
     omega (
       arith,
       ap (λ (x : ℕ). x * p .threshold) (count-sum p),
-      masses-enough (p .threshold) (p .limit) whole (p .events),
+      masses-enough (p .threshold) (p .cap) whole (p .events),
       massExamined-le p q,
     )
 
 -- what is examined stands in the order of the walk: at the first event on which two scenarios differ, it works in the one that comes first
 pub examined-ordered : (p : Plan) → Ordered (examined p)
-examined-ordered p = ends-ordered (p .threshold) (p .limit) whole (p .events)
+examined-ordered p = ends-ordered (p .threshold) (p .cap) whole (p .events)
 
 -- so no scenario is examined twice
 pub examined-distinct : (p : Plan) → List·Nodup (examined p)

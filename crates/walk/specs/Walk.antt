@@ -18,7 +18,7 @@ planEnds p = ends (p .threshold) whole (p .events)
 
 -- the first cap ends
 abbrev pub firstEnds : Plan → List End
-firstEnds p = take (p .limit) (planEnds p)
+firstEnds p = take (p .cap) (planEnds p)
 
 -- "Examined are the relevant scenarios among the first cap ends."
 abbrev pub examined : Plan → List Scenario
@@ -30,7 +30,7 @@ isExamined p s = among s (examined p)
 
 -- "Complete" is 1 if there are no more ends than cap, else 0
 abbrev pub complete : Plan → ℕ
-complete p = digit (leb (length (planEnds p)) (p .limit))
+complete p = digit (leb (length (planEnds p)) (p .cap))
 
 -- E, the sum of the examined masses
 abbrev pub massExamined : Plan → ℕ

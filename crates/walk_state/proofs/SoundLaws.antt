@@ -15,32 +15,32 @@ use Rattle.walk_state.proofs.EntryLaws.{stops, goes}
 
 -- ---- the numbers
 
-module _ (limit at reached count : ℕ) where
-  pub more-examined : reached < count → false ≡ soundNumbers limit at reached count
+module _ (cap at reached count : ℕ) where
+  pub more-examined : reached < count → false ≡ soundNumbers cap at reached count
   unfolding soundNumbers
   more-examined h = rw (lt-leb count reached h)
 
   module _ (few : count ≤ reached) where
-    pub past-cap : limit < reached → false ≡ soundNumbers limit at reached count
+    pub past-cap : cap < reached → false ≡ soundNumbers cap at reached count
     unfolding soundNumbers
-    past-cap h = rw (le-leb count reached few, lt-leb reached limit h)
+    past-cap h = rw (le-leb count reached few, lt-leb reached cap h)
 
-    module _ (under : reached ≤ limit) where
-      pub no-entry : (at % 4 ≡ 0 → ⊥) → false ≡ soundNumbers limit at reached count
+    module _ (under : reached ≤ cap) where
+      pub no-entry : (at % 4 ≡ 0 → ⊥) → false ≡ soundNumbers cap at reached count
       unfolding soundNumbers
-      no-entry h = rw (le-leb count reached few, le-leb reached limit under, ne-eqb (at % 4) 0 h)
+      no-entry h = rw (le-leb count reached few, le-leb reached cap under, ne-eqb (at % 4) 0 h)
 
-      pub last-number : at % 4 ≡ 0 → leb at 512 ≡ soundNumbers limit at reached count
+      pub last-number : at % 4 ≡ 0 → leb at 512 ≡ soundNumbers cap at reached count
       unfolding soundNumbers
-      last-number h = rw (le-leb count reached few, le-leb reached limit under, eq-eqb (at % 4) 0 h)
+      last-number h = rw (le-leb count reached few, le-leb reached cap under, eq-eqb (at % 4) 0 h)
 
-  pub numbers-are : soundNumbers limit at reached count ≡ true → (count ≤ reached) × (reached ≤ limit) × (at % 4 ≡ 0) × (at ≤ 512)
+  pub numbers-are : soundNumbers cap at reached count ≡ true → (count ≤ reached) × (reached ≤ cap) × (at % 4 ≡ 0) × (at ≤ 512)
   unfolding soundNumbers
   numbers-are e =
       let b = and-right (leb count reached) _ e in
-      let c = and-right (leb reached limit) _ b in (
+      let c = and-right (leb reached cap) _ b in (
         leb-true count reached (and-left _ _ e),
-        leb-true reached limit (and-left _ _ b),
+        leb-true reached cap (and-left _ _ b),
         eqb-true (at % 4) 0 (and-left _ _ c),
         leb-true at 512 (and-right (eqb (at % 4) 0) _ c),
       )
@@ -51,7 +51,7 @@ module _ (limit at reached count : ℕ) where
 pub record SoundWalk (w : Walk) : Type 0 where
   pub valid : planRefusal (planOfLists (w .header) (w .links) (w .events)) ≡ 0
   pub few : w .count ≤ w .reached
-  pub under-cap : w .reached ≤ w .header .limit
+  pub under-cap : w .reached ≤ w .header .cap
   pub fours : w .at % 4 ≡ 0
   pub within : w .at ≤ 512
   pub light : w .mass ≤ whole
@@ -63,7 +63,7 @@ module _ (w : Walk) where
   lists = eqb (planRefusal (planOfLists (w .header) (w .links) (w .events))) 0
 
   abbrev numbers : Bool
-  numbers = soundNumbers (w .header .limit) (w .at) (w .reached) (w .count)
+  numbers = soundNumbers (w .header .cap) (w .at) (w .reached) (w .count)
 
   abbrev entries : Bool
   entries = soundEntries (w .header .events) (whole - w .mass) (drop (w .at) (w .stack))

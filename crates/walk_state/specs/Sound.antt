@@ -52,7 +52,7 @@ example-above = (refl, refl)
 
 -- no more scenarios were examined than ends reached, no more ends reached than the cap, and the stack begins at an entry
 unfoldable pub soundNumbers : ℕ → ℕ → ℕ → ℕ → Bool
-soundNumbers limit at reached count = leb count reached && (leb reached limit && (eqb (at % 4) 0 && leb at 512))
+soundNumbers cap at reached count = leb count reached && (leb reached cap && (eqb (at % 4) 0 && leb at 512))
 
 -- examples: 5 ends of a cap of 9, 4 of them examined; more examined than reached; more reached than the cap; a stack that begins inside an
 -- entry
@@ -66,6 +66,6 @@ example-numbers = (refl, refl, refl, refl)
 unfoldable pub sound : Walk → Bool
 sound w =
     eqb (planRefusal (planOfLists (w .header) (w .links) (w .events))) 0
-    && (soundNumbers (w .header .limit) (w .at) (w .reached) (w .count)
+    && (soundNumbers (w .header .cap) (w .at) (w .reached) (w .count)
     && (leb (w .mass) whole
     && (soundEntries (w .header .events) (whole - w .mass) (drop (w .at) (w .stack)) && noneAbove (w .mass) (w .sums))))

@@ -10,7 +10,7 @@ use Rattle.walk_state.specs.declared.WalkAnswer.{WalkAnswer}
 unfoldable pub noWalk : Walk
 noWalk =
     record {
-      header = record { nodes = 0; links = 0; events = 0; threshold = 0; limit = 0 };
+      header = record { nodes = 0; links = 0; events = 0; threshold = 0; cap = 0 };
       links = replicate 256 0;
       events = replicate 512 0;
       stack = replicate 512 0;

@@ -37,7 +37,7 @@ pub fn no_walk() -> Walk
         links: 0,
         events: 0,
         threshold: 0,
-        limit: 0,
+        cap: 0,
     };
     Walk {
         header,

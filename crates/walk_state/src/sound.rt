@@ -88,13 +88,13 @@ fn none_above(most: u64, sums: &[u64; 2016]) -> bool
 }
 
 // Whether no more scenarios were examined than ends reached, no more ends reached than the cap, and the stack begins at an entry.
-fn numbers_sound(limit: u64, at: usize, reached: u64, count: u64) -> bool
-    ensures { λ r. ⌜ r ≡ soundNumbers limit at reached count ⌝ }
+fn numbers_sound(cap: u64, at: usize, reached: u64, count: u64) -> bool
+    ensures { λ r. ⌜ r ≡ soundNumbers cap at reached count ⌝ }
 {
     if reached < count {
         return false;
     }
-    if limit < reached {
+    if cap < reached {
         return false;
     }
     if at % 4 != 0 {
@@ -131,7 +131,7 @@ pub fn is_sound(
     if lent::lists_refusal(h, links, events) != 0 {
         return false;
     }
-    if !numbers_sound(h.limit, at, reached, count) {
+    if !numbers_sound(h.cap, at, reached, count) {
         return false;
     }
     if mass > mass::Mass::WHOLE.units {

@@ -16,7 +16,7 @@ walkWords w =
     ∷ w .header .links
     ∷ w .header .events
     ∷ w .header .threshold
-    ∷ w .header .limit
+    ∷ w .header .cap
     ∷ w .at
     ∷ w .reached
     ∷ w .count
@@ -27,7 +27,7 @@ walkWords w =
 unfoldable pub walkOf : List ℕ → Walk
 walkOf s =
     record {
-      header = record { nodes = getD s 0 0; links = getD s 1 0; events = getD s 2 0; threshold = getD s 3 0; limit = getD s 4 0 };
+      header = record { nodes = getD s 0 0; links = getD s 1 0; events = getD s 2 0; threshold = getD s 3 0; cap = getD s 4 0 };
       links = map (λ (x : ℕ). x % 256) (take 256 (drop 9 s));
       events = take 512 (drop 265 s);
       stack = take 512 (drop 777 s);

@@ -89,13 +89,13 @@ module _ (out₀ out₁ out₂ out₃ out₄ out₅ : List ℕ) (at k a b r q no
       )
 
 -- the header laid down in its parts
-pub header-laid : (out out₁ out₂ out₃ : List ℕ) (nodes links events threshold limit : ℕ)
+pub header-laid : (out out₁ out₂ out₃ : List ℕ) (nodes links events threshold cap : ℕ)
     → out₁ ≡ sets (set (set (set out 0 82) 1 83) 2 71) 3 (little 2 1)
     → out₂ ≡ sets (set (set (set out₁ 5 nodes) 6 links) 7 events) 8 (little 8 threshold)
-    → out₃ ≡ sets out₂ 16 (little 4 limit)
-    → out₃ ≡ sets out 0 (82 ∷ 83 ∷ 71 ∷ (little 2 1 ++ (nodes ∷ links ∷ events ∷ (little 8 threshold ++ little 4 limit))))
+    → out₃ ≡ sets out₂ 16 (little 4 cap)
+    → out₃ ≡ sets out 0 (82 ∷ 83 ∷ 71 ∷ (little 2 1 ++ (nodes ∷ links ∷ events ∷ (little 8 threshold ++ little 4 cap))))
 unfolding little
-header-laid out out₁ out₂ out₃ nodes links events threshold limit e₁ e₂ e₃ = rw (e₃, e₂, e₁)
+header-laid out out₁ out₂ out₃ nodes links events threshold cap e₁ e₂ e₃ = rw (e₃, e₂, e₁)
 
 -- one more event laid down
 pub laid-next : (words out out′ : List ℕ) (i i′ at left : ℕ) → 0 < left
@@ -111,13 +111,13 @@ laid-end words out i left h = rw (bytes-end words left h)
 
 -- a plan laid down in its three parts
 pub plan-laid : (h : Header) (links words out out₁ out₂ out₃ : List ℕ) → 2 * h .links ≤ length links
-    → out₁ ≡ sets out 0 (82 ∷ 83 ∷ 71 ∷ (little 2 1 ++ (h .nodes ∷ h .links ∷ h .events ∷ (little 8 (h .threshold) ++ little 4 (h .limit)))))
+    → out₁ ≡ sets out 0 (82 ∷ 83 ∷ 71 ∷ (little 2 1 ++ (h .nodes ∷ h .links ∷ h .events ∷ (little 8 (h .threshold) ++ little 4 (h .cap)))))
     → out₂ ≡ sets out₁ 20 (take (2 * h .links) links)
     → out₃ ≡ sets out₂ (20 + 2 * h .links) (eventBytes (eventsOf (h .events) words))
     → out₃ ≡ sets out 0 (layout (planOfLists h links words))
 unfolding planOfLists layout headerBytes little
 plan-laid h links words out out₁ out₂ out₃ fit e₁ e₂ e₃ =
-    let head : List ℕ = 82 ∷ 83 ∷ 71 ∷ (little 2 1 ++ (h .nodes ∷ h .links ∷ h .events ∷ (little 8 (h .threshold) ++ little 4 (h .limit)))) in
+    let head : List ℕ = 82 ∷ 83 ∷ 71 ∷ (little 2 1 ++ (h .nodes ∷ h .links ∷ h .events ∷ (little 8 (h .threshold) ++ little 4 (h .cap)))) in
     let bytes = take (2 * h .links) links in
     let rest = eventBytes (eventsOf (h .events) words) in
     let n : length bytes ≡ 2 * h .links = length-take-le (2 * h .links) links fit in

@@ -111,7 +111,7 @@ fn put_events(out: &mut [u8], start: usize, words: &[u64], count: u64)
 fn put_header(out: &mut [u8], h: Header)
     requires { ⌜ (20 ≤ length (now out)) × ((h .nodes ≤ 64) × ((h .links ≤ 128) × (h .events ≤ 128))) ⌝ }
     ensures { λ r. ⌜ now (out .exit) ≡ sets (now (out .entry)) 0
-        (82 ∷ 83 ∷ 71 ∷ (little 2 1 ++ (h .nodes ∷ h .links ∷ h .events ∷ (little 8 (h .threshold) ++ little 4 (h .limit))))) ⌝ }
+        (82 ∷ 83 ∷ 71 ∷ (little 2 1 ++ (h .nodes ∷ h .links ∷ h .events ∷ (little 8 (h .threshold) ++ little 4 (h .cap))))) ⌝ }
 {
     out[0] = b'R';
     out[1] = b'S';
@@ -121,7 +121,7 @@ fn put_header(out: &mut [u8], h: Header)
     out[6] = h.links as u8;
     out[7] = h.events as u8;
     put_number(out, 8, 8, h.threshold);
-    put_number(out, 16, 4, h.limit);
+    put_number(out, 16, 4, h.cap);
 }
 
 // Lays down the file of a plan that no test refuses.

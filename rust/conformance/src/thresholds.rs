@@ -16,7 +16,7 @@ mod raw {
             nodes: u64,
             links_count: u64,
             events_count: u64,
-            limit: u64,
+            cap: u64,
             links: *const u8,
             links_len: usize,
             events: *const u64,

@@ -6,7 +6,7 @@ use native.Mathlib.Omega.{arith}
 use lib.ListN.{length}
 use Rattle.mass.specs.Refusal.{first}
 use Rattle.mass.proofs.RefusalLaws.{first-none}
-use Rattle.refusals.specs.Tests.{countsTest, thresholdTest, limitTest, roomTest}
+use Rattle.refusals.specs.Tests.{countsTest, thresholdTest, capTest, roomTest}
 use Rattle.refusals.proofs.OrderLaws.{stop, skip, last, also, first-run}
 use Rattle.refusals.proofs.TestLaws.{Ranges, counts-none, room-none}
 use Rattle.plan.specs.LentLists.{listsNumber}
@@ -24,11 +24,11 @@ entry k = k .before .before .before .before .before .before .before
 -- the first run is 4 to 6
 header : (k : tie.After-first-of)
     → (let h : Header = entry k .args .h in
-    k .first-of .result ≡ first (countsTest (h .nodes) (h .links) (h .events) ∷ thresholdTest (h .threshold) ∷ limitTest (h .limit) ∷ []))
+    k .first-of .result ≡ first (countsTest (h .nodes) (h .links) (h .events) ∷ thresholdTest (h .threshold) ∷ capTest (h .cap) ∷ []))
 header k =
     let t = k .before .before in
     k .first-of .ensures
-    ∙ ap first (also (t .before .before .counts-test .ensures) (also (t .before .threshold-test .ensures) (also (t .limit-test .ensures) refl)))
+    ∙ ap first (also (t .before .before .counts-test .ensures) (also (t .before .threshold-test .ensures) (also (t .cap-test .ensures) refl)))
 
 -- the second is 12 for both lists
 rooms : (k : tie.After-first-of2)
@@ -64,7 +64,7 @@ decided : (c : tie.Else2) (r : ℕ) (later : List ℕ)
     r ≡ first
     (countsTest (a .h .nodes) (a .h .links) (a .h .events)
     ∷ thresholdTest (a .h .threshold)
-    ∷ limitTest (a .h .limit)
+    ∷ capTest (a .h .cap)
     ∷ roomTest (length (a .links .now)) (2 * a .h .links)
     ∷ roomTest (length (a .events .now) / 4) (a .h .events)
     ∷ later))
@@ -94,7 +94,7 @@ lists-refusal-spec =
     (tie.spec
     (λ c κs. tt)  -- counts-test-requires
     (λ c κs. tt)  -- threshold-test-requires
-    (λ c κs. tt)  -- limit-test-requires
+    (λ c κs. tt)  -- cap-test-requires
     (λ c. refl)  -- slice-aggregate-first-of
     (λ c κs. tt)  -- first-of-requires
     returns

@@ -33,7 +33,7 @@ numbers w =
     ∷ w .header .links
     ∷ w .header .events
     ∷ w .header .threshold
-    ∷ w .header .limit
+    ∷ w .header .cap
     ∷ w .at
     ∷ w .reached
     ∷ w .count

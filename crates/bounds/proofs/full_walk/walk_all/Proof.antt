@@ -1,7 +1,7 @@
 -- `bounds::full_walk::walk_all` meets its contract. Assumes nothing.
 use borrow.Author.Needs.{needs}
 use mathlib.Core.Path.{refl}
-use Rattle.lent.proofs.Accepted.{plan-held, plan-limited}
+use Rattle.lent.proofs.Accepted.{plan-held, plan-cap-small}
 use Rattle.walk.proofs.Resume.{begun-alone}
 use Rattle.bounds.proofs.Root.{ready-whole, whole-totals, whole-sums}
 use Rattle.bounds.proofs.full_walk.walk_all.Statement.{statement}
@@ -15,7 +15,7 @@ go-on-requires c κs =
     let pre = c .before .before .before .before .before .before .pre in
     let begun = begun-alone _ _ _ refl (c .before .before .before .begin .ensures) in (
       c .before .before .before .before .before .links-at .ensures,
-      ready-whole _ _ _ _ _ _ begun (pre .1) (plan-held _ _ _ (pre .0)) (plan-limited _ _ _ (pre .0)),
+      ready-whole _ _ _ _ _ _ begun (pre .1) (plan-held _ _ _ (pre .0)) (plan-cap-small _ _ _ (pre .0)),
     )
 
 returns : tie.Need-returns

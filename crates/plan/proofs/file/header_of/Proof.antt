@@ -13,7 +13,7 @@ returns c =
       links = c .before .before .before .byte-at2 .ensures .0 i;
       events = c .before .before .byte-at3 .ensures .0 i;
       threshold = c .before .number-at .ensures i;
-      limit = c .number-at2 .ensures i;
+      cap = c .number-at2 .ensures i;
     }
 
 pub header-of-spec : {M : Type 1} → statement M

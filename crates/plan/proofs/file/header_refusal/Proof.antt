@@ -5,7 +5,7 @@ use Prim.Native.Nat.{_≤_}
 use native.Mathlib.Omega.{arith}
 use lib.ListN.{length}
 use Rattle.mass.specs.Refusal.{first}
-use Rattle.refusals.specs.Tests.{markTest, versionTest, countsTest, thresholdTest, limitTest}
+use Rattle.refusals.specs.Tests.{markTest, versionTest, countsTest, thresholdTest, capTest}
 use Rattle.plan.specs.File.{headerRefusal}
 use Rattle.refusals.proofs.OrderLaws.{stop, skip, also, on, on3}
 use Rattle.plan.proofs.FileLawsAccepted.{enough}
@@ -26,8 +26,8 @@ number-at-requires-3 c κs = omega (arith, there (c .before .before .before .bef
 returns-2 : tie.Need-returns-2
 unfolding headerRefusal
 returns-2 c =
-    let limit = c .before .before in
-    let threshold = limit .before .before in
+    let cap = c .before .before in
+    let threshold = cap .before .before in
     let counts = threshold .before .before in
     let version = counts .before .before .before .before in
     let mark = version .before .before in
@@ -43,7 +43,7 @@ returns-2 c =
     (on3 countsTest (counts .counts-test .ensures)
     (counts .before .before .before .byte-at4 .ensures .0) (counts .before .before .byte-at5 .ensures .0) (counts .before .byte-at6 .ensures .0))
     (also (on thresholdTest (threshold .threshold-test .ensures) (threshold .before .number-at2 .ensures))
-    (also (on limitTest (limit .limit-test .ensures) (limit .before .number-at3 .ensures)) refl))))))
+    (also (on capTest (cap .cap-test .ensures) (cap .before .number-at3 .ensures)) refl))))))
 
 pub header-refusal-spec : {M : Type 1} → statement M
 header-refusal-spec =
@@ -64,7 +64,7 @@ header-refusal-spec =
     (λ c κs. omega (arith, there (c .before .before .before .before .before .before .before .before .before .before)))  -- number-at-requires-2
     (λ c κs. tt)  -- threshold-test-requires
     number-at-requires-3
-    (λ c κs. tt)  -- limit-test-requires
+    (λ c κs. tt)  -- cap-test-requires
     (λ c. refl)  -- slice-aggregate-first-of
     (λ c κs. tt)  -- first-of-requires
     returns-2)

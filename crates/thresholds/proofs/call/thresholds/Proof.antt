@@ -30,7 +30,7 @@ fill-blocks-requires c κs =
     let e = x .before in
     let t = e .before .accept-thresholds .ensures .1 (e .if1 .left) in
     rw (x .header-at .ensures)
-    ((t .0 .held, arrays-valid _ _ _ _ _ (t .0)), ((t .0 .limited, t .1 .tested), (t .1 .lower-room, t .1 .upper-room)))
+    ((t .0 .held, arrays-valid _ _ _ _ _ (t .0)), ((t .0 .cap-small, t .1 .tested), (t .1 .lower-room, t .1 .upper-room)))
 
 returns-2 : tie.Need-returns-2
 returns-2 c =

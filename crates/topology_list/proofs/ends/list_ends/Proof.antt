@@ -8,7 +8,7 @@ use Rattle.topology_list.proofs.ends.list_ends.Tie as tie
 
 abbrev Inv-loop : tie.InvT-loop
 Inv-loop h links words table stack₀ start list₀ at₀ left₀ count₀ stack list at left count =
-    Turn h links words at₀ stack₀ list₀ (h .limit) stack list at left count
+    Turn h links words at₀ stack₀ list₀ (h .cap) stack list at left count
 
 abbrev μ-loop : tie.MeasureT-loop
 μ-loop h links words table stack₀ start list₀ at₀ left₀ count₀ stack list at left count = left
