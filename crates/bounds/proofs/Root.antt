@@ -29,7 +29,7 @@ use Rattle.bounds.specs.Calls.{totalsOf}
 module _ (h : Header) (links words : List ℕ) (at : ℕ) (stack lower : List ℕ) (b : Alone 0 whole 0 0 at stack) (clear : Cleared lower) where
   -- nothing is examined at the root
   abbrev start : RunState
-  start = runState stack lower (record { at = at; left = h .cap; number = 0; mass = 0 })
+  start = runState stack lower (record { at = at; left = h .cap; count = 0; mass = 0 })
 
   pub ready-whole : Held h links words → h .cap < 4294967296 → Ready h links words start
   ready-whole held few =
@@ -60,9 +60,9 @@ module _ (h : Header) (links words : List ℕ) (at : ℕ) (stack lower : List �
     unfolding planOfLists
     left-over = sym (t .rest ∙ ap (drop (h .cap)) from-root)
 
-    pub whole-totals : (c : ℕ) → c ≡ digit (leb 512 (r .sums .at)) → (record { count = r .sums .number; complete = c; mass = r .sums .mass }) ≡ totalsOf p
+    pub whole-totals : (c : ℕ) → c ≡ digit (leb 512 (r .sums .at)) → (record { count = r .sums .count; complete = c; mass = r .sums .mass }) ≡ totalsOf p
     whole-totals c e =
-        let one : r .sums .number ≡ totalsOf p .count = omega (arith, t .numbers, ap (sumEnds (λ s m. 1)) firsts, count-sum p) in
+        let one : r .sums .count ≡ totalsOf p .count = omega (arith, t .counts, ap (sumEnds (λ s m. 1)) firsts, count-sum p) in
         let two : c ≡ totalsOf p .complete = e ∙ sym (complete-at (h .events) (h .threshold) words p (r .sums .at) (r .stack) (t .stacked) left-over) in
         let three : r .sums .mass ≡ totalsOf p .mass = omega (arith, t .masses, ap (sumEnds (λ s m. m)) firsts) in
         λ i. record { count = one i; complete = two i; mass = three i }

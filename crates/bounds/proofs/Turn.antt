@@ -33,11 +33,11 @@ module _ (p : WalkedPlan) (start here : RunState) (g : Turn p start here) (stack
 
   pub stopped : step .found ≡ false
       → Tallied p start
-      (runState stack′ (here .lower) (record { at = step .at; left = step .left; number = here .sums .number; mass = here .sums .mass }))
+      (runState stack′ (here .lower) (record { at = step .at; left = step .left; count = here .sums .count; mass = here .sums .mass }))
   stopped e =
       g .goes _
       (record {
-        numbers = omega (arith, none (λ s m. 1) e);
+        counts = omega (arith, none (λ s m. 1) e);
         masses = omega (arith, none (λ s m. m) e);
         entries = λ v w l k. omega (arith, none (λ s m. m * digit (cuts (p .out) (planOfLists (p .header) (p .links) (p .words)) v w s)) e);
         below = ready .below;
@@ -55,7 +55,7 @@ module _ (p : WalkedPlan) (start here : RunState) (g : Turn p start here) (stack
 
     -- then the loop is in this state, with the entries that it leaves
     abbrev next : List ℕ → RunState
-    next lower = runState stack′ lower (record { at = step .at; left = step .left; number = here .sums .number + 1; mass = here .sums .mass + step .mass })
+    next lower = runState stack′ lower (record { at = step .at; left = step .left; count = here .sums .count + 1; mass = here .sums .mass + step .mass })
 
     one : (lower : List ℕ) (f : Scenario → ℕ → ℕ) → sumEnds f (reached (p .header) (p .words) here)
         ≡ f scenario (step .mass) + sumEnds f (reached (p .header) (p .words) (next lower))
@@ -67,8 +67,8 @@ module _ (p : WalkedPlan) (start here : RunState) (g : Turn p start here) (stack
     pub mass-fits : here .sums .mass + step .mass ≤ whole
     mass-fits = omega (arith, ready .fits, one (here .lower) (λ s m. m))
 
-    pub number-fits : here .sums .number + 1 < 4294967296
-    number-fits = omega (arith, ready .counted, less)
+    pub count-fits : here .sums .count + 1 < 4294967296
+    count-fits = omega (arith, ready .counted, less)
 
     pub room : Room (step .mass) (here .lower)
     room = record { sized = ready .sized; fits = λ i. omega (arith, ready .below i, mass-fits) }
@@ -91,7 +91,7 @@ module _ (p : WalkedPlan) (start here : RunState) (g : Turn p start here) (stack
       from-next : (r : RunState) → Tallied p (next lower′) r → Tallied p here r
       from-next r t =
           record {
-            numbers = omega (arith, t .numbers, one lower′ (λ s m. 1));
+            counts = omega (arith, t .counts, one lower′ (λ s m. 1));
             masses = omega (arith, t .masses, one lower′ (λ s m. m));
             entries =
                 λ v w l k.

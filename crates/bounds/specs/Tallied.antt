@@ -62,12 +62,12 @@ pub record Ready (h : Header) (links words : List ℕ) (s : RunState) : Type 0 w
   pub sized : length (s .lower) ≡ 2016
   pub below : (i : ℕ) → getD (s .lower) i 0 ≤ s .sums .mass
   pub fits : s .sums .mass + sumEnds (λ e m. m) (reached h words s) ≤ whole
-  pub counted : s .sums .number + s .sums .left < 4294967296
+  pub counted : s .sums .count + s .sums .left < 4294967296
 
 -- what it promises: the sums so far plus those over the ends that are reached, the others still to come, and how many of the allowed ends
 -- were not used; the mass added comes off that of the pending branches
 pub record Tallied (p : WalkedPlan) (s s′ : RunState) : Type 0 where
-  pub numbers : s′ .sums .number ≡ s .sums .number + sumEnds (λ e m. 1) (reached (p .header) (p .words) s)
+  pub counts : s′ .sums .count ≡ s .sums .count + sumEnds (λ e m. 1) (reached (p .header) (p .words) s)
   pub masses : s′ .sums .mass ≡ s .sums .mass + sumEnds (λ e m. m) (reached (p .header) (p .words) s)
   pub entries : (v w : ℕ) → v < w → w < p .header .nodes
       → getD (s′ .lower) (place (p .header .nodes) v w) 0

@@ -75,7 +75,7 @@ pub fn go_on(
 {
     let mut at = so_far.at;
     let mut left = so_far.left;
-    let mut number = so_far.number;
+    let mut count = so_far.count;
     let mut mass = so_far.mass;
     // Going on from here gives what the call is to give from the start.
     // A scenario that is found takes one end or more, so `left` falls in each turn that does not return.
@@ -87,7 +87,7 @@ pub fn go_on(
             return Tally {
                 at,
                 left,
-                number,
+                count,
                 mass,
             };
         }
@@ -106,7 +106,7 @@ pub fn go_on(
             1,
             step.mass,
         );
-        number += 1;
+        count += 1;
         mass += step.mass;
     }
 }

@@ -42,12 +42,12 @@ pub fn walk_all(
     let so_far = Tally {
         at,
         left: h.cap,
-        number: 0,
+        count: 0,
         mass: 0,
     };
     let r = go_on(h, links, words, &table, out, &mut stack, lower, so_far);
     Totals {
-        count: r.number,
+        count: r.count,
         complete: none_left(r.at),
         mass: r.mass,
     }

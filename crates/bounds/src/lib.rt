@@ -20,7 +20,7 @@ pub use runs::run_at;
 pub struct Tally {
     pub at: usize,
     pub left: u64,
-    pub number: u64,
+    pub count: u64,
     pub mass: u64,
 }
 

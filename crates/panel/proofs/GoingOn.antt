@@ -34,7 +34,7 @@ use Rattle.walk_state.proofs.StateLaws.{entries-are, below-is}
 
 -- the tally of a walk that may reach so many ends more
 abbrev pub tallyOf : Walk → ℕ → Tally
-tallyOf w allowed = record { at = w .at; left = allowed; number = w .count; mass = w .mass }
+tallyOf w allowed = record { at = w .at; left = allowed; count = w .count; mass = w .mass }
 
 module _ (w : Walk) (s : SoundWalk w) where
   pub held : Held (w .header) (w .links) (w .events)
@@ -117,7 +117,7 @@ module _ (w : Walk) (allowed : ℕ) (stack′ sums′ : List ℕ) (r : Tally)
         sums = sums′;
         at = r .at;
         reached = w .reached + got;
-        count = r .number;
+        count = r .count;
         mass = r .mass;
       }
 
@@ -164,7 +164,7 @@ module _ (w : Walk) (allowed : ℕ) (stack′ sums′ : List ℕ) (r : Tally)
           within = omega (arith, at .within, length-take allowed (drop n all), length-drop n all);
           stacked = t .stacked;
           ends = t .rest ∙ ap (drop allowed) (at .ends) ∙ drop-more n allowed all;
-          counts = omega (arith, t .numbers, at .counts, count-sum (capped p n), count-sum (capped p (n + got)), sum-on (λ s m. 1));
+          counts = omega (arith, t .counts, at .counts, count-sum (capped p n), count-sum (capped p (n + got)), sum-on (λ s m. 1));
           masses = mass-on;
           sums = sums-on;
           pending = omega (arith, t .lighter, at .pending);

@@ -119,7 +119,7 @@ fn reach(w: Walk, allowed: u64) -> Walk
     let so_far = Tally {
         at: w.at,
         left: allowed,
-        number: w.count,
+        count: w.count,
         mass: w.mass,
     };
     let r = bounds::go_on(
@@ -140,7 +140,7 @@ fn reach(w: Walk, allowed: u64) -> Walk
         sums,
         at: r.at,
         reached: w.reached + (allowed - r.left),
-        count: r.number,
+        count: r.count,
         mass: r.mass,
     }
 }

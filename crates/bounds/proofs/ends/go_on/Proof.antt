@@ -4,18 +4,18 @@ use borrow.Author.Tests.{not-true, not-false}
 use Rattle.network.specs.Code.{outage}
 use Rattle.bounds.specs.Tallied.{walkedPlan, runState}
 use Rattle.bounds.proofs.Examining.{first-fits, examined}
-use Rattle.bounds.proofs.Turn.{Turn, stopped, mass-fits, number-fits, room, less, turned}
+use Rattle.bounds.proofs.Turn.{Turn, stopped, mass-fits, count-fits, room, less, turned}
 use Rattle.bounds.proofs.ends.go_on.Statement.{statement}
 use Rattle.bounds.proofs.ends.go_on.Tie as tie
 
 abbrev Inv-loop : tie.InvT-loop
-Inv-loop h links words table out stack₀ lower₀ at₀ left₀ number₀ mass₀ stack lower at left number mass =
+Inv-loop h links words table out stack₀ lower₀ at₀ left₀ count₀ mass₀ stack lower at left count mass =
     Turn (walkedPlan (outage out) h links words)
-    (runState stack₀ lower₀ (record { at = at₀; left = left₀; number = number₀; mass = mass₀ }))
-    (runState stack lower (record { at = at; left = left; number = number; mass = mass }))
+    (runState stack₀ lower₀ (record { at = at₀; left = left₀; count = count₀; mass = mass₀ }))
+    (runState stack lower (record { at = at; left = left; count = count; mass = mass }))
 
 abbrev μ-loop : tie.MeasureT-loop
-μ-loop h links words table out stack₀ lower₀ at₀ left₀ number₀ mass₀ stack lower at left number mass = left
+μ-loop h links words table out stack₀ lower₀ at₀ left₀ count₀ mass₀ stack lower at left count mass = left
 
 loop-holds : tie.Need-loop-holds Inv-loop μ-loop
 loop-holds c = record { ready = c .pre .1; goes = λ r t. t }
@@ -41,10 +41,10 @@ examine-requires c κs =
       ),
     )
 
-add-number : tie.Need-add-number Inv-loop μ-loop
-add-number c =
+add-count : tie.Need-add-count Inv-loop μ-loop
+add-count c =
     let next = c .before .before .before .before in
-    omega (arith, number-fits _ _ _ (next .before .before .loop .inv) _ _ (next .next-relevant .ensures) (not-false _ (c .before .before .if1 .left)))
+    omega (arith, count-fits _ _ _ (next .before .before .loop .inv) _ _ (next .next-relevant .ensures) (not-false _ (c .before .before .if1 .left)))
 
 add-mass : tie.Need-add-mass Inv-loop μ-loop
 add-mass c =
@@ -75,7 +75,7 @@ go-on-spec =
     next-relevant-requires
     returns
     examine-requires
-    add-number
+    add-count
     add-mass
     loop-less
     loop-again)
