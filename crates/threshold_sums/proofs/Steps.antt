@@ -53,13 +53,13 @@ module _ (events t : ℕ) (path : WorksPath) where
   handed-long (suc k) = ap suc (length-replicate k dropped)
 
   -- the ends that may be reached with room: those of the path, and those after them
-  module _ (room number : ℕ) (none : number ≡ 0 → path .last < t) (list : List End) where
+  module _ (room count : ℕ) (none : count ≡ 0 → path .last < t) (list : List End) where
     sum-step : (f : Scenario → ℕ → ℕ)
-        → sumEnds f (take (room - 1) (handed events t path number ++ list))
-        ≡ f scenario (path .last) * examinedBy t room (path .last) + sumEnds f (take (room - number - 1) list)
-    sum-step f = go number refl (decLt room 2)
+        → sumEnds f (take (room - 1) (handed events t path count ++ list))
+        ≡ f scenario (path .last) * examinedBy t room (path .last) + sumEnds f (take (room - count - 1) list)
+    sum-step f = go count refl (decLt room 2)
       where
-        go : (k : ℕ) → number ≡ k → Dec (room < 2)
+        go : (k : ℕ) → count ≡ k → Dec (room < 2)
             → sumEnds f (take (room - 1) (handed events t path k ++ list))
             ≡ f scenario (path .last) * examinedBy t room (path .last) + sumEnds f (take (room - k - 1) list)
         go zero e d =
@@ -77,17 +77,17 @@ module _ (events t : ℕ) (path : WorksPath) where
             ∙ omega (arith, sum-past f (room - 2) k list, ap (λ (m : ℕ). sumEnds f (take m list)) rest))
 
     -- and whether fewer are to come than the room says
-    fewer-step : ltb (length (handed events t path number ++ list)) room ≡ ltb (length list) (room - number)
-    fewer-step = go (decLt (length list) (room - number))
+    fewer-step : ltb (length (handed events t path count ++ list)) room ≡ ltb (length list) (room - count)
+    fewer-step = go (decLt (length list) (room - count))
       where
-        long : length (handed events t path number ++ list) ≡ number + length list
-        long = length-append (handed events t path number) list ∙ ap (λ (n : ℕ). n + length list) (handed-long number)
+        long : length (handed events t path count ++ list) ≡ count + length list
+        long = length-append (handed events t path count) list ∙ ap (λ (n : ℕ). n + length list) (handed-long count)
 
-        go : Dec (length list < room - number) → ltb (length (handed events t path number ++ list)) room ≡ ltb (length list) (room - number)
+        go : Dec (length list < room - count) → ltb (length (handed events t path count ++ list)) room ≡ ltb (length list) (room - count)
         go (yes h) =
-            lt-ltb (length (handed events t path number ++ list)) room (omega (arith, long)) ∙ sym (lt-ltb (length list) (room - number) h)
+            lt-ltb (length (handed events t path count ++ list)) room (omega (arith, long)) ∙ sym (lt-ltb (length list) (room - count) h)
         go (no h) =
-            le-ltb (length (handed events t path number ++ list)) room (omega (arith, long)) ∙ sym (le-ltb (length list) (room - number) (omega arith))
+            le-ltb (length (handed events t path count ++ list)) room (omega (arith, long)) ∙ sym (le-ltb (length list) (room - count) (omega arith))
 
 -- ---- what was counted so far for one threshold
 
@@ -101,13 +101,13 @@ module _ (p : Plan) (events t : ℕ) (path : WorksPath) (coming coming′ : List
   taken f = ap (λ (l : List End). sumEnds f (take (o .room - 1) l)) split ∙ sum-step events t path (o .room) k none coming′ f
 
   -- the sums have room for what the path adds
-  pub number-fits : o .number + one ≤ count p
-  number-fits = omega (arith, g .numbers, taken (λ s m. 1))
+  pub count-fits : o .count + one ≤ count p
+  count-fits = omega (arith, g .counts, taken (λ s m. 1))
 
   pub mass-fits : o .mass + path .last * one ≤ massExamined p
   mass-fits = omega (arith, g .masses, taken (λ s m. m))
 
-  pub counted-on : (lower′ : List ℕ) (o′ : OwnNumbers) → o′ .room ≡ o .room - k → o′ .number ≡ o .number + one → o′ .mass ≡ o .mass + path .last * one
+  pub counted-on : (lower′ : List ℕ) (o′ : OwnNumbers) → o′ .room ≡ o .room - k → o′ .count ≡ o .count + one → o′ .mass ≡ o .mass + path .last * one
       → ((v w : ℕ) → v < w → w < p .nodes
       → getD lower′ (place (p .nodes) v w + block) 0
       ≡ getD lower (place (p .nodes) v w + block) 0
@@ -115,7 +115,7 @@ module _ (p : Plan) (events t : ℕ) (path : WorksPath) (coming coming′ : List
       → CountedSoFar p coming′ o′ block lower′
   counted-on lower′ o′ left counted added each =
       record {
-        numbers = rw (left, counted) (omega (arith, g .numbers, taken (λ s m. 1)));
+        counts = rw (left, counted) (omega (arith, g .counts, taken (λ s m. 1)));
         masses = rw (left, added) (omega (arith, g .masses, taken (λ s m. m)));
         entries = λ v w l h. rw left (omega (arith, each v w l h, g .entries v w l h, taken (λ s m. m * digit (cuts intact p v w s))));
         below =
@@ -139,7 +139,7 @@ module _ (p : Plan) (coming : List End) (o : OwnNumbers) (block : ℕ) (lower : 
   holds-answers : take (o .room - 1) coming ≡ [] → ltb (length coming) (o .room) ≡ ltb 0 (o .room) → HoldsAnswers p o block lower
   holds-answers none same =
       record {
-        numbers = omega (arith, g .numbers, ap (sumEnds (λ s m. 1)) none);
+        counts = omega (arith, g .counts, ap (sumEnds (λ s m. 1)) none);
         masses = omega (arith, g .masses, ap (sumEnds (λ s m. m)) none);
         entries = λ v w l h. omega (arith, g .entries v w l h, ap (sumEnds (λ s m. m * digit (cuts intact p v w s))) none);
         ends = ap digit (sym same) ∙ g .ends;

@@ -101,7 +101,7 @@ module _ (ps : Plans) (active : ℕ) (f : FallingFirst active (ps .list)) (held 
 
   counted-fits : (i : ℕ) → i < active → getD (n .counts) i 0 < 4294967296
   unfolding planOfLists
-  counted-fits i l = omega (arith, sofar .each i l .numbers, count-le (planFor ps i))
+  counted-fits i l = omega (arith, sofar .each i l .counts, count-le (planFor ps i))
 
   pub counts-fit : CountsFit active path (ps .list) n
   counts-fit i l = (counted-fits i l, mass-room i l (decLt (path .last) (getD (ps .list) i 0)))
@@ -147,17 +147,17 @@ kept-begin h active n lower sized = record { places = λ i l. (refl, refl, refl)
 
 -- ---- one threshold after another
 
--- the first `active` thresholds are under way, the others of the first `number` have ended, and all else is untouched
-pub record Walking (ps : Plans) (number : ℕ) (n₀ : PlaceNumbers) (lower₀ : List ℕ) (active at : ℕ) (stack : List ℕ) (n : PlaceNumbers) (lower : List ℕ) : Type 0 where
-  pub within : active ≤ number
+-- the first `active` thresholds are under way, the others of the first `count` have ended, and all else is untouched
+pub record Walking (ps : Plans) (count : ℕ) (n₀ : PlaceNumbers) (lower₀ : List ℕ) (active at : ℕ) (stack : List ℕ) (n : PlaceNumbers) (lower : List ℕ) : Type 0 where
+  pub within : active ≤ count
   pub stacked : Stack (ps .header .events) at stack
   pub sofar : AllCountedSoFar ps active at stack n lower
-  pub ended : (i : ℕ) → active ≤ i → i < number → HoldsAnswers (planFor ps i) (numbersAt n i) (pairCount (ps .header .nodes) * i) lower
-  pub kept : Kept (ps .header) number n₀ lower₀ n lower
+  pub ended : (i : ℕ) → active ≤ i → i < count → HoldsAnswers (planFor ps i) (numbersAt n i) (pairCount (ps .header .nodes) * i) lower
+  pub kept : Kept (ps .header) count n₀ lower₀ n lower
 
 -- fewer of falling thresholds fall
-pub fewer-fall : (number active : ℕ) (list : List ℕ) → FallingFirst number list → active ≤ number → FallingFirst active list
-fewer-fall number active list f l =
+pub fewer-fall : (count active : ℕ) (list : List ℕ) → FallingFirst count list → active ≤ count → FallingFirst active list
+fewer-fall count active list f l =
     record {
       few = omega (arith, f .few);
       some = λ i k. f .some i (omega arith);
@@ -165,36 +165,36 @@ fewer-fall number active list f l =
       falling = λ i j k m. f .falling i j k (omega arith);
     }
 
-module _ (ps : Plans) (number : ℕ) (n₀ : PlaceNumbers) (lower₀ : List ℕ) where
+module _ (ps : Plans) (count : ℕ) (n₀ : PlaceNumbers) (lower₀ : List ℕ) where
   -- at the root
-  module _ (fresh : Fresh (ps .header) number n₀ lower₀) (f : FallingFirst number (ps .list)) (few : ps .header .nodes ≤ 64) (at : ℕ)
+  module _ (fresh : Fresh (ps .header) count n₀ lower₀) (f : FallingFirst count (ps .list)) (few : ps .header .nodes ≤ 64) (at : ℕ)
       (zeros stack : List ℕ) (place-is : at ≡ 635) (laid : stack ≡ sets zeros 635 (0 ∷ whole ∷ 0 ∷ 0 ∷ whole ∷ [])) (size : length zeros ≡ 640) where
-    ends-are : (i : ℕ) → i < number → coming ps i at stack ≡ planEnds (planFor ps i)
+    ends-are : (i : ℕ) → i < count → coming ps i at stack ≡ planEnds (planFor ps i)
     unfolding planOfLists
     ends-are i l = begun-ends at zeros stack place-is laid size (ps .header .events) (getD (ps .list) i 0) (ps .words) (f .most i l)
 
-    firsts : (i : ℕ) → i < number → take (getD (n₀ .rooms) i 0 - 1) (coming ps i at stack) ≡ firstEnds (planFor ps i)
+    firsts : (i : ℕ) → i < count → take (getD (n₀ .rooms) i 0 - 1) (coming ps i at stack) ≡ firstEnds (planFor ps i)
     unfolding planOfLists
     firsts i l =
         let cap-ends : getD (n₀ .rooms) i 0 - 1 ≡ ps .header .cap = omega (arith, fresh .full i l) in
         ap (λ (m : ℕ). take m (coming ps i at stack)) cap-ends ∙ ap (take (ps .header .cap)) (ends-are i l)
 
-    zero-at : (i : ℕ) → i < number → (v w : ℕ) → v < w → w < ps .header .nodes
+    zero-at : (i : ℕ) → i < count → (v w : ℕ) → v < w → w < ps .header .nodes
         → getD lower₀ (place (ps .header .nodes) v w + pairCount (ps .header .nodes) * i) 0 ≡ 0
     zero-at i l v w k m =
         fresh .zeros (place (ps .header .nodes) v w + pairCount (ps .header .nodes) * i)
         (omega (
           arith,
           place-lt (ps .header .nodes) v w few k m,
-          mul-le-mul-left (pairCount (ps .header .nodes)) (let next : i + 1 ≤ number = omega arith in next),
+          mul-le-mul-left (pairCount (ps .header .nodes)) (let next : i + 1 ≤ count = omega arith in next),
         ))
 
-    fresh-counted : (i : ℕ) → i < number
+    fresh-counted : (i : ℕ) → i < count
         → CountedSoFar (planFor ps i) (coming ps i at stack) (numbersAt n₀ i) (pairCount (ps .header .nodes) * i) lower₀
     unfolding planOfLists
     fresh-counted i l =
         record {
-          numbers = omega (arith, fresh .none i, ap (sumEnds (λ s m. 1)) (firsts i l), count-sum (planFor ps i));
+          counts = omega (arith, fresh .none i, ap (sumEnds (λ s m. 1)) (firsts i l), count-sum (planFor ps i));
           masses = omega (arith, fresh .empty i, ap (sumEnds (λ s m. m)) (firsts i l));
           entries =
               λ v w k m.
@@ -205,19 +205,19 @@ module _ (ps : Plans) (number : ℕ) (n₀ : PlaceNumbers) (lower₀ : List ℕ)
               ∙ ap digit (one-more (length (planEnds (planFor ps i))) (ps .header .cap) (getD (n₀ .rooms) i 0) (fresh .full i l));
         }
 
-    pub walk-begins : Walking ps number n₀ lower₀ number at stack n₀ lower₀
+    pub walk-begins : Walking ps count n₀ lower₀ count at stack n₀ lower₀
     walk-begins =
         record {
           within = omega arith;
           stacked = begun-stack at zeros stack place-is laid size (ps .header .events);
           sofar = record { each = fresh-counted };
           ended = λ i a b. absurd (omega arith);
-          kept = kept-begin (ps .header) number n₀ lower₀ (fresh .arrays);
+          kept = kept-begin (ps .header) count n₀ lower₀ (fresh .arrays);
         }
 
   -- the lowest that is under way ends
   module _ (few : ps .header .nodes ≤ 64) (active at : ℕ) (stack : List ℕ) (n : PlaceNumbers) (lower : List ℕ) (some : 1 ≤ active)
-      (g : Walking ps number n₀ lower₀ active at stack n lower)
+      (g : Walking ps count n₀ lower₀ active at stack n lower)
       (at′ : ℕ) (stack′ : List ℕ) (n′ : PlaceNumbers) (lower′ : List ℕ) (stacked : Stack (ps .header .events) at′ stack′)
       (sofar : AllCountedSoFar ps active at′ stack′ n′ lower′) (kept : Kept (ps .header) active n lower n′ lower′)
       (over : (getD (n′ .rooms) (active - 1) 0 ≡ 0) ⊎ (at′ ≡ 640)) where
@@ -235,13 +235,13 @@ module _ (ps : Plans) (number : ℕ) (n₀ : PlaceNumbers) (lower₀ : List ℕ)
         ∙ none-to-come (ps .header .events) (getD (ps .list) last 0) (ps .words) stack′ (stacked .sized))
 
     -- what ended before stays as it is
-    stays : (i : ℕ) → active ≤ i → i < number → Ended i
+    stays : (i : ℕ) → active ≤ i → i < count → Ended i
     unfolding planOfLists
     stays i a b =
         let old = g .ended i a b in
         let same = kept .places i a in
         record {
-          numbers = same .1 ∙ old .numbers;
+          counts = same .1 ∙ old .counts;
           masses = same .2 ∙ old .masses;
           entries =
               λ v w l k.
@@ -251,11 +251,11 @@ module _ (ps : Plans) (number : ℕ) (n₀ : PlaceNumbers) (lower₀ : List ℕ)
           ends = ap (λ (r : ℕ). digit (ltb 0 r)) (same .0) ∙ old .ends;
         }
 
-    ended-now : (i : ℕ) → active - 1 ≤ i → i < number → Dec (i ≡ last) → Ended i
+    ended-now : (i : ℕ) → active - 1 ≤ i → i < count → Dec (i ≡ last) → Ended i
     ended-now i a b (yes e) = subst (λ (x : ℕ). Ended x) (sym e) (last-ends over)
     ended-now i a b (no apart) = stays i (omega arith) b
 
-    pub walk-turned : Walking ps number n₀ lower₀ (active - 1) at′ stack′ n′ lower′
+    pub walk-turned : Walking ps count n₀ lower₀ (active - 1) at′ stack′ n′ lower′
     walk-turned =
         record {
           within = omega (arith, g .within);
@@ -279,5 +279,5 @@ module _ (ps : Plans) (number : ℕ) (n₀ : PlaceNumbers) (lower₀ : List ℕ)
 
   -- none is under way
   pub walk-done : (at : ℕ) (stack : List ℕ) (n : PlaceNumbers) (lower : List ℕ) (active : ℕ) → active ≡ 0
-      → Walking ps number n₀ lower₀ active at stack n lower → AllHoldAnswers ps number n₀ lower₀ n lower
+      → Walking ps count n₀ lower₀ active at stack n lower → AllHoldAnswers ps count n₀ lower₀ n lower
   walk-done at stack n lower active e g = record { each = λ i l. g .ended i (omega arith) l; kept = g .kept }

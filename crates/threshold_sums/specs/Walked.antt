@@ -43,12 +43,12 @@ plansOf h links words list = record { header = h; links = links; words = words; 
 abbrev pub planFor : Plans → ℕ → Plan
 planFor ps i = planWith (ps .header) (ps .links) (ps .words) (getD (ps .list) i 0)
 
--- the first `number` of a list of thresholds are 1 to 10^18 and fall strictly
-pub record FallingFirst (number : ℕ) (list : List ℕ) : Type 0 where
-  pub few : number ≤ 16
-  pub some : (i : ℕ) → i < number → 1 ≤ getD list i 0
-  pub most : (i : ℕ) → i < number → getD list i 0 ≤ whole
-  pub falling : (i j : ℕ) → i < j → j < number → getD list j 0 < getD list i 0
+-- the first `count` of a list of thresholds are 1 to 10^18 and fall strictly
+pub record FallingFirst (count : ℕ) (list : List ℕ) : Type 0 where
+  pub few : count ≤ 16
+  pub some : (i : ℕ) → i < count → 1 ≤ getD list i 0
+  pub most : (i : ℕ) → i < count → getD list i 0 ≤ whole
+  pub falling : (i j : ℕ) → i < j → j < count → getD list j 0 < getD list i 0
 
 -- the numbers of 16 thresholds: for each what is left of its room, how many scenarios it examined, and their mass
 pub record PlaceNumbers : Type 0 where
@@ -63,15 +63,15 @@ placeNumbers rooms counts masses = record { rooms = rooms; counts = counts; mass
 -- ends are to come than it says
 pub record OwnNumbers : Type 0 where
   pub room : ℕ
-  pub number : ℕ
+  pub count : ℕ
   pub mass : ℕ
 
 abbrev pub numbersAt : PlaceNumbers → ℕ → OwnNumbers
-numbersAt n i = record { room = getD (n .rooms) i 0; number = getD (n .counts) i 0; mass = getD (n .masses) i 0 }
+numbersAt n i = record { room = getD (n .rooms) i 0; count = getD (n .counts) i 0; mass = getD (n .masses) i 0 }
 
 -- what was counted so far for one threshold, and what is to come, give its plan's answers. `block` is where its block begins
 pub record CountedSoFar (p : Plan) (coming : List End) (o : OwnNumbers) (block : ℕ) (lower : List ℕ) : Type 0 where
-  pub numbers : o .number + sumEnds (λ s m. 1) (take (o .room - 1) coming) ≡ count p
+  pub counts : o .count + sumEnds (λ s m. 1) (take (o .room - 1) coming) ≡ count p
   pub masses : o .mass + sumEnds (λ s m. m) (take (o .room - 1) coming) ≡ massExamined p
   pub entries : (v w : ℕ) → v < w → w < p .nodes
       → getD lower (place (p .nodes) v w + block) 0 + weighed (λ s. digit (cuts intact p v w s)) (take (o .room - 1) coming) ≡ lowerOf intact p v w
@@ -80,7 +80,7 @@ pub record CountedSoFar (p : Plan) (coming : List End) (o : OwnNumbers) (block :
 
 -- the walk of one threshold has ended: its numbers and its block hold its plan's answers
 pub record HoldsAnswers (p : Plan) (o : OwnNumbers) (block : ℕ) (lower : List ℕ) : Type 0 where
-  pub numbers : o .number ≡ count p
+  pub counts : o .count ≡ count p
   pub masses : o .mass ≡ massExamined p
   pub entries : (v w : ℕ) → v < w → w < p .nodes → getD lower (place (p .nodes) v w + block) 0 ≡ lowerOf intact p v w
   pub ends : digit (ltb 0 (o .room)) ≡ complete p
@@ -138,7 +138,7 @@ pub record Counted (k : SharedWalk) (t : ℕ) (path : WorksPath) (o o′ : OwnNu
   pub are : pathEnds (k .count) t (k .words) path ≡ handed (k .count) t path ends
   pub none : ends ≡ 0 → path .last < t
   pub left : o′ .room ≡ o .room - ends
-  pub counted : o′ .number ≡ o .number + examinedBy t (o .room) (path .last)
+  pub counted : o′ .count ≡ o .count + examinedBy t (o .room) (path .last)
   pub added : o′ .mass ≡ o .mass + path .last * examinedBy t (o .room) (path .last)
 
 -- and for each of the first `active` thresholds; the other places are untouched
@@ -161,15 +161,15 @@ pub record Kept (h : Header) (active : ℕ) (n : PlaceNumbers) (lower : List ℕ
   pub arrays : Places n′
 
 -- before the walk: nothing is reached, one more than the cap may be, and the blocks are of zeros
-pub record Fresh (h : Header) (number : ℕ) (n : PlaceNumbers) (lower : List ℕ) : Type 0 where
+pub record Fresh (h : Header) (count : ℕ) (n : PlaceNumbers) (lower : List ℕ) : Type 0 where
   pub arrays : Places n
-  pub fits : pairCount (h .nodes) * number ≤ length lower
-  pub full : (i : ℕ) → i < number → getD (n .rooms) i 0 ≡ h .cap + 1
+  pub fits : pairCount (h .nodes) * count ≤ length lower
+  pub full : (i : ℕ) → i < count → getD (n .rooms) i 0 ≡ h .cap + 1
   pub none : (i : ℕ) → getD (n .counts) i 0 ≡ 0
   pub empty : (i : ℕ) → getD (n .masses) i 0 ≡ 0
-  pub zeros : (j : ℕ) → j < pairCount (h .nodes) * number → getD lower j 0 ≡ 0
+  pub zeros : (j : ℕ) → j < pairCount (h .nodes) * count → getD lower j 0 ≡ 0
 
--- after it: each of the first `number` thresholds has its plan's answers, and all else is untouched
-pub record AllHoldAnswers (ps : Plans) (number : ℕ) (n : PlaceNumbers) (lower : List ℕ) (n′ : PlaceNumbers) (lower′ : List ℕ) : Type 0 where
-  pub each : (i : ℕ) → i < number → HoldsAnswers (planFor ps i) (numbersAt n′ i) (pairCount (ps .header .nodes) * i) lower′
-  pub kept : Kept (ps .header) number n lower n′ lower′
+-- after it: each of the first `count` thresholds has its plan's answers, and all else is untouched
+pub record AllHoldAnswers (ps : Plans) (count : ℕ) (n : PlaceNumbers) (lower : List ℕ) (n′ : PlaceNumbers) (lower′ : List ℕ) : Type 0 where
+  pub each : (i : ℕ) → i < count → HoldsAnswers (planFor ps i) (numbersAt n′ i) (pairCount (ps .header .nodes) * i) lower′
+  pub kept : Kept (ps .header) count n lower n′ lower′

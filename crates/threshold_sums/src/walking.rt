@@ -79,30 +79,30 @@ fn walk_with(
     at
 }
 
-// The walk for the first `number` thresholds of a list: one after another reaches more ends than the cap, the lowest first, or no branch is
+// The walk for the first `count` thresholds of a list: one after another reaches more ends than the cap, the lowest first, or no branch is
 // pending.
 pub fn walk_all(
     h: Header,
     links: &[u8; 256],
     words: &[u64; 512],
     list: &[u64; 16],
-    number: usize,
+    count: usize,
     rooms: &mut [u64; 16],
     counts: &mut [u64; 16],
     masses: &mut [u64; 16],
     lower: &mut [u64],
 )
     requires { ⌜ Held h (now links) (now words) ⌝ }
-    requires { ⌜ FallingFirst number (now list) × (h .cap < 4294967296) ⌝ }
-    requires { ⌜ Fresh h number (placeNumbers (now rooms) (now counts) (now masses)) (now lower) ⌝ }
-    ensures { λ r. ⌜ AllHoldAnswers (plansOf h (now (links .entry)) (now (words .entry)) (now (list .entry))) number
+    requires { ⌜ FallingFirst count (now list) × (h .cap < 4294967296) ⌝ }
+    requires { ⌜ Fresh h count (placeNumbers (now rooms) (now counts) (now masses)) (now lower) ⌝ }
+    ensures { λ r. ⌜ AllHoldAnswers (plansOf h (now (links .entry)) (now (words .entry)) (now (list .entry))) count
         (placeNumbers (now (rooms .entry)) (now (counts .entry)) (now (masses .entry))) (now (lower .entry))
         (placeNumbers (now (rooms .exit)) (now (counts .exit)) (now (masses .exit))) (now (lower .exit)) ⌝ }
 {
     let table = network::links_at(h.nodes as usize, links, h.links as usize);
     let mut stack = [0u64; 640];
     let mut at = begin(&mut stack);
-    let mut active = number;
+    let mut active = count;
     // The walks of the thresholds past the first `active` have ended. Each turn ends that of the lowest that is under way.
     while 0 < active {
         at = walk_with(

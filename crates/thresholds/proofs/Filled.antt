@@ -91,7 +91,7 @@ module _ (h : Header) (links words list : List ℕ) (valid : planRefusal (planOf
   few-places = test-none list tested .1
 
   counts-are : n .counts ≡ places (λ t. count (plan t)) list
-  counts-are = places-are (λ t. count (plan t)) list (n .counts) (b .arrays .counts-size) few-places (λ i l. b .each i l .numbers) (λ i l. b .none i l .1)
+  counts-are = places-are (λ t. count (plan t)) list (n .counts) (b .arrays .counts-size) few-places (λ i l. b .each i l .counts) (λ i l. b .none i l .1)
 
   masses-are : n .masses ≡ places (λ t. massExamined (plan t)) list
   masses-are = places-are (λ t. massExamined (plan t)) list (n .masses) (b .arrays .masses-size) few-places (λ i l. b .each i l .masses) (λ i l. b .none i l .2)
@@ -140,6 +140,6 @@ module _ (h : Header) (links words list : List ℕ) (valid : planRefusal (planOf
           add-comm (pairCount (h .nodes) * i) (place (h .nodes) v w),
           lower-each i l v w m k,
           upper-each i l v w m k,
-          b .each i l .numbers,
+          b .each i l .counts,
         )
         (enclosed intact (at i) (valid-each i l) v w)

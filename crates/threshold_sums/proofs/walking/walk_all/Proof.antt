@@ -12,11 +12,11 @@ use Rattle.threshold_sums.proofs.walking.walk_all.Statement.{statement}
 use Rattle.threshold_sums.proofs.walking.walk_all.Tie as tie
 
 abbrev Inv-loop : tie.InvT-loop
-Inv-loop h links words list number rooms₀ counts₀ masses₀ lower₀ table stack₀ at₀ active₀ rooms counts masses lower stack at active =
-    Walking (plansOf h links words list) number (placeNumbers rooms₀ counts₀ masses₀) lower₀ active at stack (placeNumbers rooms counts masses) lower
+Inv-loop h links words list count rooms₀ counts₀ masses₀ lower₀ table stack₀ at₀ active₀ rooms counts masses lower stack at active =
+    Walking (plansOf h links words list) count (placeNumbers rooms₀ counts₀ masses₀) lower₀ active at stack (placeNumbers rooms counts masses) lower
 
 abbrev μ-loop : tie.MeasureT-loop
-μ-loop h links words list number rooms₀ counts₀ masses₀ lower₀ table stack₀ at₀ active₀ rooms counts masses lower stack at active = active
+μ-loop h links words list count rooms₀ counts₀ masses₀ lower₀ table stack₀ at₀ active₀ rooms counts masses lower stack at active = active
 
 links-at-requires : tie.Need-links-at-requires Inv-loop μ-loop
 links-at-requires c κs = c .before .pre .0 .links-held
