@@ -45,13 +45,13 @@ module _ (l : List ℕ) (k : ℕ) (vs : List ℕ) (room : k + length vs ≤ leng
 
 -- ---- the loop
 
-module _ (pairs number : ℕ) (masses lower upper₀ : List ℕ) (asked : Raising pairs number masses lower upper₀) where
+module _ (pairs count : ℕ) (masses lower upper₀ : List ℕ) (asked : Raising pairs count masses lower upper₀) where
   -- no block is raised yet
   pub none-raised : Raised pairs 0 masses lower upper₀ upper₀
   none-raised = record { sized = refl; each = λ i j h k. absurd (omega arith); past = λ j h. refl }
 
-  module _ (i : ℕ) (more : i < number) where
-    last-block : pairs * i + pairs ≤ pairs * number
+  module _ (i : ℕ) (more : i < count) where
+    last-block : pairs * i + pairs ≤ pairs * count
     last-block = omega (arith, mul-le-mul-left pairs more)
 
     -- block i may be raised

@@ -25,17 +25,17 @@ pub record BlocksWalked (ps : Plans) (n : PlaceNumbers) (lower lower′ : List �
   pub past : (j : ℕ) → pairCount (ps .header .nodes) * length (ps .list) ≤ j → getD lower′ j 0 ≡ getD lower j 0
   pub sized : length lower′ ≡ length lower
 
--- what raising `number` blocks of `pairs` entries asks
-pub record Raising (pairs number : ℕ) (masses lower upper : List ℕ) : Type 0 where
-  pub few : number ≤ 16
+-- what raising `count` blocks of `pairs` entries asks
+pub record Raising (pairs count : ℕ) (masses lower upper : List ℕ) : Type 0 where
+  pub few : count ≤ 16
   pub small : pairs ≤ 2016
-  pub lower-room : pairs * number ≤ length lower
-  pub upper-room : pairs * number ≤ length upper
-  pub light : (i : ℕ) → i < number → getD masses i 0 ≤ whole
-  pub below : (i j : ℕ) → i < number → j < pairs → getD lower (j + pairs * i) 0 ≤ whole
+  pub lower-room : pairs * count ≤ length lower
+  pub upper-room : pairs * count ≤ length upper
+  pub light : (i : ℕ) → i < count → getD masses i 0 ≤ whole
+  pub below : (i j : ℕ) → i < count → j < pairs → getD lower (j + pairs * i) 0 ≤ whole
 
 -- each entry of block i of `lower`, with what is not of mass i added, stands at the same place of `upper`, and all else is untouched
-pub record Raised (pairs number : ℕ) (masses lower upper upper′ : List ℕ) : Type 0 where
+pub record Raised (pairs count : ℕ) (masses lower upper upper′ : List ℕ) : Type 0 where
   pub sized : length upper′ ≡ length upper
-  pub each : (i j : ℕ) → i < number → j < pairs → getD upper′ (j + pairs * i) 0 ≡ (whole - getD masses i 0) + getD lower (j + pairs * i) 0
-  pub past : (j : ℕ) → pairs * number ≤ j → getD upper′ j 0 ≡ getD upper j 0
+  pub each : (i j : ℕ) → i < count → j < pairs → getD upper′ (j + pairs * i) 0 ≡ (whole - getD masses i 0) + getD lower (j + pairs * i) 0
+  pub past : (j : ℕ) → pairs * count ≤ j → getD upper′ j 0 ≡ getD upper j 0

@@ -38,19 +38,19 @@ fn walk_blocks(
     ensures { λ r. ⌜ BlocksWalked (plansOf h (now (links .entry)) (now (words .entry)) (now (list .entry)))
         (placeNumbers (now (rooms .exit)) (now (counts .exit)) (now (masses .exit))) (now (lower .entry)) (now (lower .exit)) ⌝ }
 {
-    let number = list.len();
+    let count = list.len();
     let n = h.nodes as usize;
     let mut falling = [0u64; 16];
-    lent::copy_words(list, &mut falling, number);
+    lent::copy_words(list, &mut falling, count);
     // Zeros, raised by one more than the cap where there is a threshold.
-    copy_raised(masses, &mut *rooms, 0, number, h.cap + 1);
-    pairs::clear(&mut *lower, start_of(n, n) * number);
+    copy_raised(masses, &mut *rooms, 0, count, h.cap + 1);
+    pairs::clear(&mut *lower, start_of(n, n) * count);
     walk_all(
         h,
         links,
         words,
         &falling,
-        number,
+        count,
         rooms,
         counts,
         masses,
@@ -83,13 +83,13 @@ fn completes(rooms: [u64; 16]) -> [u64; 16]
 }
 
 // Lays the blocks of upper bounds down: those of the lower bounds, with what each threshold did not examine added.
-fn raise_blocks(pairs: usize, number: usize, masses: &[u64; 16], lower: &[u64], upper: &mut [u64])
-    requires { ⌜ Raising pairs number (now masses) (now lower) (now upper) ⌝ }
-    ensures { λ r. ⌜ Raised pairs number (now (masses .entry)) (now (lower .entry)) (now (upper .entry)) (now (upper .exit)) ⌝ }
+fn raise_blocks(pairs: usize, count: usize, masses: &[u64; 16], lower: &[u64], upper: &mut [u64])
+    requires { ⌜ Raising pairs count (now masses) (now lower) (now upper) ⌝ }
+    ensures { λ r. ⌜ Raised pairs count (now (masses .entry)) (now (lower .entry)) (now (upper .entry)) (now (upper .exit)) ⌝ }
 {
     let mut i = 0;
-    // The first i blocks are laid down, and all else is untouched. Each turn raises i, up to `number`.
-    while i < number {
+    // The first i blocks are laid down, and all else is untouched. Each turn raises i, up to `count`.
+    while i < count {
         copy_raised(
             lower,
             &mut *upper,

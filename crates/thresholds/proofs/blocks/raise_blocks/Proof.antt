@@ -8,10 +8,10 @@ use Rattle.thresholds.proofs.blocks.raise_blocks.Statement.{statement}
 use Rattle.thresholds.proofs.blocks.raise_blocks.Tie as tie
 
 abbrev Inv-loop : tie.InvT-loop
-Inv-loop pairs number masses lower upper₀ i₀ upper i = (i ≤ number) × Raised pairs i masses lower upper₀ upper
+Inv-loop pairs count masses lower upper₀ i₀ upper i = (i ≤ count) × Raised pairs i masses lower upper₀ upper
 
 abbrev μ-loop : tie.MeasureT-loop
-μ-loop pairs number masses lower upper₀ i₀ upper i = number - i
+μ-loop pairs count masses lower upper₀ i₀ upper i = count - i
 
 -- the entry, seen from the loop
 abbrev entry : tie.At-loop Inv-loop μ-loop → tie.Start Inv-loop μ-loop
@@ -54,7 +54,7 @@ same-length c = c .before .loop .inv .1 .sized
 
 returns : tie.Need-returns Inv-loop μ-loop
 returns c =
-    let e : c .before .loop .i ≡ entry (c .before) .args .number = omega arith in
+    let e : c .before .loop .i ≡ entry (c .before) .args .count = omega arith in
     rw e at (c .before .loop .inv .1)
 
 pub raise-blocks-spec : {M : Type 1} → statement M
