@@ -359,27 +359,27 @@ module _ (count threshold : ℕ) (words : List ℕ) where
         more = omega (arith, run-some l)
 
 -- dropped ends laid down
-pub delayed-none : (number at : ℕ) (stack : List ℕ) → number ≡ 0 → Delayed number at stack stack at
-delayed-none number at stack e = record { ahead = λ count threshold words s. rw e; held = λ count s. s; same = λ count s. refl }
+pub delayed-none : (run at : ℕ) (stack : List ℕ) → run ≡ 0 → Delayed run at stack stack at
+delayed-none run at stack e = record { ahead = λ count threshold words s. rw e; held = λ count s. s; same = λ count s. refl }
 
-pub delayed-some : (number at : ℕ) (stack stack′ : List ℕ) → 0 < number → 4 ≤ at
-    → stack′ ≡ sets stack (at - 4) (129 ∷ number ∷ 0 ∷ 0 ∷ []) → Delayed number at stack stack′ (at - 4)
-delayed-some number at stack stack′ some room laid =
+pub delayed-some : (run at : ℕ) (stack stack′ : List ℕ) → 0 < run → 4 ≤ at
+    → stack′ ≡ sets stack (at - 4) (129 ∷ run ∷ 0 ∷ 0 ∷ []) → Delayed run at stack stack′ (at - 4)
+delayed-some run at stack stack′ some room laid =
     record {
-      ahead = λ count threshold words s. rw (four count s, again, words-run threshold (eventsOf count words) 129 number 0 0 (omega arith));
+      ahead = λ count threshold words s. rw (four count s, again, words-run threshold (eventsOf count words) 129 run 0 0 (omega arith));
       held =
           λ count (s : Stack count at stack).
           record {
             fours = omega (arith, s .fours);
             within = omega (arith, s .within);
-            sized = laid-size stack stack′ (at - 4) 129 number 0 0 laid (s .sized);
+            sized = laid-size stack stack′ (at - 4) 129 run 0 0 laid (s .sized);
             entries = rw (four count s, again) (record { run = λ (z : 128 < 129). some; branch = λ (z : 129 ≤ 128). absurd (omega arith) }, s .entries);
           };
-      same = λ count s. rw (four count s, again, mass-run 129 number (omega arith)) (omega arith);
+      same = λ count s. rw (four count s, again, mass-run 129 run (omega arith)) (omega arith);
     }
   where
     again : at - 4 + 4 ≡ at
     again = omega arith
 
-    four : (count : ℕ) → Stack count at stack → drop (at - 4) stack′ ≡ 129 ∷ number ∷ 0 ∷ 0 ∷ drop (at - 4 + 4) stack
-    four count s = laid-words stack stack′ (at - 4) 129 number 0 0 laid (s .sized) (omega (arith, s .within))
+    four : (count : ℕ) → Stack count at stack → drop (at - 4) stack′ ≡ 129 ∷ run ∷ 0 ∷ 0 ∷ drop (at - 4 + 4) stack
+    four count s = laid-words stack stack′ (at - 4) 129 run 0 0 laid (s .sized) (omega (arith, s .within))

@@ -84,14 +84,14 @@ pub mass-branch : (depth mass : ℕ) → depth ≤ 128 → entryMass depth mass 
 unfolding entryMass
 mass-branch depth mass h = rw (le-ltb 128 depth h, entryMass)
 
-module _ (threshold at mass : ℕ) (f : Failing) (number : ℕ) where
+module _ (threshold at mass : ℕ) (f : Failing) (run : ℕ) where
   pub descent-cut : mass < threshold
-      → descentOf threshold at mass f number ≡ record { at = at; relevant = false; mass = 0; low = 0; high = 0; dropped = number }
+      → descentOf threshold at mass f run ≡ record { at = at; relevant = false; mass = 0; low = 0; high = 0; dropped = run }
   unfolding descentOf
   descent-cut h = rw (lt-ltb mass threshold h, descentOf)
 
   pub descent-enough : threshold ≤ mass
-      → descentOf threshold at mass f number
-      ≡ record { at = at; relevant = true; mass = mass; low = f .low; high = f .high; dropped = number }
+      → descentOf threshold at mass f run
+      ≡ record { at = at; relevant = true; mass = mass; low = f .low; high = f .high; dropped = run }
   unfolding descentOf
   descent-enough h = rw (le-ltb mass threshold h, descentOf)

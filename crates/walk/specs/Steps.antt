@@ -65,9 +65,9 @@ pub record Pushed (b : StackEntry) (at : ℕ) (stack stack′ : List ℕ) : Type
   pub laid : stack′ ≡ sets stack at ((b .depth + 1) ∷ b .mass ∷ setLow ∷ setHigh ∷ [])
 
 -- so many dropped ends laid down before the ends to come of a stack, whatever the plan; the mass pending is the same
-pub record Delayed (number at : ℕ) (stack stack′ : List ℕ) (r : ℕ) : Type 0 where
+pub record Delayed (run at : ℕ) (stack stack′ : List ℕ) (r : ℕ) : Type 0 where
   pub ahead : (count threshold : ℕ) (words : List ℕ) → Stack count at stack
-      → toCome count threshold words r stack′ ≡ replicate number dropped ++ toCome count threshold words at stack
+      → toCome count threshold words r stack′ ≡ replicate run dropped ++ toCome count threshold words at stack
   pub held : (count : ℕ) → Stack count at stack → Stack count r stack′
   pub same : (count : ℕ) → Stack count at stack → pendingMass (drop r stack′) ≡ pendingMass (drop at stack)
 
@@ -88,10 +88,10 @@ pub record Descended (count threshold : ℕ) (words : List ℕ) (all : List End)
   pub decided : joined (r .low) (r .high) < 2 ^ count
   pub lighter : r .mass + pendingMass (drop (r .at) stack) ≤ pending
 
--- the answer of a descent that stops at a mass: `number` dropped ends follow
+-- the answer of a descent that stops at a mass: `run` dropped ends follow
 unfoldable pub descentOf : ℕ → ℕ → ℕ → Failing → ℕ → Descent
-descentOf threshold at mass f number =
+descentOf threshold at mass f run =
     elim (ltb mass threshold) [
-      | true ↦ record { at = at; relevant = false; mass = 0; low = 0; high = 0; dropped = number }
-      | false ↦ record { at = at; relevant = true; mass = mass; low = f .low; high = f .high; dropped = number }
+      | true ↦ record { at = at; relevant = false; mass = 0; low = 0; high = 0; dropped = run }
+      | false ↦ record { at = at; relevant = true; mass = mass; low = f .low; high = f .high; dropped = run }
     ]

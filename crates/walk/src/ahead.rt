@@ -116,8 +116,8 @@ fn push(stack: &mut [u64; 512], at: usize, branch: StackEntry)
 }
 
 // The answer of a descent that stops at a mass.
-fn come_to(threshold: u64, at: usize, mass: u64, failing: Failing, number: u64) -> Descent
-    ensures { λ r. ⌜ r ≡ descentOf threshold at mass failing number ⌝ }
+fn come_to(threshold: u64, at: usize, mass: u64, failing: Failing, run: u64) -> Descent
+    ensures { λ r. ⌜ r ≡ descentOf threshold at mass failing run ⌝ }
 {
     if mass < threshold {
         return Descent {
@@ -126,7 +126,7 @@ fn come_to(threshold: u64, at: usize, mass: u64, failing: Failing, number: u64) 
             mass: 0,
             low: 0,
             high: 0,
-            dropped: number,
+            dropped: run,
         };
     }
     Descent {
@@ -135,7 +135,7 @@ fn come_to(threshold: u64, at: usize, mass: u64, failing: Failing, number: u64) 
         mass,
         low: failing.low,
         high: failing.high,
-        dropped: number,
+        dropped: run,
     }
 }
 
@@ -229,19 +229,19 @@ fn descend(
 }
 
 // Lays so many dropped ends down before those to come. Returns where the stack begins.
-fn delay(stack: &mut [u64; 512], at: usize, number: u64) -> usize
-    requires { ⌜ (at ≤ 512) × (0 < number → 4 ≤ at) ⌝ }
-    ensures { λ r. ⌜ Delayed number at (now (stack .entry)) (now (stack .exit)) r ⌝ }
+fn delay(stack: &mut [u64; 512], at: usize, run: u64) -> usize
+    requires { ⌜ (at ≤ 512) × (0 < run → 4 ≤ at) ⌝ }
+    ensures { λ r. ⌜ Delayed run at (now (stack .entry)) (now (stack .exit)) r ⌝ }
 {
-    if number == 0 {
+    if run == 0 {
         return at;
     }
-    let run = StackEntry {
+    let entry = StackEntry {
         depth: RUN,
-        mass: number,
+        mass: run,
         failing: Failing { low: 0, high: 0 },
     };
-    put(stack, at - 4, run);
+    put(stack, at - 4, entry);
     at - 4
 }
 
