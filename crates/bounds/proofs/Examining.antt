@@ -29,7 +29,7 @@ use Rattle.network.specs.Code.{outage, networkIn}
 use Rattle.network.specs.declared.Failed.{Failed}
 use Rattle.topology.proofs.RowLinks.{nodes-shown, joining, step-link, link-step}
 use Rattle.walk.specs.Scenario.{scenarioOf}
-use Rattle.walk.proofs.ScenarioLaws.{number-scenario}
+use Rattle.walk.proofs.ScenarioLaws.{failing-scenario}
 use Rattle.walk.specs.declared.Failing.{Failing}
 use Rattle.pairs.specs.Pairs.{place, pairCount}
 use Rattle.pairs.proofs.PairLaws.{unplace, place-lt, pairs-most}
@@ -89,7 +89,7 @@ module _ (base : ℕ) (h : Header) (links words lower : List ℕ) (failed : Fail
       unfolding planOfLists
       is-cut v w =
           ap (λ (o : Outage). disconnected (networkOf (h .nodes) (linksOf (h .links) links) o) v w)
-          (gathered ∙ ap (outageOf out (eventsOf (h .events) words)) (sym (number-scenario (h .events) (joined (f .low) (f .high)) decided)))
+          (gathered ∙ ap (outageOf out (eventsOf (h .events) words)) (sym (failing-scenario (h .events) (joined (f .low) (f .high)) decided)))
 
       -- so it gains the mass where the scenario cuts it
       pub gained : (v w : ℕ) → v < w → w < h .nodes

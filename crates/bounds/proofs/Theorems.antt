@@ -15,7 +15,7 @@ use Rattle.plan.specs.LentLists.{Lent, planLent}
 use Rattle.plan.specs.Calls.{filled}
 use Rattle.network.specs.Outage.{Outage, intact}
 use Rattle.topology.proofs.Theorems.{NoBetter, never-connects, outage-grows}
-use Rattle.walk.specs.Scenario.{Scenario, number}
+use Rattle.walk.specs.Scenario.{Scenario, failingSet}
 use Rattle.walk.specs.Ends.{End, dropped, relevant, weighed}
 use Rattle.walk.specs.Walk.{firstEnds}
 use Rattle.windows.specs.Windows.{Window, windowsIn, holds, takenOut, workRefusal}
@@ -42,7 +42,7 @@ not-le false false h = omega arith
 module _ (p : Plan) (out more : Outage) (worse : NoBetter out more) (v w : ℕ) where
   cut-kept : (s : Scenario) → cuts out p v w s ≡ true → cuts more p v w s ≡ true
   cut-kept s =
-      never-connects (p .nodes) (p .links) _ _ (outage-grows (p .events) out more (number s) (number s) worse (λ i e. e)) v w
+      never-connects (p .nodes) (p .links) _ _ (outage-grows (p .events) out more (failingSet s) (failingSet s) worse (λ i e. e)) v w
 
   pub more-lower : lowerOf out p v w ≤ lowerOf more p v w
   more-lower =

@@ -8,14 +8,14 @@ use Rattle.plan.specs.Plan.{Plan}
 use Rattle.network.specs.Outage.{Outage, outageOf}
 use Rattle.network.specs.Topology.{Network, networkOf}
 use Rattle.topology.specs.Paths.{disconnected}
-use Rattle.walk.specs.Scenario.{Scenario, number}
+use Rattle.walk.specs.Scenario.{Scenario, failingSet}
 use Rattle.sums.specs.Exact.{exactCut, exactMissed}
 use Rattle.sums.specs.Bounds.{lower, upper, Demand3}
 use Rattle.pairs.specs.Pairs.{table, place}
 
 -- the effective topology of a scenario: it "takes a starting set", what is out before the first event
 abbrev pub topologyOf : Outage → Plan → Scenario → Network
-topologyOf out p s = networkOf (p .nodes) (p .links) (outageOf out (p .events) (number s))
+topologyOf out p s = networkOf (p .nodes) (p .links) (outageOf out (p .events) (failingSet s))
 
 -- whether a scenario's topology disconnects the pair (v, w)
 abbrev pub cuts : Outage → Plan → ℕ → ℕ → Scenario → Bool

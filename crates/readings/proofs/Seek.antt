@@ -16,8 +16,8 @@ use Rattle.network.specs.Topology.{networkOf}
 use Rattle.topology.specs.Paths.{disconnected}
 use Rattle.network.specs.Code.{outage, networkIn}
 use Rattle.network.specs.declared.Failed.{Failed}
-use Rattle.walk.specs.Scenario.{Scenario, scenarioOf, number}
-use Rattle.walk.proofs.ScenarioLaws.{number-scenario}
+use Rattle.walk.specs.Scenario.{Scenario, scenarioOf, failingSet}
+use Rattle.walk.proofs.ScenarioLaws.{failing-scenario}
 use Rattle.walk.specs.Steps.{Handed}
 use Rattle.walk.specs.declared.Step.{Step}
 use Rattle.walk.proofs.Resume.{scenarios-found, scenarios-none}
@@ -34,18 +34,18 @@ pub cut-is : (h : Header) (links words : List ℕ) (low high : ℕ) → joined l
 unfolding planOfLists
 cut-is h links words low high decided failed gathered v w =
     ap (λ (o : Outage). disconnected (networkOf (h .nodes) (linksOf (h .links) links) o) v w)
-    (gathered ∙ ap (outageOf intact (eventsOf (h .events) words)) (sym (number-scenario (h .events) (joined low high) decided)))
+    (gathered ∙ ap (outageOf intact (eventsOf (h .events) words)) (sym (failing-scenario (h .events) (joined low high) decided)))
 
 -- ---- a search of a list of scenarios
 
 -- the two words that a step hands out are those of its scenario
-words-of : (lo hi : ℕ) → lo < 2 ^ 64 → (s : Scenario) → joined lo hi ≡ number s → (record { low = lo; high = hi }) ≡ failingOf s
+words-of : (lo hi : ℕ) → lo < 2 ^ 64 → (s : Scenario) → joined lo hi ≡ failingSet s → (record { low = lo; high = hi }) ≡ failingOf s
 words-of lo hi fits s e = λ i. record { low = below i; high = above i }
   where
-    below : lo ≡ number s % 2 ^ 64
+    below : lo ≡ failingSet s % 2 ^ 64
     below = sym (low hi 64 fits) ∙ ap (λ (k : ℕ). k % 2 ^ 64) e
 
-    above : hi ≡ number s / 2 ^ 64
+    above : hi ≡ failingSet s / 2 ^ 64
     above = sym (high hi 64 fits) ∙ ap (λ (k : ℕ). k / 2 ^ 64) e
 
 module _ (p : Plan) (v w : ℕ) where
@@ -106,7 +106,7 @@ module _ (h : Header) (links words : List ℕ) (at₀ : ℕ) (stack₀ : List �
   pub found-here : r .found ≡ true → cuts intact p v w here ≡ true → r .low < 2 ^ 64
       → witnessed.Found (record { low = r .low; high = r .high }) ≡ searched intact p v w all
   found-here e c fits =
-      ap witnessed.Found (words-of (r .low) (r .high) fits here (sym (number-scenario (h .events) (joined (r .low) (r .high)) (s .decided))))
+      ap witnessed.Found (words-of (r .low) (r .high) fits here (sym (failing-scenario (h .events) (joined (r .low) (r .high)) (s .decided))))
       ∙ first-cuts p v w here later c
       ∙ from-first e
 

@@ -14,7 +14,7 @@ use Rattle.mass.proofs.RefusalLaws.{first-none, refuse-none}
 use Rattle.plan.specs.Plan.{Plan}
 use Rattle.plan.specs.LentLists.{Lent, planLent}
 use Rattle.network.specs.Outage.{intact}
-use Rattle.walk.specs.Scenario.{Scenario, number}
+use Rattle.walk.specs.Scenario.{Scenario, failingSet}
 use Rattle.walk.specs.Walk.{examined, isExamined}
 use Rattle.walk.specs.WalkOrder.{earlier}
 use Rattle.walk.proofs.MemberLaws.{among-member, member-among}
@@ -105,7 +105,7 @@ module _ (l : Lent) (v w : ℕ) (accepted : witnessNumber intact l v w ≡ 0) wh
       subst (λ (r : Witnessed). Shows intact p v w (examined p) (failingIn r)) (sym witness-found)
       (record {
         scenario = firstCut intact p v w;
-        failing = div-add-mod' (number (firstCut intact p v w)) (2 ^ 64);
+        failing = div-add-mod' (failingSet (firstCut intact p v w)) (2 ^ 64);
         member =
             member-among _ _
             (subst (List·Memᴰ (firstCut intact p v w)) (sym (witness-first .parts)) (Memᴰ·append-right (witness-first .before) (List·Memᴰ·head refl)));

@@ -7,7 +7,7 @@ use Rattle.mass.specs.Refusal.{refuse, first, answered}
 use Rattle.plan.specs.Plan.{Plan}
 use Rattle.plan.specs.LentLists.{Lent, planLent}
 use Rattle.network.specs.Outage.{Outage}
-use Rattle.walk.specs.Scenario.{Scenario, number}
+use Rattle.walk.specs.Scenario.{Scenario, failingSet}
 use Rattle.walk.specs.Walk.{examined}
 use Rattle.walk.specs.declared.Failing.{Failing}
 use Rattle.bounds.specs.Bounds.{cuts}
@@ -39,7 +39,7 @@ firstCut out p v w = firstWhere (cuts out p v w) (examined p)
 
 -- "the 128-bit set of its failing events": events 0 to 63 in the low word, 64 to 127 in the high one
 abbrev pub failingOf : Scenario → Failing
-failingOf s = record { low = number s % 2 ^ 64; high = number s / 2 ^ 64 }
+failingOf s = record { low = failingSet s % 2 ^ 64; high = failingSet s / 2 ^ 64 }
 
 -- the answer of a witness
 abbrev pub witnessAnswer : ℕ → Failing → Witnessed

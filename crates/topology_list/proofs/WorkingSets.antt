@@ -15,7 +15,7 @@ use Rattle.network.specs.Topology.{Network, networkOf, nodeWorks, linkWorks}
 use Rattle.network.specs.Code.{outage, networkIn}
 use Rattle.network.specs.declared.Failed.{Failed}
 use Rattle.walk.specs.Scenario.{scenarioOf}
-use Rattle.walk.proofs.ScenarioLaws.{number-scenario}
+use Rattle.walk.proofs.ScenarioLaws.{failing-scenario}
 use Rattle.topology_list.specs.TopologyList.{topologyIn, topologyAfter}
 use Rattle.sets.proofs.WhereLaws.{set-is}
 
@@ -45,4 +45,4 @@ module _ (h : Header) (links words : List ℕ) (lowEvents highEvents : ℕ) (dec
   topology-after =
       topology-is (networkIn (h .nodes) failed links (h .links)) nodes low high a b c works working-links
       ∙ ap (λ (o : Outage). topologyIn (networkOf (h .nodes) (linksOf (h .links) links) o))
-      (gathered ∙ ap (outageOf intact (eventsOf (h .events) words)) (sym (number-scenario (h .events) (joined lowEvents highEvents) decided)))
+      (gathered ∙ ap (outageOf intact (eventsOf (h .events) words)) (sym (failing-scenario (h .events) (joined lowEvents highEvents) decided)))

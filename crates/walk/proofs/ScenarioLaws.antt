@@ -16,7 +16,7 @@ use Rattle.mass.proofs.Theorems.{fails-le, works-le}
 use Rattle.sets.specs.Sets.{bit, digit}
 use Rattle.plan.specs.Plan.{Event}
 use Rattle.plan.specs.Held.{Probabilities, Falling}
-use Rattle.walk.specs.Scenario.{Scenario, number, scenarioOf, finalMass}
+use Rattle.walk.specs.Scenario.{Scenario, failingSet, scenarioOf, finalMass}
 
 -- law: probabilities that fall from at most 1 are at most 1
 pub falling-probable : (q : ℕ) (events : List Event) → q ≤ certain → Falling q events → Probabilities events
@@ -46,32 +46,32 @@ half true k = omega arith
 half false k = omega arith
 
 -- law: bit i of the number is set exactly where event i fails
-pub number-bit : (s : Scenario) (i : ℕ) → bit (number s) i ≡ getD s i false
+pub failing-bit : (s : Scenario) (i : ℕ) → bit (failingSet s) i ≡ getD s i false
 unfolding bit
-number-bit [] i = ap (λ (x : ℕ). eqb (x % 2) 1) (zero-div (2 ^ i))
-number-bit (b ∷ s) zero = ap (λ (x : ℕ). eqb (x % 2) 1) (div-one (number (b ∷ s))) ∙ parity b (number s)
-number-bit (b ∷ s) (suc i) = rw (← one-add i, ← shr-shr (number (b ∷ s)) 1 i, half b (number s)) (number-bit s i)
+failing-bit [] i = ap (λ (x : ℕ). eqb (x % 2) 1) (zero-div (2 ^ i))
+failing-bit (b ∷ s) zero = ap (λ (x : ℕ). eqb (x % 2) 1) (div-one (failingSet (b ∷ s))) ∙ parity b (failingSet s)
+failing-bit (b ∷ s) (suc i) = rw (← one-add i, ← shr-shr (failingSet (b ∷ s)) 1 i, half b (failingSet s)) (failing-bit s i)
 
 -- law: the number is below 2^n
-pub number-lt : (s : Scenario) → number s < 2 ^ length s
-number-lt [] = omega arith
-number-lt (true ∷ s) = omega (arith, number-lt s, pow-succ' 2 (length s))
-number-lt (false ∷ s) = omega (arith, number-lt s, pow-succ' 2 (length s))
+pub failing-lt : (s : Scenario) → failingSet s < 2 ^ length s
+failing-lt [] = omega arith
+failing-lt (true ∷ s) = omega (arith, failing-lt s, pow-succ' 2 (length s))
+failing-lt (false ∷ s) = omega (arith, failing-lt s, pow-succ' 2 (length s))
 
 -- law: the number of two parts put together
-pub number-append : (s r : Scenario) → number (s ++ r) ≡ number s + 2 ^ length s * number r
-number-append [] r = omega arith
-number-append (b ∷ s) r = omega (arith, number-append s r, ap (λ (x : ℕ). x * number r) (pow-succ' 2 (length s)))
+pub failing-append : (s r : Scenario) → failingSet (s ++ r) ≡ failingSet s + 2 ^ length s * failingSet r
+failing-append [] r = omega arith
+failing-append (b ∷ s) r = omega (arith, failing-append s r, ap (λ (x : ℕ). x * failingSet r) (pow-succ' 2 (length s)))
 
 -- law: the scenario is found again from its number
-pub scenario-number : (s : Scenario) → scenarioOf (length s) (number s) ≡ s
-scenario-number [] = refl
-scenario-number (b ∷ s) = rw (parity, half, scenario-number s)
+pub scenario-failing : (s : Scenario) → scenarioOf (length s) (failingSet s) ≡ s
+scenario-failing [] = refl
+scenario-failing (b ∷ s) = rw (parity, half, scenario-failing s)
 
 -- law: and the number from its scenario
-pub number-scenario : (n k : ℕ) → k < 2 ^ n → number (scenarioOf n k) ≡ k
-number-scenario zero k h = omega arith
-number-scenario (suc n) k h = omega (arith, low (eqb (k % 2) 1) refl, number-scenario n (k / 2) (omega (arith, pow-succ' 2 n)))
+pub failing-scenario : (n k : ℕ) → k < 2 ^ n → failingSet (scenarioOf n k) ≡ k
+failing-scenario zero k h = omega arith
+failing-scenario (suc n) k h = omega (arith, low (eqb (k % 2) 1) refl, failing-scenario n (k / 2) (omega (arith, pow-succ' 2 n)))
   where
     low : (b : Bool) → eqb (k % 2) 1 ≡ b → digit b ≡ k % 2
     low true e = omega (arith, eqb-true (k % 2) 1 e)
@@ -84,7 +84,7 @@ scenario-length (suc n) k = ap suc (scenario-length n (k / 2))
 
 -- law: one event more that works leaves the number as it is; one that fails adds its bit
 pub scenario-next : (d k : ℕ) (b : Bool) → k < 2 ^ d → scenarioOf (suc d) (k + 2 ^ d * digit b) ≡ scenarioOf d k ++ (b ∷ [])
-scenario-next d k b h = ap₂ scenarioOf same-length same-number ∙ scenario-number next
+scenario-next d k b h = ap₂ scenarioOf same-length same-number ∙ scenario-failing next
   where
     next : Scenario
     next = scenarioOf d k ++ (b ∷ [])
@@ -92,8 +92,8 @@ scenario-next d k b h = ap₂ scenarioOf same-length same-number ∙ scenario-nu
     same-length : suc d ≡ length next
     same-length = omega (arith, length-append (scenarioOf d k) (b ∷ []), scenario-length d k)
 
-    same-number : k + 2 ^ d * digit b ≡ number next
-    same-number = rw (number-append (scenarioOf d k) (b ∷ []), number-scenario d k h, scenario-length d k) (omega arith)
+    same-number : k + 2 ^ d * digit b ≡ failingSet next
+    same-number = rw (failing-append (scenarioOf d k) (b ∷ []), failing-scenario d k h, scenario-length d k) (omega arith)
 
 -- law: events more that all work leave the number as it is
 none-fail : (n : ℕ) → scenarioOf n 0 ≡ replicate n false

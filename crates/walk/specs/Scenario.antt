@@ -14,9 +14,9 @@ abbrev pub Scenario : Type 0
 Scenario = List Bool
 
 -- the set of failing events, as a number: bit i, of value 2^i, is set where event i fails
-abbrev pub number : Scenario → ℕ
-number [] = 0
-number (b ∷ s) = digit b + 2 * number s
+abbrev pub failingSet : Scenario → ℕ
+failingSet [] = 0
+failingSet (b ∷ s) = digit b + 2 * failingSet s
 
 -- the scenario of n events whose set of failing events is the number k
 abbrev pub scenarioOf : ℕ → ℕ → Scenario
@@ -35,5 +35,5 @@ finalMass m (e ∷ events) [] = m
 finalMass m (e ∷ events) (b ∷ s) = finalMass (part b m (e .probability)) events s
 
 -- example: of three events the first and the last fail
-example-number : number (true ∷ false ∷ true ∷ []) ≡ 5
-example-number = refl
+example-failing : failingSet (true ∷ false ∷ true ∷ []) ≡ 5
+example-failing = refl
