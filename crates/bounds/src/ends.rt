@@ -2,7 +2,7 @@
 use crate::Tally;
 use network::Failed;
 use pairs::add_cut;
-use pairs::start_of;
+use pairs::pair_count;
 use plan::Header;
 use walk::Failing;
 ghost use Prim.Native.Nat.{_^_, _<_};
@@ -40,7 +40,7 @@ pub fn examine(
     let failed = network::failed_by(words, h.events as usize, failing.low, failing.high, out);
     let nodes = network::working_nodes(n, failed.nodes);
     let rows = network::neighbours(n, links, h.links as usize, table, failed);
-    let pairs = start_of(n, n);
+    let pairs = pair_count(n);
     let mut left = blocks;
     // With the mass added to the blocks of `left`, the entries are as with it added to all. Each turn takes the lowest block out of `left`,
     // which falls as a number.

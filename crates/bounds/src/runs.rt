@@ -4,7 +4,7 @@ use crate::Totals;
 use crate::full_walk::walk_all;
 use network::Failed;
 use pairs::give_bounds;
-use pairs::start_of;
+use pairs::pair_count;
 use plan::Header;
 ghost use mathlib.Core.Path.{_≡_};
 ghost use mathlib.Core.List.{[], _∷_};
@@ -53,7 +53,7 @@ fn accept_run(
         return lists;
     }
     let n = h.nodes as usize;
-    bounds_test(start_of(n, n), lower_room, upper_room)
+    bounds_test(pair_count(n), lower_room, upper_room)
 }
 
 // The walk of an accepted plan, with some nodes and links out before the first event: fills the two lists with the bounds of the pairs, in

@@ -1,5 +1,5 @@
 // Laying the bounds of all pairs down, from the sums of the masses that disconnect them, and zeros to begin those sums with.
-use crate::places::start_of;
+use crate::places::pair_count;
 ghost use mathlib.Core.Path.{_≡_};
 ghost use mathlib.Core.List.{map};
 ghost use Prim.Native.Nat.{ℕ, _+_, _-_, _^_, _≤_, _<_};
@@ -45,7 +45,7 @@ pub fn give_bounds(n: usize, mass: u64, sums: &[u64; 2016], lower: &mut [u64], u
     ensures { λ r. ⌜ now (upper .exit) ≡ sets (now (upper .entry)) 0
         (map (λ x. (whole - mass) + x) (take (pairCount n) (now (sums .entry)))) ⌝ }
 {
-    let pairs = start_of(n, n);
+    let pairs = pair_count(n);
     lent::copy_words(sums, lower, pairs);
     copy_raised(sums, upper, 0, pairs, mass::Mass::WHOLE.units - mass);
 }

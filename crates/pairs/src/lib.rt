@@ -8,6 +8,7 @@ pub use add::add_cut;
 pub use give::clear;
 pub use give::copy_raised;
 pub use give::give_bounds;
+pub use places::pair_count;
 pub use places::pair_test;
 pub use places::place_of;
 pub use places::start_of;

@@ -1,7 +1,7 @@
 // The places of the pairs in their order, and the test of a pair.
 ghost use mathlib.Core.Path.{_≡_};
 ghost use Prim.Native.Nat.{_≤_, _<_};
-ghost use Rattle.pairs.specs.Pairs.{start, place, pairTest};
+ghost use Rattle.pairs.specs.Pairs.{start, place, pairCount, pairTest};
 
 // The place of the first pair of node v, of n nodes.
 pub fn start_of(n: usize, v: usize) -> usize
@@ -9,6 +9,14 @@ pub fn start_of(n: usize, v: usize) -> usize
     ensures { λ r. ⌜ r ≡ start n v ⌝ }
 {
     (v * (2 * n - v) - v) / 2
+}
+
+// How many pairs n nodes have.
+pub fn pair_count(n: usize) -> usize
+    requires { ⌜ n ≤ 64 ⌝ }
+    ensures { λ r. ⌜ r ≡ pairCount n ⌝ }
+{
+    start_of(n, n)
 }
 
 // The place of the pair (v, w), of n nodes.

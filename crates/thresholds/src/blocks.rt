@@ -1,7 +1,7 @@
 // The blocks of bounds: the walk that fills those of the lower bounds, those of the upper bounds, and the answer for each threshold.
 use crate::Answered;
 use pairs::copy_raised;
-use pairs::start_of;
+use pairs::pair_count;
 use plan::Header;
 use threshold_sums::walk_all;
 ghost use mathlib.Core.Path.{_≡_};
@@ -44,7 +44,7 @@ fn walk_blocks(
     lent::copy_words(list, &mut falling, count);
     // Zeros, raised by one more than the cap where there is a threshold.
     copy_raised(masses, &mut *rooms, 0, count, h.cap + 1);
-    pairs::clear(&mut *lower, start_of(n, n) * count);
+    pairs::clear(&mut *lower, pair_count(n) * count);
     walk_all(
         h,
         links,
@@ -136,7 +136,7 @@ pub fn fill_blocks(
         &mut *lower,
     );
     let n = h.nodes as usize;
-    raise_blocks(start_of(n, n), list.len(), &masses, lower, upper);
+    raise_blocks(pair_count(n), list.len(), &masses, lower, upper);
     let flags = completes(rooms);
     Answered {
         number: 0,

@@ -6,7 +6,7 @@ use crate::lists::header_at;
 use crate::lists::refused;
 use crate::lists::thresholds_test;
 use bounds::bounds_test;
-use pairs::start_of;
+use pairs::pair_count;
 ghost use mathlib.Core.Path.{_≡_};
 ghost use lib.ListN.{length};
 ghost use Rattle.plan.specs.Calls.{filled};
@@ -43,7 +43,7 @@ fn accept_thresholds(
         return wrong;
     }
     let n = h.nodes as usize;
-    bounds_test(start_of(n, n) * list.len(), lower_room, upper_room)
+    bounds_test(pair_count(n) * list.len(), lower_room, upper_room)
 }
 
 // Several thresholds in one walk: fills the two lists with the bounds of the pairs, a block for each threshold in the order of the list, and

@@ -46,10 +46,10 @@ neighbours-requires c κs =
     let p = c .before .before .before .pre in
     (p .0 .links-held, p .1 .0)
 
-start-of-requires : tie.Need-start-of-requires Inv-loop μ-loop
-start-of-requires c κs =
+pair-count-requires : tie.Need-pair-count-requires Inv-loop μ-loop
+pair-count-requires c κs =
     let few = c .before .before .before .before .pre .0 .links-held .nodes-fit in
-    (few, omega arith)
+    few
 
 loop-holds : tie.Need-loop-holds Inv-loop μ-loop
 loop-holds c = λ out f s. blocks-begin _ _ _ _ _
@@ -60,14 +60,14 @@ mul-add-cut c =
     let start = entry (loop .before .before) in
     let s = shown (loop .before .before) in
     let inside = start .pre .1 .1 .1 .few _ (loop .loop .inv _ _ s .sub _ (c .lowest .ensures .1 .1 .0)) in
-    record { fits = rw (loop .before .start-of .ensures) (omega (arith, low-base (start .args .h .nodes) (c .lowest .result) (start .pre .0 .links-held .nodes-fit) inside)) }
+    record { fits = rw (loop .before .pair-count .ensures) (omega (arith, low-base (start .args .h .nodes) (c .lowest .result) (start .pre .0 .links-held .nodes-fit) inside)) }
 
 add-cut-requires : tie.Need-add-cut-requires Inv-loop μ-loop
 add-cut-requires c κs =
     let loop = c .before .before .before in
     let p = entry (loop .before .before) .pre in
     let s = shown (loop .before .before) in
-    rw (loop .before .start-of .ensures)
+    rw (loop .before .pair-count .ensures)
     (block-asked _ _ _ _ _ _ _ _ _ _ (loop .loop .inv _ _ s) (p .0) (p .1 .1 .1) _ _ s _ (c .lowest .ensures .1 .1 .0))
 
 loop-less : tie.Need-loop-less Inv-loop μ-loop
@@ -80,7 +80,7 @@ loop-again c =
     let low = c .before .before .before .before .lowest in
     λ out f s.
     blocks-turned out _ _ _ f _ _ _ _ _ (loop .loop .inv out f s) (p .0) (p .1 .1 .1) _ _ s _ (low .ensures .1 .1 .0) _
-    (rw (loop .before .start-of .ensures) at (c .before .before .before .add-cut .ensures))
+    (rw (loop .before .pair-count .ensures) at (c .before .before .before .add-cut .ensures))
     _
     (λ j. c .rest .ensures .1 j ∙ ap (λ (x : ℕ). bit (loop .loop .left) j && not (eqb j x)) (sym (low .ensures .0)))
 
@@ -99,7 +99,7 @@ examine-spec =
     failed-by-requires
     working-nodes-requires
     neighbours-requires
-    start-of-requires
+    pair-count-requires
     loop-holds
     (λ c κs. search needs)  -- lowest-requires
     mul-add-cut

@@ -14,12 +14,12 @@ returns c =
       λ z. absurd (c .if1 .taken z),
     )
 
-start-of-requires : tie.Need-start-of-requires
-start-of-requires c κs = (c .before .accept .ensures .1 .0 (c .if1 .left) .held .links-held .nodes-fit, omega arith)
+pair-count-requires : tie.Need-pair-count-requires
+pair-count-requires c κs = c .before .accept .ensures .1 .0 (c .if1 .left) .held .links-held .nodes-fit
 
 returns-2 : tie.Need-returns-2
 returns-2 c =
-    let pairs = c .before .start-of .ensures in
+    let pairs = c .before .pair-count .ensures in
     let f = c .before .before in
     let a = f .before .before .before .before .before .before .args in
     let lists = f .before .accept .ensures in
@@ -37,6 +37,6 @@ accept-run-spec =
     (tie.spec
     (λ c κs. search needs)  -- accept-requires
     returns
-    start-of-requires
+    pair-count-requires
     (λ c κs. search needs)  -- bounds-test-requires
     returns-2)

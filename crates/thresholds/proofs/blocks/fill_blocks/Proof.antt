@@ -9,7 +9,7 @@ use Rattle.thresholds.proofs.blocks.fill_blocks.Tie as tie
 abbrev entry : tie.After-walk-blocks → tie.Start
 entry k = k .before .before .before .before .before .before .before .before
 
-abbrev walk : tie.After-start-of → tie.After-walk-blocks
+abbrev walk : tie.After-pair-count → tie.After-walk-blocks
 walk k = k .before .before .before
 
 walk-blocks-requires : tie.Need-walk-blocks-requires
@@ -24,7 +24,7 @@ raise-blocks-requires c κs =
     let s = entry w in
     let a = s .args in
     let p = s .pre in
-    rw (n .start-of .ensures)
+    rw (n .pair-count .ensures)
     (may-raise (a .h) (a .links .now) (a .words .now) (a .list .now) (p .0 .1) (p .0 .0 .links-held .nodes-fit) (p .1 .0 .1) _ (a .lower .now) _
     (w .walk-blocks .ensures)
     (a .upper .now)
@@ -41,7 +41,7 @@ returns c =
     let p = s .pre in
     let b = w .walk-blocks .ensures in
     let few = p .0 .0 .links-held .nodes-fit in
-    let r = rw (n .start-of .ensures) at (raise .raise-blocks .ensures) in (
+    let r = rw (n .pair-count .ensures) at (raise .raise-blocks .ensures) in (
       answers (a .h) (a .links .now) (a .words .now) (a .list .now) (p .0 .1) few (p .1 .0 .1) _ (a .lower .now) _ b _ (c .completes .ensures),
       (
         lowers-laid (a .h) (a .links .now) (a .words .now) (a .list .now) (p .0 .1) few (p .1 .0 .1) _ (a .lower .now) _ b (p .1 .1 .0),
@@ -57,7 +57,7 @@ fill-blocks-spec =
     tie.close
     (tie.spec
     walk-blocks-requires
-    (λ c κs. search needs)  -- start-of-requires
+    (λ c κs. search needs)  -- pair-count-requires
     raise-blocks-requires
     (λ c κs. search needs)  -- completes-requires
     (λ c. search needs)  -- same-length

@@ -42,10 +42,10 @@ copy-raised-requires c κs =
 mul-clear : tie.Need-mul-clear
 mul-clear c =
     let s = entry (copy (c .before .before)) in
-    omega (arith, size-most (s .args .h .nodes) _ (s .args .list .now) (s .pre .0 .links-held .nodes-fit) (c .start-of .ensures) (s .pre .1 .0 .1))
+    omega (arith, size-most (s .args .h .nodes) _ (s .args .list .now) (s .pre .0 .links-held .nodes-fit) (c .pair-count .ensures) (s .pre .1 .0 .1))
 
 clear-requires : tie.Need-clear-requires
-clear-requires c κs = let s = entry (copy (c .before .before)) in rw (c .start-of .ensures) (s .pre .1 .1 .1)
+clear-requires c κs = let s = entry (copy (c .before .before)) in rw (c .pair-count .ensures) (s .pre .1 .1 .1)
 
 walk-all-requires : tie.Need-walk-all-requires
 walk-all-requires c κs =
@@ -59,7 +59,7 @@ walk-all-requires c κs =
       (
         (falling-first (a .list .now) _ tested is, s .pre .1 .0 .0),
         fresh (a .list .now) _ tested is (a .h) _ _ _ _ (a .lower .now) _ (s .pre .1 .1 .0) (r .copy-raised .ensures) (s .pre .1 .1 .1)
-            (k .clear .ensures ∙ ap (λ (x : ℕ). sets (a .lower .now) 0 (replicate (x * length (a .list .now)) 0)) (k .before .start-of .ensures)),
+            (k .clear .ensures ∙ ap (λ (x : ℕ). sets (a .lower .now) 0 (replicate (x * length (a .list .now)) 0)) (k .before .pair-count .ensures)),
       ),
     )
 
@@ -72,7 +72,7 @@ returns c =
     let a = s .args in
     blocks-walked (a .list .now) _ (s .pre .1 .0 .1) (copy r .copy-words .ensures) (a .h) _ _ _ _ (a .lower .now) _ (s .pre .1 .1 .0) (r .copy-raised .ensures)
     (s .pre .1 .1 .1)
-    (k .clear .ensures ∙ ap (λ (x : ℕ). sets (a .lower .now) 0 (replicate (x * length (a .list .now)) 0)) (k .before .start-of .ensures))
+    (k .clear .ensures ∙ ap (λ (x : ℕ). sets (a .lower .now) 0 (replicate (x * length (a .list .now)) 0)) (k .before .pair-count .ensures))
     (a .links .now)
     (a .words .now)
     _
@@ -87,7 +87,7 @@ walk-blocks-spec =
     copy-words-requires
     (λ c. search needs)  -- add-copy-raised
     copy-raised-requires
-    (λ c κs. search needs)  -- start-of-requires
+    (λ c κs. search needs)  -- pair-count-requires
     mul-clear
     clear-requires
     walk-all-requires

@@ -47,8 +47,8 @@ returns-2 c =
       λ z. absurd (c .if2 .taken z),
     )
 
-start-of-requires : tie.Need-start-of-requires
-start-of-requires c κs = let e = c .before .before in (taken (e .before) (e .if1 .left) .held .links-held .nodes-fit, omega arith)
+pair-count-requires : tie.Need-pair-count-requires
+pair-count-requires c κs = let e = c .before .before in taken (e .before) (e .if1 .left) .held .links-held .nodes-fit
 
 mul-bounds-test : tie.Need-mul-bounds-test
 mul-bounds-test c =
@@ -58,7 +58,7 @@ mul-bounds-test c =
     let few = taken (e .before) (e .if1 .left) .held .links-held .nodes-fit in
     omega (
       arith,
-      size-most (a .h .nodes) _ (a .list .now) few (c .start-of .ensures) (sym (t .thresholds-test .ensures) ∙ c .before .if2 .left),
+      size-most (a .h .nodes) _ (a .list .now) few (c .pair-count .ensures) (sym (t .thresholds-test .ensures) ∙ c .before .if2 .left),
     )
 
 returns-3 : tie.Need-returns-3
@@ -67,7 +67,7 @@ returns-3 c =
     let t = f .before in
     let e = t .before in
     let a = entry (e .before) .args in
-    let short = rw (c .before .start-of .ensures) at (c .bounds-test .ensures) in (
+    let short = rw (c .before .pair-count .ensures) at (c .bounds-test .ensures) in (
       rooms-decide (lent (e .before)) (a .list .now) (a .lower-room) (a .upper-room) _ (lists-are (e .before)) (e .if1 .left) _ _
           (t .thresholds-test .ensures)
           (f .if2 .left)
@@ -88,7 +88,7 @@ accept-thresholds-spec =
     returns
     (λ c κs. search needs)  -- thresholds-test-requires
     returns-2
-    start-of-requires
+    pair-count-requires
     mul-bounds-test
     (λ c κs. search needs)  -- bounds-test-requires
     returns-3)
