@@ -31,7 +31,7 @@ fn examined_by(threshold: u64, room: u64, last: u64) -> u64
 }
 
 // What is left of a room, 0 where more is taken than there is.
-fn left_of(room: u64, taken: u64) -> u64
+fn room_left(room: u64, taken: u64) -> u64
     ensures { λ r. ⌜ r ≡ room - taken ⌝ }
 {
     if room < taken {
@@ -68,7 +68,7 @@ pub fn count_path(
         let one = examined_by(list[i], rooms[i], path.last);
         counts[i] = counts[i] + one;
         masses[i] = masses[i] + path.last * one;
-        rooms[i] = left_of(rooms[i], ends);
+        rooms[i] = room_left(rooms[i], ends);
         i += 1;
     }
 }

@@ -73,7 +73,7 @@ loop-again c =
     let ends = one .before .before .before in
     let in-loop = ends .before .before in (
       count-turned _ _ _ _ _ _ (in-loop .before .loop .inv .0) (omega (arith, in-loop .loop-test .taken, in-loop .before .before .before .pre .1 .0 .0 .few)) _ (ends .ends-of .ensures .0) (ends .ends-of .ensures .1) _ (one .examined-by .ensures) _
-          (c .left-of .ensures),
+          (c .room-left .ensures),
       omega (arith, in-loop .loop-test .taken),
     )
 
@@ -111,9 +111,9 @@ count-path-spec =
     add-masses
     (λ c. search needs)  -- mul-masses-3
     (λ c. search needs)  -- element-write-masses
-    (λ c. search needs)  -- mul-left-of
+    (λ c. search needs)  -- mul-room-left
     (λ c. search needs)  -- element-copy-out-left-of
-    (λ c κs. search needs)  -- left-of-requires
+    (λ c κs. search needs)  -- room-left-requires
     (λ c. search needs)  -- mul-rooms
     (λ c. search needs)  -- element-write-rooms
     (λ c. search needs)  -- add-i
