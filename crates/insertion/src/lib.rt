@@ -10,7 +10,7 @@ ghost use Rattle.order.specs.Order.{placeOf};
 ghost use Rattle.insertion.specs.Inserted.{probability, insertedWords};
 
 // How many of the first `count` events stand before the first one whose probability is below q.
-fn place_of(words: &[u64], count: usize, q: u64) -> usize
+fn insertion_place(words: &[u64], count: usize, q: u64) -> usize
     requires { ⌜ 4 * count ≤ length (now words) ⌝ }
     ensures { λ r. ⌜ (r ≡ placeOf probability q (eventsOf count (now (words .entry)))) × (r ≤ count) ⌝ }
 {
@@ -44,7 +44,7 @@ pub fn insert(words: &mut [u64; 512], count: usize, q: u64, m: Members)
     ensures long { λ r. ⌜ length (now (words .entry)) ≡ 512 ⌝ }
     ensures words { λ r. ⌜ now (words .exit) ≡ insertedWords (now (words .entry)) count q (m .nodes) (m .low) (m .high) ⌝ }
 {
-    let place = place_of(words, count, q);
+    let place = insertion_place(words, count, q);
     make_room(&mut *words, 4 * place, 4 * count);
     files::put_event(&mut *words, 4 * place, q, m);
 }

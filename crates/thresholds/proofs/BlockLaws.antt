@@ -83,8 +83,8 @@ all-set f from entries sized each =
     ext-getD 0 _ _ (sized ∙ sym (length-map from f)) (λ j h. each j h ∙ sym (map-at f from j (omega arith)))
 
 -- what stands at the places: f of threshold i at place i, and 0 past the last
-pub place-of : (f : ℕ → ℕ) (list : List ℕ) (i : ℕ) → i < length list → getD (places f list) i 0 ≡ f (getD list i 0)
-place-of f list i h = List·getD-append (map f list) _ 0 i (rw (length-map list f) h) ∙ map-at f list i h
+pub places-at : (f : ℕ → ℕ) (list : List ℕ) (i : ℕ) → i < length list → getD (places f list) i 0 ≡ f (getD list i 0)
+places-at f list i h = List·getD-append (map f list) _ 0 i (rw (length-map list f) h) ∙ map-at f list i h
 
 pub place-past : (f : ℕ → ℕ) (list : List ℕ) (i : ℕ) → length list ≤ i → getD (places f list) i 0 ≡ 0
 place-past f list i h =
@@ -103,5 +103,5 @@ pub places-are : (f : ℕ → ℕ) (list entries : List ℕ) → length entries 
 places-are f list entries sized few each none = ext-getD 0 _ _ (sized ∙ sym (length-places f list few)) (λ i h. go i (decLt i (length list)))
   where
     go : (i : ℕ) → Dec (i < length list) → getD entries i 0 ≡ getD (places f list) i 0
-    go i (yes k) = each i k ∙ sym (place-of f list i k)
+    go i (yes k) = each i k ∙ sym (places-at f list i k)
     go i (no m) = let past : length list ≤ i = omega arith in none i past ∙ sym (place-past f list i past)

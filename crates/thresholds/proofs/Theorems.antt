@@ -28,7 +28,7 @@ use Rattle.thresholds.specs.Thresholds.{lentAt, planAt, thresholdsTest, 
 use Rattle.thresholds.specs.declared.CommonHeader.{CommonHeader}
 use Rattle.thresholds.specs.declared.Answered.{Answered}
 use Rattle.thresholds.proofs.TestLaws.{test-none, test-passes, in-range, in-order, falls-from}
-use Rattle.thresholds.proofs.BlockLaws.{length-blocks, place-of, place-past, length-places}
+use Rattle.thresholds.proofs.BlockLaws.{length-blocks, places-at, place-past, length-places}
 
 -- ---- the test
 
@@ -62,7 +62,7 @@ passes-exactly list = (from, λ p. sym (test-passes list (p .some) (p .few) (fal
 pub places-hold : (f : ℕ → ℕ) (list : List ℕ) → length list ≤ 16
     → (length (places f list) ≡ 16) × ((i : ℕ) → i < length list → getD (places f list) i 0 ≡ f (getD list i 0))
     × ((i : ℕ) → length list ≤ i → getD (places f list) i 0 ≡ 0)
-places-hold f list few = (length-places f list few, place-of f list, place-past f list)
+places-hold f list few = (length-places f list few, places-at f list, place-past f list)
 
 module _ (f : ℕ → List ℕ) (size : ℕ) (each : (t : ℕ) → length (f t) ≡ size) where
   -- law: block i is what threshold i gives
@@ -170,7 +170,7 @@ module _ (h : CommonHeader) (links events list lower upper : List ℕ) (accepted
       rw (accepted, run-accepted)
       (ap ran.Done
       (λ k. record {
-        count = sym (place-of (λ t. count (planAt h links events t)) list i l) k;
-        complete = sym (place-of (λ t. complete (planAt h links events t)) list i l) k;
-        mass = sym (place-of (λ t. massExamined (planAt h links events t)) list i l) k;
+        count = sym (places-at (λ t. count (planAt h links events t)) list i l) k;
+        complete = sym (places-at (λ t. complete (planAt h links events t)) list i l) k;
+        mass = sym (places-at (λ t. massExamined (planAt h links events t)) list i l) k;
       }))

@@ -13,7 +13,7 @@ returns : tie.Need-returns
 returns c =
     let a = c .before .before .before .before .before .before .before .args in
     let w = a .words .now in
-    let p = c .before .before .before .before .place-of in (
+    let p = c .before .before .before .before .insertion-place in (
       search needs,
       c .put-event .ensures
           ∙ ap (λ (l : List ℕ). sets l (4 * p .result) (a .q ∷ a .m .nodes ∷ a .m .low ∷ a .m .high ∷ [])) (c .before .before .make-room .ensures)
@@ -25,7 +25,7 @@ pub insert-spec : {M : Type 1} → statement M
 insert-spec =
     tie.close
     (tie.spec
-    (λ c κs. search needs)  -- place-of-requires
+    (λ c κs. search needs)  -- insertion-place-requires
     (λ c. search needs)  -- mul-make-room
     (λ c. search needs)  -- mul-make-room-2
     (λ c κs. search needs)  -- make-room-requires

@@ -1,4 +1,4 @@
--- `insertion::place_of` meets its contract. The loop's invariant: the place is i and that among the events from i on. The measure is how many
+-- `insertion::insertion_place` meets its contract. The loop's invariant: the place is i and that among the events from i on. The measure is how many
 -- events are left. Assumes nothing.
 use mathlib.Core.Path.{_≡_, _∙_}
 use Prim.Native.Nat.{_+_, _-_, _*_, _≤_}
@@ -9,8 +9,8 @@ use Rattle.plan.specs.Lists.{eventsOf}
 use Rattle.order.specs.Order.{placeOf}
 use Rattle.insertion.specs.Inserted.{probability}
 use Rattle.insertion.proofs.InsertionLaws.{place-start, place-here, place-later, place-end}
-use Rattle.insertion.proofs.place_of.Statement.{statement}
-use Rattle.insertion.proofs.place_of.Tie as tie
+use Rattle.insertion.proofs.insertion_place.Statement.{statement}
+use Rattle.insertion.proofs.insertion_place.Tie as tie
 
 abbrev Inv-loop : tie.InvT-loop
 Inv-loop words count q i₀ i =
@@ -44,8 +44,8 @@ returns-2 c =
     let a = l .before .args in
     (place-end (a .words .now) (a .q) (a .count) (l .loop .i) (c .loop-test .left) ∙ l .loop .inv .1, l .loop .inv .0)
 
-pub place-of-spec : {M : Type 1} → statement M
-place-of-spec =
+pub insertion-place-spec : {M : Type 1} → statement M
+insertion-place-spec =
     tie.close
     (tie.spec
     Inv-loop
