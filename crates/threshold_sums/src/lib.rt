@@ -4,4 +4,4 @@
 mod paths;
 mod walking;
 
-pub use walking::walk_all;
+pub use walking::walk_thresholds;

@@ -81,7 +81,7 @@ fn walk_with(
 
 // The walk for the first `count` thresholds of a list: one after another reaches more ends than the cap, the lowest first, or no branch is
 // pending.
-pub fn walk_all(
+pub fn walk_thresholds(
     h: Header,
     links: &[u8; 256],
     words: &[u64; 512],

@@ -3,7 +3,7 @@ use crate::Answered;
 use pairs::copy_raised;
 use pairs::pair_count;
 use plan::Header;
-use threshold_sums::walk_all;
+use threshold_sums::walk_thresholds;
 ghost use mathlib.Core.Path.{_≡_};
 ghost use mathlib.Core.List.{map};
 ghost use Prim.Native.Nat.{_*_, _≤_, _<_};
@@ -45,7 +45,7 @@ fn walk_blocks(
     // Zeros, raised by one more than the cap where there is a threshold.
     copy_raised(masses, &mut *rooms, 0, count, h.cap + 1);
     pairs::clear(&mut *lower, pair_count(n) * count);
-    walk_all(
+    walk_thresholds(
         h,
         links,
         words,

@@ -22,7 +22,7 @@ entry k = k .before .before .before .before
 abbrev room : tie.After-clear → tie.After-copy-raised
 room k = k .before .before .before
 
-abbrev cleared : tie.After-walk-all-arg4 → tie.After-clear
+abbrev cleared : tie.After-walk-thresholds-arg4 → tie.After-clear
 cleared c = c .before .before .before .before .before .before .before
 
 copy-words-requires : tie.Need-copy-words-requires
@@ -47,8 +47,8 @@ mul-clear c =
 clear-requires : tie.Need-clear-requires
 clear-requires c κs = let s = entry (copy (c .before .before)) in rw (c .pair-count .ensures) (s .pre .1 .1 .1)
 
-walk-all-requires : tie.Need-walk-all-requires
-walk-all-requires c κs =
+walk-thresholds-requires : tie.Need-walk-thresholds-requires
+walk-thresholds-requires c κs =
     let k = cleared c in
     let r = room k in
     let s = entry (copy r) in
@@ -77,7 +77,7 @@ returns c =
     (a .words .now)
     _
     _
-    (w .walk-all .ensures)
+    (w .walk-thresholds .ensures)
 
 pub walk-blocks-spec : {M : Type 1} → statement M
 walk-blocks-spec =
@@ -90,6 +90,6 @@ walk-blocks-spec =
     (λ c κs. search needs)  -- pair-count-requires
     mul-clear
     clear-requires
-    walk-all-requires
+    walk-thresholds-requires
     (λ c. search needs)  -- same-length
     returns)

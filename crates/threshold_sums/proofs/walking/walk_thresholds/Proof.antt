@@ -1,4 +1,4 @@
--- `threshold_sums::walking::walk_all` meets its contract. The loop's invariant is `Walking`: the first `active` thresholds are under way, and
+-- `threshold_sums::walking::walk_thresholds` meets its contract. The loop's invariant is `Walking`: the first `active` thresholds are under way, and
 -- the others have ended. The measure is `active`. Assumes nothing.
 use mathlib.Core.Path.{refl}
 use borrow.Author.Needs.{needs}
@@ -8,8 +8,8 @@ use lib.ListN.{replicate}
 use Rattle.pairs.specs.Pairs.{pairCount}
 use Rattle.threshold_sums.specs.Walked.{plansOf, placeNumbers}
 use Rattle.threshold_sums.proofs.Turns.{Walking, fewer-fall, walk-begins, walk-turned, walk-done}
-use Rattle.threshold_sums.proofs.walking.walk_all.Statement.{statement}
-use Rattle.threshold_sums.proofs.walking.walk_all.Tie as tie
+use Rattle.threshold_sums.proofs.walking.walk_thresholds.Statement.{statement}
+use Rattle.threshold_sums.proofs.walking.walk_thresholds.Tie as tie
 
 abbrev Inv-loop : tie.InvT-loop
 Inv-loop h links words list count rooms₀ counts₀ masses₀ lower₀ table stack₀ at₀ active₀ rooms counts masses lower stack at active =
@@ -63,8 +63,8 @@ same-length c = c .before .loop .inv .kept .sized
 returns : tie.Need-returns Inv-loop μ-loop
 returns c = walk-done _ _ _ _ _ _ _ _ _ (omega (arith, c .loop-test .left)) (c .before .loop .inv)
 
-pub walk-all-spec : {M : Type 1} → statement M
-walk-all-spec =
+pub walk-thresholds-spec : {M : Type 1} → statement M
+walk-thresholds-spec =
     tie.close
     (tie.spec
     Inv-loop
