@@ -11,7 +11,7 @@ use Rattle.plan.specs.LentLists.{planOfLists}
 use Rattle.walk.specs.Scenario.{Scenario, scenarioOf}
 use Rattle.walk.specs.Ends.{sumEnds}
 use Rattle.walk.specs.Steps.{Handed}
-use Rattle.walk.specs.declared.Step.{Step}
+use Rattle.walk.specs.declared.WalkStep.{WalkStep}
 use Rattle.walk.proofs.Resume.{left-less, left-found, left-none, drop-found, drop-none, sum-found, sum-none}
 use Rattle.bounds.specs.Bounds.{cuts}
 use Rattle.bounds.specs.Tallied.{Room, MassAdded, WalkedPlan, RunState, runState, reached, Ready, Tallied}
@@ -22,7 +22,7 @@ pub record Turn (p : WalkedPlan) (start here : RunState) : Type 0 where
   pub goes : (r : RunState) → Tallied p here r → Tallied p start r
 
 -- a step of the walk
-module _ (p : WalkedPlan) (start here : RunState) (g : Turn p start here) (stack′ : List ℕ) (step : Step)
+module _ (p : WalkedPlan) (start here : RunState) (g : Turn p start here) (stack′ : List ℕ) (step : WalkStep)
     (s : Handed (p .header .events) (p .header .threshold) (p .words) (here .sums .at) (here .stack) (here .sums .left) stack′ step) where
   ready : Ready (p .header) (p .links) (p .words) here
   ready = g .ready

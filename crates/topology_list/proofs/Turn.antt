@@ -20,7 +20,7 @@ use Rattle.walk.proofs.Laws.{masses-le}
 use Rattle.walk.specs.Stack.{Stack}
 use Rattle.walk.specs.Steps.{Handed}
 use Rattle.walk.proofs.Valid.{held-probable}
-use Rattle.walk.specs.declared.Step.{Step}
+use Rattle.walk.specs.declared.WalkStep.{WalkStep}
 use Rattle.walk.proofs.Resume.{Alone, begun-stack, begun-whole, root-entry, value-found, value-none, sum-found}
 use Rattle.entries.specs.Entries.{massesIn, added, TopologyList, topologyList, fitted}
 use Rattle.topology_list.specs.TopologyList.{placed, placedAll, topologyAfter, topologyListOf}
@@ -113,7 +113,7 @@ turn-begun h links words at₀ stack₀ list₀ ready =
 
 module _ (h : Header) (links words : List ℕ) (at₀ : ℕ) (stack₀ list₀ : List ℕ) (k : ℕ) (stack list : List ℕ) (at left count : ℕ)
     (g : Turn h links words at₀ stack₀ list₀ k stack list at left count)
-    (stack′ : List ℕ) (r : Step) (s : Handed (h .events) (h .threshold) words at stack left stack′ r) where
+    (stack′ : List ℕ) (r : WalkStep) (s : Handed (h .events) (h .threshold) words at stack left stack′ r) where
   abbrev T : Scenario → Topology
   T = topologyAfter intact (planOfLists h links words)
 

@@ -18,7 +18,7 @@ use Rattle.walk.specs.declared.Descent.{Descent}
 use Rattle.walk.specs.declared.Failing.{Failing}
 use Rattle.walk.specs.declared.Parted.{Parted}
 use Rattle.walk.specs.declared.StackEntry.{StackEntry}
-use Rattle.walk.specs.declared.Step.{Step}
+use Rattle.walk.specs.declared.WalkStep.{WalkStep}
 use Rattle.walk.specs.declared.Stop.{Stop}
 
 -- the scenario that a step hands out, with its mass; no end where it found none
@@ -29,7 +29,7 @@ handedOut count false mass low high = []
 -- A step, from a stack that begins at `at`, where so many ends as `allowed` may still be reached: the ends to come begin with `passed`
 -- dropped ones, then the one handed out; the ends then still to come, and how many may still be reached, are the rest. Where none is
 -- handed out, no more may be reached, or none is to come. The mass handed out comes off that of the pending branches.
-pub record Handed (count threshold : ℕ) (words : List ℕ) (at : ℕ) (stack : List ℕ) (allowed : ℕ) (stack′ : List ℕ) (r : Step) : Type 0 where
+pub record Handed (count threshold : ℕ) (words : List ℕ) (at : ℕ) (stack : List ℕ) (allowed : ℕ) (stack′ : List ℕ) (r : WalkStep) : Type 0 where
   pub passed : ℕ
   pub ends : toCome count threshold words at stack
       ≡ replicate passed dropped ++ (handedOut count (r .found) (r .mass) (r .low) (r .high) ++ toCome count threshold words (r .at) stack′)

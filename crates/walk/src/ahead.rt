@@ -3,8 +3,8 @@ use crate::Descent;
 use crate::Failing;
 use crate::Parted;
 use crate::StackEntry;
-use crate::Step;
 use crate::Stop;
+use crate::WalkStep;
 use crate::put;
 use crate::with_event;
 ghost use mathlib.Core.Path.{_≡_};
@@ -246,10 +246,10 @@ fn delay(stack: &mut [u64; 512], at: usize, run: u64) -> usize
 }
 
 // The answer of a step that finds no relevant scenario.
-fn none_at(at: usize, left: u64) -> Step
+fn none_at(at: usize, left: u64) -> WalkStep
     ensures { λ r. ⌜ r ≡ record { at = at; left = left; found = false; mass = 0; low = 0; high = 0 } ⌝ }
 {
-    Step {
+    WalkStep {
         at,
         left,
         found: false,
@@ -278,7 +278,7 @@ pub fn next_relevant(
     stack: &mut [u64; 512],
     at: usize,
     allowed: u64,
-) -> Step
+) -> WalkStep
     requires { ⌜ (count ≤ 128) × Falling certain (eventsOf count (now events)) × Stack count at (now stack) ⌝ }
     ensures { λ r. ⌜ Handed count threshold (now (events .entry)) at (now (stack .entry)) allowed (now (stack .exit)) r ⌝ }
 {
@@ -293,7 +293,7 @@ pub fn next_relevant(
         let r = descend(count, threshold, events, &mut *stack, top);
         if r.relevant {
             left -= 1;
-            return Step {
+            return WalkStep {
                 at: delay(stack, r.at, r.dropped),
                 left,
                 found: true,

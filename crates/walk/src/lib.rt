@@ -29,7 +29,7 @@ pub struct StackEntry {
 
 // What a step hands out: where the stack now begins, how many ends may still be reached, whether a relevant scenario was found, its mass
 // and its failing events (0 where none was).
-pub struct Step {
+pub struct WalkStep {
     pub at: usize,
     pub left: u64,
     pub found: bool,
