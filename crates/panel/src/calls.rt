@@ -68,7 +68,7 @@ fn quota_test(left: u64) -> u32
 }
 
 // The smaller of two numbers.
-fn smaller(a: u64, b: u64) -> u64
+fn fewer_of(a: u64, b: u64) -> u64
     ensures { λ r. ⌜ r ≡ min a b ⌝ }
 {
     if a < b {
@@ -161,7 +161,7 @@ fn unmoved(number: u32, walk: Walk, quota: Quota) -> GoneOn
 pub fn go_on(w: Walk, quota: Quota, k: u64) -> GoneOn
     ensures { λ r. ⌜ WentOn w quota k r ⌝ }
 {
-    let wanted = smaller(k, ends_open(w));
+    let wanted = fewer_of(k, ends_open(w));
     if wanted == 0 {
         return unmoved(0, w, quota);
     }
@@ -169,7 +169,7 @@ pub fn go_on(w: Walk, quota: Quota, k: u64) -> GoneOn
     if empty != 0 {
         return unmoved(empty, w, quota);
     }
-    let walk = reach(w, smaller(wanted, quota.left));
+    let walk = reach(w, fewer_of(wanted, quota.left));
     let reached = walk.reached - w.reached;
     GoneOn {
         number: 0,

@@ -11,7 +11,7 @@ use Rattle.panel.proofs.calls.go_on.Statement.{statement}
 use Rattle.panel.proofs.calls.go_on.Tie as tie
 
 -- the entry and the first branch, seen from where the ends allowed are known
-abbrev tested : tie.After-smaller2 → tie.Else1
+abbrev tested : tie.After-fewer-of2 → tie.Else1
 tested c = c .before .before .before
 
 abbrev entry : tie.Else1 → tie.Start
@@ -22,24 +22,24 @@ size : (c : tie.Start) → length (c .args .w .stack) ≡ 512
 size c = length-unmapped ℕ (c .args .w .stack) 512 (c .good .0 .1 .1 .1 .1 .1 .0 .1 .0 .1)
 
 -- how many ends are wanted at most
-wanted : (c : tie.After-smaller) → (let a = c .before .before .args in c .smaller .result ≡ min (a .k) (openEnds (a .w)))
-wanted c = c .smaller .ensures ∙ ap (min (c .before .before .args .k)) (c .before .ends-open .ensures)
+wanted : (c : tie.After-fewer-of) → (let a = c .before .before .args in c .fewer-of .result ≡ min (a .k) (openEnds (a .w)))
+wanted c = c .fewer-of .ensures ∙ ap (min (c .before .before .args .k)) (c .before .ends-open .ensures)
 
 opened : (c : tie.Else1) → (let s = entry c in Open (s .args .w) (size s) (s .args .k))
 opened c = some-open _ _ _ (omega (arith, wanted (c .before), c .if1 .left))
 
 -- how many are allowed
-allowed : (c : tie.After-smaller2)
-    → (let a = entry (tested c) .args in c .smaller2 .result ≡ min (min (a .k) (openEnds (a .w))) (a .quota .left))
-allowed c = c .smaller2 .ensures ∙ ap (λ (x : ℕ). min x (entry (tested c) .args .quota .left)) (wanted (tested c .before))
+allowed : (c : tie.After-fewer-of2)
+    → (let a = entry (tested c) .args in c .fewer-of2 .result ≡ min (min (a .k) (openEnds (a .w))) (a .quota .left))
+allowed c = c .fewer-of2 .ensures ∙ ap (λ (x : ℕ). min x (entry (tested c) .args .quota .left)) (wanted (tested c .before))
 
-full : (c : tie.After-smaller2) → quotaTest (entry (tested c) .args .quota .left) ≡ 0
+full : (c : tie.After-fewer-of2) → quotaTest (entry (tested c) .args .quota .left) ≡ 0
 full c = sym (c .before .before .quota-test .ensures) ∙ c .before .if2 .left
 
-some-allowed : (c : tie.After-smaller2) → 0 < c .smaller2 .result
+some-allowed : (c : tie.After-fewer-of2) → 0 < c .fewer-of2 .result
 some-allowed c =
     let left = entry (tested c) .args .quota .left in
-    omega (arith, c .smaller2 .ensures, tested c .if1 .left, quota-some left (full c))
+    omega (arith, c .fewer-of2 .ensures, tested c .if1 .left, quota-some left (full c))
 
 returns : tie.Need-returns
 returns c =
@@ -82,13 +82,13 @@ go-on-spec =
     tie.close
     (tie.spec
     (λ c κs. search needs)  -- ends-open-requires
-    (λ c κs. search needs)  -- smaller-requires
+    (λ c κs. search needs)  -- fewer-of-requires
     (λ c κs. search needs)  -- unmoved-requires
     returns
     (λ c κs. search needs)  -- quota-test-requires
     (λ c κs. search needs)  -- unmoved-requires-2
     returns-2
-    (λ c κs. search needs)  -- smaller-requires-2
+    (λ c κs. search needs)  -- fewer-of-requires-2
     reach-requires
     sub-reached
     sub-t8
