@@ -34,7 +34,7 @@ pub fn working_nodes(n: usize, failed: u64) -> u64
     requires { ⌜ n ≤ 64 ⌝ }
     ensures { λ r. ⌜ ((v : ℕ) → bit r v ≡ (ltb v n && not (bit failed v))) ⌝ }
 {
-    sets::less(sets::first(n), failed)
+    sets::less(sets::all_below(n), failed)
 }
 
 // Word k of a table of links.
@@ -51,11 +51,11 @@ fn first_links(count: usize) -> Links
     ensures { λ r. ⌜ ((i : ℕ) → bit (joined (r .low) (r .high)) i ≡ ltb i count) ⌝ }
 {
     if count < 64 {
-        let low = sets::first(count);
+        let low = sets::all_below(count);
         return Links { low: low, high: 0 };
     }
-    let low = sets::first(64);
-    let high = sets::first(count - 64);
+    let low = sets::all_below(64);
+    let high = sets::all_below(count - 64);
     Links {
         low: low,
         high: high,

@@ -29,7 +29,7 @@ fn add_rows(lower: &mut [u64], base: usize, n: usize, set: u64, others: u64, mas
     // Each turn takes the lowest element out of `left`, which falls as a number.
     while left != 0 {
         let v = sets::lowest(left);
-        let later = sets::less(others, sets::first(v + 1));
+        let later = sets::less(others, sets::all_below(v + 1));
         if later == 0 {
             return;
         }
@@ -44,7 +44,7 @@ pub fn add_cut(lower: &mut [u64], base: usize, n: usize, rows: [u64; 64], nodes:
     requires { ⌜ AddingCut base n nodes mass rows (now lower) ⌝ }
     ensures { λ r. ⌜ AddedCut base n nodes mass rows (now (lower .entry)) (now (lower .exit)) ⌝ }
 {
-    let all = sets::first(n);
+    let all = sets::all_below(n);
     let mut left = nodes;
     // The pairs whose first node works and is not in `left` are done, all others are untouched, and no path leads out of `left`.
     // Each turn takes out of `left` a part that has its lowest element, so `left` falls as a number.

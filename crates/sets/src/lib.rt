@@ -24,7 +24,7 @@ pub fn only(on: u64, i: usize) -> u64
 }
 
 // The set of the elements below k.
-pub fn first(k: usize) -> u64
+pub fn all_below(k: usize) -> u64
     requires { ⌜ k ≤ 64 ⌝ }
     ensures { λ r. ⌜ ((j : ℕ) → bit r j ≡ ltb j k) ⌝ }
 {

@@ -31,7 +31,7 @@ returns : tie.Need-returns Inv-loop μ-loop
 returns c =
     let k = c .before in
     let low = k .before .before .lowest .ensures .1 .1 in
-    rows-stopped _ _ _ _ _ _ _ _ (turn k .loop .inv) _ (low .0) _ (k .before .first .ensures) _ (k .less .ensures) (c .if1 .taken) (low .1)
+    rows-stopped _ _ _ _ _ _ _ _ (turn k .loop .inv) _ (low .0) _ (k .before .all-below .ensures) _ (k .less .ensures) (c .if1 .taken) (low .1)
 
 start-of-requires : tie.Need-start-of-requires Inv-loop μ-loop
 start-of-requires c κs =
@@ -47,7 +47,7 @@ add-row-requires : tie.Need-add-row-requires Inv-loop μ-loop
 add-row-requires c κs =
     let k = c .before .before .before in
     rw (c .start-of .ensures)
-    (row-asked _ _ _ _ _ _ _ _ (turn k .loop .inv) _ (k .before .before .lowest .ensures .1 .1 .0) _ (k .before .first .ensures) _ (k .less .ensures))
+    (row-asked _ _ _ _ _ _ _ _ (turn k .loop .inv) _ (k .before .before .lowest .ensures .1 .1 .0) _ (k .before .all-below .ensures) _ (k .less .ensures))
 
 loop-less : tie.Need-loop-less Inv-loop μ-loop
 loop-less c = c .rest .ensures .0
@@ -56,7 +56,7 @@ loop-again : tie.Need-loop-again Inv-loop μ-loop
 loop-again c =
     let k = c .before .before .before .before .before .before .before in
     let low = k .before .before .lowest .ensures in
-    rows-turned _ _ _ _ _ _ _ _ (turn k .loop .inv) _ (low .1 .1 .0) _ (k .before .first .ensures) _ (k .less .ensures) _
+    rows-turned _ _ _ _ _ _ _ _ (turn k .loop .inv) _ (low .1 .1 .0) _ (k .before .all-below .ensures) _ (k .less .ensures) _
     (rw (c .before .before .before .before .start-of .ensures) at (c .before .before .before .add-row .ensures))
     _
     (λ j. c .rest .ensures .1 j ∙ ap (λ (x : ℕ). bit (turn k .loop .left) j && not (eqb j x)) (sym (low .0)))
@@ -75,8 +75,8 @@ add-rows-spec =
     μ-loop
     loop-holds
     (λ c κs. search needs)  -- lowest-requires
-    (λ c. search needs)  -- add-first
-    (λ c κs. search needs)  -- first-requires
+    (λ c. search needs)  -- add-all-below
+    (λ c κs. search needs)  -- all-below-requires
     (λ c κs. search needs)  -- less-requires
     same-length
     returns
