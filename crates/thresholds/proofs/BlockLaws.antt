@@ -30,13 +30,13 @@ module _ (f : ℕ → ℕ → ℕ → ℕ) (n : ℕ) where
   blocks-are [] new room each = rw mul-zero
   blocks-are (t ∷ later) new room each =
       let size : pairCount n * suc (length later) ≡ pairCount n + pairCount n * length later = omega arith in
-      let here : take (pairCount n) new ≡ table (f t) n = table-is (f t) n new (omega arith) (λ v w l k. first v w l k) in
+      let here : take (pairCount n) new ≡ table (f t) n = table-is (f t) n new (omega arith) (λ v w l k. initial v w l k) in
       let rest : take (pairCount n * length later) (drop (pairCount n) new) ≡ blocks (λ t. table (f t) n) later =
       blocks-are later (drop (pairCount n) new) (rw length-drop (omega arith)) (λ i h v w l k. next i h v w l k) in
       rw (size, take-add, here, rest)
     where
-      first : (v w : ℕ) → v < w → w < n → getD new (place n v w) 0 ≡ f t v w
-      first v w l k = rw (mul-zero, add-zero) at (each 0 (omega arith) v w l k)
+      initial : (v w : ℕ) → v < w → w < n → getD new (place n v w) 0 ≡ f t v w
+      initial v w l k = rw (mul-zero, add-zero) at (each 0 (omega arith) v w l k)
 
       next : (i : ℕ) → i < length later → (v w : ℕ) → v < w → w < n
           → getD (drop (pairCount n) new) (place n v w + pairCount n * i) 0 ≡ f (getD later i 0) v w

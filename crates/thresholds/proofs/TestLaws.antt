@@ -100,10 +100,10 @@ pub falls-from : (above : ℕ) (list : List ℕ) → ((i : ℕ) → i < length l
     → ((i : ℕ) → i + 1 < length list → getD list (i + 1) 0 < getD list i 0) → falls above list ≡ true
 falls-from above [] range order = refl
 falls-from above (t ∷ later) range order =
-    let first = range 0 (omega arith) in
+    let initial = range 0 (omega arith) in
     let rest : falls t later ≡ true =
     falls-from t later (λ i h. (range (suc i) (omega arith) .0, below i h)) (λ i h. next i h) in
-    rw (le-leb 1 t (first .0), lt-ltb t above (first .1), rest)
+    rw (le-leb 1 t (initial .0), lt-ltb t above (initial .1), rest)
   where
     next : (i : ℕ) → i + 1 < length later → getD later (i + 1) 0 < getD later i 0
     next i h = rw (add-one i) (rw (add-one (suc i)) at (order (suc i) (omega arith)))

@@ -25,8 +25,8 @@ use Rattle.topology.proofs.RoundPaths.{reach-paths, itself-up, up-itsel
 use Rattle.topology.proofs.RoundSame.{reach-same}
 
 module _ (net : Network) (v : ℕ) where
-  abbrev first : ℕ → Bool
-  first = itself (nodeWorks net v) v
+  abbrev initial : ℕ → Bool
+  initial = itself (nodeWorks net v) v
 
   -- law: the set after the last round has w exactly where v works and a path of working links joins v and w
   pub rounds-reach : (w : ℕ) → (bit (reachOf net v .set) w ≡ true) ↔ Reaches net v w
@@ -48,31 +48,31 @@ module _ (net : Network) (v : ℕ) where
 
   -- no round loses a node
   pub rounds-keep : (k w : ℕ) → afterRound net v k w ≡ true → afterRound net v (suc k) w ≡ true
-  rounds-keep = round-keeps (net .nodes) first (adjacent net)
+  rounds-keep = round-keeps (net .nodes) initial (adjacent net)
 
   -- the set grows in every round before the last: round k + 1 adds a node
   pub rounds-grow : (k : ℕ) → suc k < reachOf net v .rounds → (w : ℕ) × (afterRound net v (suc k) w ≡ true) × (afterRound net v k w ≡ false)
   unfolding reachOf
   rounds-grow k h =
-      let f = adds-one (net .nodes) first (adjacent net) k (before-last (net .nodes) first (adjacent net) k h) in
+      let f = adds-one (net .nodes) initial (adjacent net) k (before-last (net .nodes) initial (adjacent net) k h) in
       (f .0, f .2, f .3)
 
   -- the last adds none
   pub rounds-end : (k : ℕ) → reachOf net v .rounds ≡ suc k → (w : ℕ) → afterRound net v (suc k) w ≡ afterRound net v k w
   unfolding reachOf
   rounds-end k e w =
-      idle-all (net .nodes) first (adjacent net) (start-below net v) (λ x y s. near-below net v x y s .1) k w
-      (is-last (net .nodes) first (adjacent net) k e .idle)
+      idle-all (net .nodes) initial (adjacent net) (start-below net v) (λ x y s. near-below net v x y s .1) k w
+      (is-last (net .nodes) initial (adjacent net) k e .idle)
 
   -- one round more changes nothing, nor do any number of them
   pub rounds-more : (j w : ℕ) → afterRound net v (j + reachOf net v .rounds) w ≡ afterRound net v (reachOf net v .rounds) w
   unfolding reachOf
-  rounds-more = more-all (net .nodes) first (adjacent net) (start-below net v) (λ x y s. near-below net v x y s .1)
+  rounds-more = more-all (net .nodes) initial (adjacent net) (start-below net v) (λ x y s. near-below net v x y s .1)
 
   -- the number is at most the count of nodes
   pub rounds-most : 0 < net .nodes → reachOf net v .rounds ≤ net .nodes
   unfolding reachOf
-  rounds-most = last-most (net .nodes) first (adjacent net)
+  rounds-most = last-most (net .nodes) initial (adjacent net)
 
 -- the working nodes and links decide reach and rounds
 pub same-reach : (nodes : ℕ) (links : List Link) (out other : Outage)

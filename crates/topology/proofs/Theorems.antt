@@ -63,10 +63,10 @@ module _ (nodes : ℕ) (links : List Link) (out more : Outage) (worse : NoBetter
       let intact = not (bit (more .links) i) in
       let low = nodeWorks (networkOf nodes links more) (linkAt links i .low) in
       let high = nodeWorks (networkOf nodes links more) (linkAt links i .high) in
-      let first = and-left (here && intact) (low && high) e in
+      let initial = and-left (here && intact) (low && high) e in
       let both = and-right (here && intact) (low && high) e in
       and-both (here && not (bit (out .links) i)) _
-      (and-both here _ (and-left here intact first) (kept _ _ (worse .1) i (and-right here intact first)))
+      (and-both here _ (and-left here intact initial) (kept _ _ (worse .1) i (and-right here intact initial)))
       (and-both (nodeWorks (networkOf nodes links out) (linkAt links i .low)) _ (node-kept _ (and-left low high both)) (node-kept _ (and-right low high both)))
 
   step-kept : (v w : ℕ) → WorkingLink (networkOf nodes links more) v w → WorkingLink (networkOf nodes links out) v w

@@ -53,13 +53,13 @@ example-words : entryWords (entry up 5 ∷ []) ≡ 3 ∷ 1 ∷ 0 ∷ 5 ∷ []
 unfolding entryWords
 example-words = refl
 
-abbrev first : List Entry
-first = entry up 250000000000000000 ∷ []
+abbrev one-entry : List Entry
+one-entry = entry up 250000000000000000 ∷ []
 
-abbrev both : List Entry
-both = entry up 250000000000000000 ∷ entry down 750000000000000000 ∷ []
+abbrev two-entries : List Entry
+two-entries = entry up 250000000000000000 ∷ entry down 750000000000000000 ∷ []
 
-example-bounds : (lowerFrom (example 1) both 0 1 ≡ 750000000000000000) × (upperFrom (example 1) both 0 1 ≡ 750000000000000000)
-    × (lowerFrom (example 1) first 0 1 ≡ 0) × (upperFrom (example 1) first 0 1 ≡ 750000000000000000)
+example-bounds : (lowerFrom (example 1) two-entries 0 1 ≡ 750000000000000000) × (upperFrom (example 1) two-entries 0 1 ≡ 750000000000000000)
+    × (lowerFrom (example 1) one-entry 0 1 ≡ 0) × (upperFrom (example 1) one-entry 0 1 ≡ 750000000000000000)
 unfolding setWhere nodeWorks linkWorks joins adjacent anyBelow bit via disconnected
 example-bounds = (refl, refl, refl, refl)

@@ -162,8 +162,8 @@ module _ (count threshold : ℕ) (words : List ℕ) where
         path : Scenario
         path = scenarioOf depth k
 
-        first : all ≡ after path (pathEnd threshold m (count - depth)) ∷ (replicate n dropped ++ toCome count threshold words top stack)
-        first = g .ahead ∙ rw (scenario-length depth k, below, run-after path n)
+        initial : all ≡ after path (pathEnd threshold m (count - depth)) ∷ (replicate n dropped ++ toCome count threshold words top stack)
+        initial = g .ahead ∙ rw (scenario-length depth k, below, run-after path n)
 
         deep : depth + (count - depth) ≡ count
         deep = omega (arith, g .hand .deep)
@@ -175,7 +175,7 @@ module _ (count threshold : ℕ) (words : List ℕ) where
         step (yes h) =
             rw (descent-cut threshold top m f n h)
             (record {
-              ends = first ∙ rw (pathEnd-cut threshold m (count - depth) h);
+              ends = initial ∙ rw (pathEnd-cut threshold m (count - depth) h);
               held = g .held;
               room = room;
               light = omega arith;
@@ -185,7 +185,7 @@ module _ (count threshold : ℕ) (words : List ℕ) where
         step (no h) =
             rw (descent-enough threshold top m f n (omega arith))
             (record {
-              ends = first ∙ rw (pathEnd-enough threshold m (count - depth) (omega arith), whole-path);
+              ends = initial ∙ rw (pathEnd-enough threshold m (count - depth) (omega arith), whole-path);
               held = g .held;
               room = room;
               light = omega (arith, g .hand .light);

@@ -58,11 +58,11 @@ works-path t q m (e ∷ events) p f h = step (works-path t (e .probability) work
     fits : e .probability ≤ certain
     fits = omega (arith, f .0)
 
-    first : failing m (e .probability) < t
-    first = omega (arith, less-fails m q m (e .probability) (omega arith) (f .0))
+    initial : failing m (e .probability) < t
+    initial = omega (arith, less-fails m q m (e .probability) (omega arith) (f .0))
 
     later : failing works (e .probability) < t
-    later = omega (arith, first, less-fails m (e .probability) works (e .probability) (works-le m (e .probability) fits) (omega arith))
+    later = omega (arith, initial, less-fails m (e .probability) works (e .probability) (works-le m (e .probability) fits) (omega arith))
 
     step : ends t works events ≡ pathEnd t (pathMass t works events) (length events) ∷ replicate (pathSteps t works events) dropped
         → (b : Bool) → ltb m t ≡ b
@@ -80,7 +80,7 @@ works-path t q m (e ∷ events) p f h = step (works-path t (e .probability) work
           path-on t m e events (ltb-false m t c) .1,
           ends-node t m e events (ltb-false m t c),
           below,
-          ends-cut t (failing m (e .probability)) events first,
+          ends-cut t (failing m (e .probability)) events initial,
           end-after t (pathMass t works events) (length events),
           run-after (false ∷ []) (pathSteps t works events),
           replicate-append-replicate (pathSteps t works events) 1 dropped,

@@ -54,9 +54,9 @@ module _ (t m : ℕ) (e : Event) (events : List Event) (fails : Bool) where
       from : (a : End) → List·Memᴰ a list → after (fails ∷ []) a ≡ relevant s x → Relevant t m (e ∷ events) s x
       from dropped there same = never s x (sym same)
       from (relevant r y) there same =
-          let first : fails ∷ r ≡ s = cc in
+          let initial : fails ∷ r ≡ s = cc in
           let second : y ≡ x = cc in
-          subst₂ (λ a b. Relevant t m (e ∷ events) a b) first second (deeper r y (known r y there))
+          subst₂ (λ a b. Relevant t m (e ∷ events) a b) initial second (deeper r y (known r y there))
 
 -- law: every relevant one of the first k ends is a scenario with its final mass, which is at least t
 module _ (t : ℕ) where
@@ -69,9 +69,9 @@ module _ (t : ℕ) where
     where
       is : relevant s x ≡ relevant [] m → Relevant t m [] s x
       is same =
-          let first : s ≡ [] = cc in
+          let initial : s ≡ [] = cc in
           let second : x ≡ m = cc in
-          record { entries = ap length first; mass = second; enough = omega arith }
+          record { entries = ap length initial; mass = second; enough = omega arith }
 
   sound-node : (m : ℕ) (e : Event) (events : List Event) (xs ys : List End) → t ≤ m
       → Sound (working m (e .probability)) events xs → Sound (failing m (e .probability)) events ys → Sound m (e ∷ events) (both xs ys)
@@ -129,7 +129,7 @@ end-scenario s x (dropped ∷ list) h = ⊎-elim (never s x) (end-scenario s x l
 end-scenario s x (relevant r m ∷ list) h = ⊎-elim here (later (end-scenario s x list)) (List·Memᴰ·cases-cons h)
   where
     here : relevant s x ≡ relevant r m → List·Memᴰ s (r ∷ scenarios list)
-    here same = let first : s ≡ r = cc in List·Memᴰ·head first
+    here same = let initial : s ≡ r = cc in List·Memᴰ·head initial
 
     later : (List·Memᴰ (relevant s x) list → List·Memᴰ s (scenarios list)) → List·Memᴰ (relevant s x) list → List·Memᴰ s (r ∷ scenarios list)
     later known there = List·Memᴰ·tail (known there)

@@ -57,7 +57,7 @@ module _ (count threshold : ℕ) (words : List ℕ) where
   pending-covers (a ∷ b ∷ []) p k = rw (take-nil {A = End} k) (omega arith)
   pending-covers (a ∷ b ∷ c ∷ []) p k = rw (take-nil {A = End} k) (omega arith)
   pending-covers (depth ∷ mass ∷ low ∷ high ∷ rest) p k =
-      let first : List End = wordsEnds threshold events depth mass low high in
+      let initial : List End = wordsEnds threshold events depth mass low high in
       let later : List End = stackEnds threshold events rest in
-      rw (take-append k first later, sumEnds-append (λ s m. m) (take k first) (take (k - length first) later))
-      (omega (arith, entry-covers depth mass low high p k, pending-covers rest p (k - length first)))
+      rw (take-append k initial later, sumEnds-append (λ s m. m) (take k initial) (take (k - length initial) later))
+      (omega (arith, entry-covers depth mass low high p k, pending-covers rest p (k - length initial)))

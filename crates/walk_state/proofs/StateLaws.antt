@@ -81,9 +81,9 @@ entries-are count room (a ∷ []) light e = absurd (clash e refl)
 entries-are count room (a ∷ b ∷ []) light e = absurd (clash e refl)
 entries-are count room (a ∷ b ∷ c ∷ []) light e = absurd (clash e refl)
 entries-are count room (a ∷ b ∷ c ∷ d ∷ rest) light e =
-    let first = entry-is count room a b c d (length rest) light (and-left (soundEntry count room a b c d (length rest)) _ e) in
+    let initial = entry-is count room a b c d (length rest) light (and-left (soundEntry count room a b c d (length rest)) _ e) in
     let later = entries-are count (room - entryMass a b) rest (omega arith) (and-right (soundEntry count room a b c d (length rest)) _ e) in
-    ((first .0, later .0), omega (arith, first .1, later .1))
+    ((initial .0, later .0), omega (arith, initial .1, later .1))
 
 pub entries-pass : (count room : ℕ) (words : List ℕ) → SoundEntries count words → pendingMass words ≤ room → soundEntries count room words ≡ true
 unfolding soundEntries

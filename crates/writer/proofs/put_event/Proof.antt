@@ -15,8 +15,8 @@ use Rattle.writer.proofs.put_event.Tie as tie
 abbrev entry : tie.After-put-number → tie.Start
 entry c = c .before .before .before
 
-abbrev first : tie.After-put-number2 → tie.After-put-number
-first c = c .before .before .before .before .before
+abbrev initial : tie.After-put-number2 → tie.After-put-number
+initial c = c .before .before .before .before .before
 
 abbrev second : tie.After-put-members → tie.After-put-number2
 second c = c .before .before .before .before
@@ -37,13 +37,13 @@ size c = length-one-event (c .args .q) (c .args .nodes) (c .args .low) (c .args 
 long₁ : (c : tie.After-put-number) → length (c .put-number .last .0) ≡ length (entry c .args .out .now)
 long₁ c = c .put-number .kept .0
 
-long₂ : (c : tie.After-put-number2) → length (c .put-number2 .last .0) ≡ length (entry (first c) .args .out .now)
-long₂ c = c .put-number2 .kept .0 ∙ long₁ (first c)
+long₂ : (c : tie.After-put-number2) → length (c .put-number2 .last .0) ≡ length (entry (initial c) .args .out .now)
+long₂ c = c .put-number2 .kept .0 ∙ long₁ (initial c)
 
-long₃ : (c : tie.After-put-members) → length (c .put-members .last .0) ≡ length (entry (first (second c)) .args .out .now)
+long₃ : (c : tie.After-put-members) → length (c .put-members .last .0) ≡ length (entry (initial (second c)) .args .out .now)
 long₃ c = c .put-members .kept .0 ∙ long₂ (second c)
 
-long₄ : (c : tie.After-put-members2) → length (c .put-members2 .last .0) ≡ length (entry (first (second (third c))) .args .out .now)
+long₄ : (c : tie.After-put-members2) → length (c .put-members2 .last .0) ≡ length (entry (initial (second (third c))) .args .out .now)
 long₄ c = c .put-members2 .kept .0 ∙ long₃ (third c)
 
 put-number-requires : tie.Need-put-number-requires
@@ -56,24 +56,24 @@ put-number-requires-2 : tie.Need-put-number-requires-2
 put-number-requires-2 c κs = let one = c .before .before .before .before in omega (arith, size (entry one), entry one .pre, long₁ one)
 
 add-put-members : tie.Need-add-put-members
-add-put-members c = let s = entry (first (c .before .before .before)) in omega (arith, size s, s .pre)
+add-put-members c = let s = entry (initial (c .before .before .before)) in omega (arith, size s, s .pre)
 
 put-members-requires : tie.Need-put-members-requires
 put-members-requires c κs =
     let two = c .before .before .before in
-    let s = entry (first two) in
+    let s = entry (initial two) in
     omega (arith, size s, s .pre, long₂ two)
 
 put-members-requires-2 : tie.Need-put-members-requires-2
 put-members-requires-2 c κs =
     let three = c .before .before .before in
-    let s = entry (first (second three)) in
+    let s = entry (initial (second three)) in
     omega (arith, size s, s .pre, long₃ three, three .put-members .ensures .1)
 
 put-members-requires-3 : tie.Need-put-members-requires-3
 put-members-requires-3 c κs =
     let four = c .before .before .before in
-    let s = entry (first (second (third four))) in
+    let s = entry (initial (second (third four))) in
     omega (arith, size s, s .pre, long₄ four, four .put-members2 .ensures .1, third four .put-members .ensures .1)
 
 same-length : tie.Need-same-length
@@ -85,7 +85,7 @@ returns c =
     let four = fourth five in
     let three = third four in
     let two = second three in
-    let one = first two in
+    let one = initial two in
     event-laid _ _ _ _ _ _ _ _ _ _ _ _ _ _ _
     (entry one .fits .low .fits)
     (two .before .member-count .ensures)

@@ -10,8 +10,8 @@ use Rattle.writer.proofs.put_header.Tie as tie
 abbrev entry : tie.After-put-number → tie.Start
 entry c = c .before .before .before
 
-abbrev first : tie.After-put-number2 → tie.After-put-number
-first c = c .before .before .before .before .before .before .before
+abbrev initial : tie.After-put-number2 → tie.After-put-number
+initial c = c .before .before .before .before .before .before .before
 
 abbrev second : tie.After-put-number3 → tie.After-put-number2
 second c = c .before .before .before .before
@@ -20,8 +20,8 @@ second c = c .before .before .before .before
 long₁ : (c : tie.After-put-number) → length (c .put-number .last .0) ≡ length (entry c .args .out .now)
 long₁ c = c .put-number .kept .0 ∙ simp length-set
 
-long₂ : (c : tie.After-put-number2) → length (c .put-number2 .last .0) ≡ length (entry (first c) .args .out .now)
-long₂ c = c .put-number2 .kept .0 ∙ simp length-set (long₁ (first c))
+long₂ : (c : tie.After-put-number2) → length (c .put-number2 .last .0) ≡ length (entry (initial c) .args .out .now)
+long₂ c = c .put-number2 .kept .0 ∙ simp length-set (long₁ (initial c))
 
 slice-write-out-2 : tie.Need-slice-write-out-2
 slice-write-out-2 c = simp length-set (omega arith)
@@ -54,7 +54,7 @@ returns : tie.Need-returns
 returns c =
     let three = c .before .before in
     let two = second three in
-    let one = first two in
+    let one = initial two in
     header-laid (entry one .args .out .now) _ _ _ _ _ _ _ _ (one .put-number .ensures) (two .put-number2 .ensures) (three .put-number3 .ensures)
 
 pub put-header-spec : {M : Type 1} → statement M

@@ -14,8 +14,8 @@ use Rattle.writer.proofs.put_plan.Tie as tie
 abbrev entry : tie.After-put-header → tie.Start
 entry c = c .before .before .before .before .before
 
-abbrev first : tie.After-put-bytes → tie.After-put-header
-first c = c .before .before .before .before
+abbrev initial : tie.After-put-bytes → tie.After-put-header
+initial c = c .before .before .before .before
 
 abbrev second : tie.After-put-events → tie.After-put-bytes
 second c = c .before .before .before .before
@@ -29,8 +29,8 @@ room c = omega (arith, plan-size (c .args .h) (c .args .links .now) (c .args .wo
 long₁ : (c : tie.After-put-header) → length (c .put-header .last .0) ≡ length (entry c .args .out .now)
 long₁ c = c .put-header .kept .0
 
-long₂ : (c : tie.After-put-bytes) → length (c .put-bytes .last .1 .0) ≡ length (entry (first c) .args .out .now)
-long₂ c = c .put-bytes .kept .1 .0 ∙ long₁ (first c)
+long₂ : (c : tie.After-put-bytes) → length (c .put-bytes .last .1 .0) ≡ length (entry (initial c) .args .out .now)
+long₂ c = c .put-bytes .kept .1 .0 ∙ long₁ (initial c)
 
 put-header-requires : tie.Need-put-header-requires
 put-header-requires c κs = let s = c .before .before .before .before in omega (arith, room s, s .pre)
@@ -41,12 +41,12 @@ put-bytes-requires c κs =
     omega (arith, room (entry one), entry one .pre, long₁ one)
 
 add-put-events : tie.Need-add-put-events
-add-put-events c = omega (arith, entry (first (c .before .before .before)) .pre)
+add-put-events c = omega (arith, entry (initial (c .before .before .before)) .pre)
 
 put-events-requires : tie.Need-put-events-requires
 put-events-requires c κs =
     let two = c .before .before .before in
-    let s = entry (first two) in
+    let s = entry (initial two) in
     omega (arith, room s, s .pre, long₂ two)
 
 same-length : tie.Need-same-length
@@ -56,7 +56,7 @@ returns : tie.Need-returns
 returns c =
     let three = c .before .before in
     let two = second three in
-    let one = first two in
+    let one = initial two in
     let s = entry one in
     plan-laid (s .args .h) (s .args .links .now) (s .args .words .now) (s .args .out .now) _ _ _
     (s .pre .1 .0 .0)

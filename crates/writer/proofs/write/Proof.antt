@@ -19,8 +19,8 @@ use Rattle.writer.proofs.write.Tie as tie
 abbrev entry : tie.Else1 → tie.Start
 entry c = c .before .before .before .before .before
 
-abbrev first : tie.After-events-size → tie.Else1
-first c = c .before
+abbrev initial : tie.After-events-size → tie.Else1
+initial c = c .before
 
 abbrev sized : tie.Else2 → tie.After-events-size
 sized c = c .before .before
@@ -36,15 +36,15 @@ fit c = let f = lists-fit _ (accepted c) in (f .0, (f .1 .0, omega (arith, f .1 
 
 -- the size is that of the file
 size : (c : tie.After-events-size)
-    → (let a = entry (first c) .args in
+    → (let a = entry (initial c) .args in
     20 + 2 * a .h .links + c .events-size .result ≡ length (layout (planOfLists (a .h) (a .links .now) (a .events .now))))
 size c =
-    let a = entry (first c) .args in
+    let a = entry (initial c) .args in
     ap (λ (n : ℕ). 20 + 2 * a .h .links + n) (c .events-size .ensures) ∙ sym (plan-size (a .h) (a .links .now) (a .events .now))
 
 -- the output has room
 fits : (c : tie.Else2)
-    → (let a = entry (first (sized c)) .args in 20 + 2 * a .h .links + sized c .events-size .result ≤ length (a .out .now))
+    → (let a = entry (initial (sized c)) .args in 20 + 2 * a .h .links + sized c .events-size .result ≤ length (a .out .now))
 fits c = room-none _ _ (sym (c .before .room-test .ensures) ∙ c .if2 .left)
 
 returns : tie.Need-returns
@@ -52,8 +52,8 @@ returns c = let a = c .before .before .before .before .before .args in lists-ref
 
 add-size-2 : tie.Need-add-size-2
 add-size-2 c =
-    let a = entry (first c) .args in
-    let f = fit (first c) .0 in
+    let a = entry (initial c) .args in
+    let f = fit (initial c) .0 in
     omega (
       arith,
       f .links-fit,
@@ -66,21 +66,21 @@ add-size-2 c =
 returns-2 : tie.Need-returns-2
 returns-2 c =
     let z = c .before .before in
-    let a = entry (first z) .args in
-    room-refuses (inWords (a .h) (a .links .now) (a .events .now)) (a .out .now) _ _ (accepted (first z)) (size z) (c .before .room-test .ensures) (c .if2 .taken)
+    let a = entry (initial z) .args in
+    room-refuses (inWords (a .h) (a .links .now) (a .events .now)) (a .out .now) _ _ (accepted (initial z)) (size z) (c .before .room-test .ensures) (c .if2 .taken)
 
 put-plan-requires : tie.Need-put-plan-requires
 put-plan-requires c κs =
     let e = c .before in
-    let f = fit (first (sized e)) in
+    let f = fit (initial (sized e)) in
     omega (arith, f .0 .nodes-fit, f .0 .links-fit, f .0 .events-fit, f .1 .0, f .1 .1, size (sized e), fits e)
 
 returns-3 : tie.Need-returns-3
 returns-3 c =
     let e = c .before .before .before .before in
     let z = sized e in
-    let a = entry (first z) .args in
-    written (inWords (a .h) (a .links .now) (a .events .now)) (a .out .now) _ _ (accepted (first z)) (size z) (e .before .room-test .ensures) _ (e .if2 .left) (c .before .before .put-plan .ensures)
+    let a = entry (initial z) .args in
+    written (inWords (a .h) (a .links .now) (a .events .now)) (a .out .now) _ _ (accepted (initial z)) (size z) (e .before .room-test .ensures) _ (e .if2 .left) (c .before .before .put-plan .ensures)
 
 pub write-spec : {M : Type 1} → statement M
 write-spec =

@@ -13,14 +13,14 @@ returns c =
     let start = c .before .before .before .before .before .before in
     let a = start .args in
     let one = c .before .before .before in
-    let first = set (a .rows .now) (a .a) (one .union .result) in (
+    let initial = set (a .rows .now) (a .a) (one .union .result) in (
       simp length-set (start .pre .0),
       both-put (a .rows .now) (a .a) (a .b) (one .union .result) (c .union2 .result)
           (start .pre .0)
           (start .pre .1 .0)
           (start .pre .1 .1)
           (λ j. one .union .ensures j ∙ ap (λ (x : Bool). bit (getD (a .rows .now) (a .a) 0) j || x) (one .before .only .ensures j))
-          (λ j. c .union2 .ensures j ∙ ap (λ (x : Bool). bit (getD first (a .b) 0) j || x) (c .before .only2 .ensures j)),
+          (λ j. c .union2 .ensures j ∙ ap (λ (x : Bool). bit (getD initial (a .b) 0) j || x) (c .before .only2 .ensures j)),
     )
 
 pub join-spec : {M : Type 1} → statement M

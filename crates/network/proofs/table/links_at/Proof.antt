@@ -27,16 +27,16 @@ put-at-requires-2 c κs = (c .before .before .put-at .ensures .0, (c .end2 .ensu
 loop-again : tie.Need-loop-again Inv-loop μ-loop
 loop-again c =
     let two = c .before in
-    let first = two .before .before in
-    let one = first .before in
+    let initial = two .before .before in
+    let one = initial .before in
     let loop = one .before .before .before .loop in
     let a = one .before .before .before .before .args in (
       omega arith,
       c .put-at2 .ensures .0,
-      table-next (a .links .now) (loop .i) (one .end .result) (two .end2 .result) (loop .table) (first .put-at .last .0) (c .put-at2 .last .0)
+      table-next (a .links .now) (loop .i) (one .end .result) (two .end2 .result) (loop .table) (initial .put-at .last .0) (c .put-at2 .last .0)
           (one .end .ensures .0)
           (two .end2 .ensures .0)
-          (first .put-at .ensures .1)
+          (initial .put-at .ensures .1)
           (c .put-at2 .ensures .1)
           (loop .inv .2),
     )

@@ -13,7 +13,7 @@ use Rattle.network.proofs.working.working_links.Tie as tie
 
 returns : tie.Need-returns
 returns c = λ n bytes held made.
-    let first = c .before .before .before .first-links in
+    let initial = c .before .before .before .first-links in
     let a = c .before .before .before .before .args in
     let low = c .before .before .less in
     let high = c .before .less2 in
@@ -21,14 +21,14 @@ returns c = λ n bytes held made.
     (λ i h.
     c .apart-from .ensures i h
     ∙ ap (λ (x : Bool). x && not (atNodes (a .table .now) (a .failed .nodes) i))
-    (joined-by (λ x y. x && not y) (first .result .low) (first .result .high) (a .failed .low) (a .failed .high) (low .result) (high .result)
+    (joined-by (λ x y. x && not y) (initial .result .low) (initial .result .high) (a .failed .low) (a .failed .high) (low .result) (high .result)
     (omega arith)
     (omega arith)
     (omega arith)
     (low .ensures)
     (high .ensures)
     i
-    ∙ ap (λ (x : Bool). x && not (bit (joined (a .failed .low) (a .failed .high)) i)) (first .ensures i)))
+    ∙ ap (λ (x : Bool). x && not (bit (joined (a .failed .low) (a .failed .high)) i)) (initial .ensures i)))
 
 pub working-links-spec : {M : Type 1} → statement M
 working-links-spec =

@@ -9,8 +9,8 @@ use Rattle.text.proofs.fields.put_line.Tie as tie
 abbrev entry : tie.After-put-field → tie.Start
 entry c = c .before .before .before
 
-abbrev first : tie.After-put-field2 → tie.After-put-field
-first c = c .before .before .before .before
+abbrev initial : tie.After-put-field2 → tie.After-put-field
+initial c = c .before .before .before .before
 
 abbrev second : tie.After-put-field3 → tie.After-put-field2
 second c = c .before .before .before .before
@@ -30,7 +30,7 @@ put-field-requires-2 c κs =
 put-field-requires-3 : tie.Need-put-field-requires-3
 put-field-requires-3 c κs =
     let s = c .before .before .before in
-    let f = first s in
+    let f = initial s in
     let a = entry f .args in
     let long = line-long (a .a) (a .b) (a .c) (a .d) in
     omega (arith, entry f .pre, long, f .put-field .kept .0, f .put-field .ensures .1, s .put-field2 .kept .0, s .put-field2 .ensures .1)
@@ -39,7 +39,7 @@ put-field-requires-4 : tie.Need-put-field-requires-4
 put-field-requires-4 c κs =
     let t = c .before .before .before in
     let s = second t in
-    let f = first s in
+    let f = initial s in
     let a = entry f .args in
     let long = line-long (a .a) (a .b) (a .c) (a .d) in
     let p = f .put-field in
@@ -51,7 +51,7 @@ returns : tie.Need-returns
 returns c =
     let t = c .before .before .before .before .before .before in
     let s = second t in
-    line-laid _ _ _ _ _ _ _ _ _ _ _ _ _ _ (first s .put-field .ensures) (s .put-field2 .ensures) (t .put-field3 .ensures) (c .before .before .put-field4 .ensures)
+    line-laid _ _ _ _ _ _ _ _ _ _ _ _ _ _ (initial s .put-field .ensures) (s .put-field2 .ensures) (t .put-field3 .ensures) (c .before .before .put-field4 .ensures)
 
 pub put-line-spec : {M : Type 1} → statement M
 put-line-spec =

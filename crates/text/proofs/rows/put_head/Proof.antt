@@ -9,8 +9,8 @@ use Rattle.text.proofs.rows.put_head.Tie as tie
 abbrev entry : tie.After-put-field → tie.Start
 entry c = c .before .before .before
 
-abbrev first : tie.After-put-field2 → tie.After-put-field
-first c = c .before .before .before .before
+abbrev initial : tie.After-put-field2 → tie.After-put-field
+initial c = c .before .before .before .before
 
 put-field-requires : tie.Need-put-field-requires
 put-field-requires c κs =
@@ -29,7 +29,7 @@ put-field-requires-2 c κs =
 put-line-requires : tie.Need-put-line-requires
 put-line-requires c κs =
     let s = c .before .before .before in
-    let f = first s in
+    let f = initial s in
     let h = entry f .args .h in
     let t = entry f .args .t in
     let long = head-long (h .nodes) (h .links) (h .events) (t .count) (t .complete) (t .mass) in
@@ -38,7 +38,7 @@ put-line-requires c κs =
 returns : tie.Need-returns
 returns c =
     let s = c .before .before .before .before .before .before in
-    head-laid _ _ _ _ _ _ _ _ _ _ _ _ _ (first s .put-field .ensures) (s .put-field2 .ensures) (c .before .before .put-line .ensures)
+    head-laid _ _ _ _ _ _ _ _ _ _ _ _ _ (initial s .put-field .ensures) (s .put-field2 .ensures) (c .before .before .put-line .ensures)
 
 pub put-head-spec : {M : Type 1} → statement M
 put-head-spec =

@@ -11,8 +11,8 @@ use Rattle.topology_list.proofs.calls.topologies.Tie as tie
 abbrev entry : tie.Else1 → tie.Start
 entry c = c .before .before .before .before .before .before .before
 
-abbrev first : tie.After-list-all → tie.Else1
-first c = c .before .before .before .before
+abbrev initial : tie.After-list-all → tie.Else1
+initial c = c .before .before .before .before
 
 -- the arrays that the lists were taken into
 abbrev bytes : tie.Else1 → List ℕ
@@ -35,7 +35,7 @@ list-all-requires c κs = taken (c .before .before .before) .held
 returns-2 : tie.Need-returns-2
 returns-2 c =
     let k = c .before .before .before .before in
-    let e = first k in
+    let e = initial k in
     let a = entry e .args in
     list-full (a .h) (a .links .now) (a .events .now) (a .list .now) _ (e .before .accept .ensures .0) (e .if1 .left) (bytes e) (words e) (taken e) _ _
     (k .list-all .ensures)
@@ -44,7 +44,7 @@ returns-2 c =
 returns-3 : tie.Need-returns-3
 returns-3 c =
     let k = c .before .before .before .before in
-    let e = first k in
+    let e = initial k in
     let a = entry e .args in
     list-done (a .h) (a .links .now) (a .events .now) (a .list .now) _ (e .before .accept .ensures .0) (e .if1 .left) (bytes e) (words e) (taken e) _ _
     (k .list-all .ensures)

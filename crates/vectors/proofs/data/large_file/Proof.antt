@@ -15,22 +15,22 @@ returns : tie.Need-returns
 returns c =
     let third = c .before in
     let second = third .before .before .before .before in
-    let first = second .before .before .before .before in
-    let links = first .before .before .before .many-links .result in
+    let initial = second .before .before .before .before in
+    let links = initial .before .before .before .many-links .result in
     let sized : length links ≡ 256 = search needs in
-    let one = first .put-bytes .last .1 .0 in
+    let one = initial .put-bytes .last .1 .0 in
     let two = second .put-bytes2 .last .1 .0 in
     let laid : two ≡ sets one 20 links =
     second .put-bytes2 .ensures ∙ ap (λ (l : List ℕ). sets one 20 l) (take-all 256 links (omega arith)) in
     let file : third .put-bytes3 .last .1 .0 ≡ largeHeader ++ links ++ largeEvents =
     third .put-bytes3 .ensures
-    ∙ three-laid (replicate 302 0) one two largeHeader links largeEvents 20 276 (first .put-bytes .ensures) laid refl (omega arith) refl in
+    ∙ three-laid (replicate 302 0) one two largeHeader links largeEvents 20 276 (initial .put-bytes .ensures) laid refl (omega arith) refl in
     let middle : take 256 (drop 20 (third .put-bytes3 .last .1 .0)) ≡ links =
     ap (λ (l : List ℕ). take 256 (drop 20 l)) file ∙ second-part largeHeader links largeEvents 20 256 refl sized in
     let seam : length (largeHeader ++ links) ≡ 276 = omega (arith, length-append largeHeader links) in
     record {
       header = ap (take 20) file ∙ first-part largeHeader links largeEvents 20 refl;
-      links = subst (LinksUpTo 128) (sym middle) (first .before .before .before .many-links .ensures);
+      links = subst (LinksUpTo 128) (sym middle) (initial .before .before .before .many-links .ensures);
       events = ap (drop 276) file ∙ third-part largeHeader links largeEvents 276 seam;
     }
 
