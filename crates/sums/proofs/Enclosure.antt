@@ -13,7 +13,7 @@ use Rattle.plan.specs.Plan.{Event}
 use Rattle.walk.specs.Scenario.{Scenario}
 use Rattle.plan.specs.Held.{Probabilities}
 use Rattle.sets.specs.Sets.{digit}
-use Rattle.walk.specs.Ends.{End, dropped, relevant, ends, both, sumEnds, weighed, scenarios}
+use Rattle.walk.specs.Ends.{End, dropped, relevant, ends, bothSides, sumEnds, weighed, scenarios}
 use Rattle.walk.proofs.EndsLaws.{sumEnds-both, scenarios-both, first-ends}
 use Rattle.walk.specs.Member.{among}
 use Rattle.walk.proofs.MemberLaws.{among-works, among-fails}
@@ -42,10 +42,10 @@ seen-none : (events : List Event) (w : Scenario → ℕ) → exactSum events (λ
 seen-none events w = omega (arith, exactSum-times events 0 w)
 
 seen-both : (e : Event) (events : List Event) (xs ys : List End) (w : Scenario → ℕ)
-    → exactSum (e ∷ events) (λ s. seen (both xs ys) s * w s)
+    → exactSum (e ∷ events) (λ s. seen (bothSides xs ys) s * w s)
     ≡ (certain - e .probability) * exactSum events (λ s. seen xs s * w (false ∷ s)) + e .probability * exactSum events (λ s. seen ys s * w (true ∷ s))
 seen-both e events xs ys w =
-    rw (exactSum-event e events (λ s. seen (both xs ys) s * w s), scenarios-both xs ys) (simp (among-works, among-fails))
+    rw (exactSum-event e events (λ s. seen (bothSides xs ys) s * w s), scenarios-both xs ys) (simp (among-works, among-fails))
 
 -- from above: the exact sum over the scenarios of the list is at most the sum of weights times 10^(9n), since no set has more units than that;
 -- and m times it is at most the weighed masses and, for the units lost, n times the sum of weights
@@ -65,7 +65,7 @@ above-leaf m w =
 
 above-node : (m : ℕ) (e : Event) (events : List Event) (xs ys : List End) (w : Scenario → ℕ) → e .probability ≤ certain
     → UpperSide (working m (e .probability)) events xs (λ s. w (false ∷ s)) → UpperSide (failing m (e .probability)) events ys (λ s. w (true ∷ s))
-    → UpperSide m (e ∷ events) (both xs ys) w
+    → UpperSide m (e ∷ events) (bothSides xs ys) w
 above-node m e events xs ys w q works fails =
     record {
       spread =

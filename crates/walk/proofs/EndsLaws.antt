@@ -13,7 +13,7 @@ use borrow.Author.Tests.{lt-ltb, le-ltb, ltb-true, ltb-false}
 use Rattle.mass.specs.Split.{failing, working}
 use Rattle.plan.specs.Plan.{Event, Plan}
 use Rattle.walk.specs.Scenario.{Scenario}
-use Rattle.walk.specs.Ends.{End, dropped, relevant, after, both, ends, endsAfter, sumEnds, scenarios}
+use Rattle.walk.specs.Ends.{End, dropped, relevant, after, bothSides, ends, endsAfter, sumEnds, scenarios}
 use Rattle.walk.specs.Walk.{firstEnds, count}
 
 -- law: a mass below the threshold is dropped at once
@@ -102,7 +102,7 @@ module _ {A : Type 0} where
   take-map {B} f (suc k) (x ∷ xs) = ap {B = List B} (λ l. f x ∷ l) (take-map f k xs)
 
 -- law: the first k ends of two branches are first ends of each
-pub take-both : (k : ℕ) (xs ys : List End) → take k (both xs ys) ≡ both (take k xs) (take (k - length xs) ys)
+pub take-both : (k : ℕ) (xs ys : List End) → take k (bothSides xs ys) ≡ bothSides (take k xs) (take (k - length xs) ys)
 take-both k xs ys =
     rw (
       take-append k (map (after (false ∷ [])) xs) (map (after (true ∷ [])) ys),
@@ -113,13 +113,13 @@ take-both k xs ys =
 
 -- law: sums over the ends of two branches
 pub sumEnds-both : (f : Scenario → ℕ → ℕ) (xs ys : List End)
-    → sumEnds f (both xs ys) ≡ sumEnds (λ s m. f (false ∷ s) m) xs + sumEnds (λ s m. f (true ∷ s) m) ys
+    → sumEnds f (bothSides xs ys) ≡ sumEnds (λ s m. f (false ∷ s) m) xs + sumEnds (λ s m. f (true ∷ s) m) ys
 sumEnds-both f xs ys =
     rw (sumEnds-append f (map (after (false ∷ [])) xs) (map (after (true ∷ [])) ys), sumEnds-after f (false ∷ []) xs, sumEnds-after f (true ∷ []) ys)
 
 -- law: the scenarios of two branches
 pub scenarios-both : (xs ys : List End)
-    → scenarios (both xs ys) ≡ map (λ s. (false ∷ []) ++ s) (scenarios xs) ++ map (λ s. (true ∷ []) ++ s) (scenarios ys)
+    → scenarios (bothSides xs ys) ≡ map (λ s. (false ∷ []) ++ s) (scenarios xs) ++ map (λ s. (true ∷ []) ++ s) (scenarios ys)
 scenarios-both xs ys =
     rw (scenarios-append (map (after (false ∷ [])) xs) (map (after (true ∷ [])) ys), scenarios-after (false ∷ []) xs, scenarios-after (true ∷ []) ys)
 
@@ -130,7 +130,7 @@ module _ (t : ℕ) (P : ℕ → List Event → List End → Type 0)
     (cut : (m : ℕ) (events : List Event) → m < t → P m events (dropped ∷ []))
     (leaf : (m : ℕ) → t ≤ m → P m [] (relevant [] m ∷ []))
     (node : (m : ℕ) (e : Event) (events : List Event) (xs ys : List End) → t ≤ m
-    → P (working m (e .probability)) events xs → P (failing m (e .probability)) events ys → P m (e ∷ events) (both xs ys)) where
+    → P (working m (e .probability)) events xs → P (failing m (e .probability)) events ys → P m (e ∷ events) (bothSides xs ys)) where
   one : (k m : ℕ) (events : List Event) (x : End) → P m events (x ∷ []) → P m events (take k (x ∷ []))
   one zero m events x h = none m events
   one (suc k) m events x h = rw (take-nil {A = End} k) h

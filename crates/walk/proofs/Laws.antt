@@ -15,7 +15,7 @@ use Rattle.plan.specs.Plan.{Plan, Event}
 use Rattle.walk.specs.Scenario.{Scenario, part, finalMass}
 use Rattle.walk.proofs.ScenarioLaws.{finalMass-le}
 use Rattle.plan.specs.Held.{Probabilities}
-use Rattle.walk.specs.Ends.{End, dropped, relevant, after, ends, endsAfter, sumEnds, scenarios, both}
+use Rattle.walk.specs.Ends.{End, dropped, relevant, after, ends, endsAfter, sumEnds, scenarios, bothSides}
 use Rattle.walk.proofs.EndsLaws.{ends-leaf, ends-node, sumEnds-both, scenarios-both, first-ends}
 use Rattle.walk.proofs.MemberLaws.{among-member}
 use Rattle.walk.specs.WalkOrder.{earlier, Ordered}
@@ -74,7 +74,7 @@ module _ (t : ℕ) where
           record { entries = ap length initial; mass = second; enough = omega arith }
 
   sound-node : (m : ℕ) (e : Event) (events : List Event) (xs ys : List End) → t ≤ m
-      → Sound (working m (e .probability)) events xs → Sound (failing m (e .probability)) events ys → Sound m (e ∷ events) (both xs ys)
+      → Sound (working m (e .probability)) events xs → Sound (failing m (e .probability)) events ys → Sound m (e ∷ events) (bothSides xs ys)
   unfolding Sound
   sound-node m e events xs ys h works fails s x there =
       ⊎-elim

@@ -19,8 +19,8 @@ after path dropped = dropped
 after path (relevant s m) = relevant (path ++ s) m
 
 -- the ends of two branches in turn: those where the next event works, then those where it fails
-abbrev pub both : List End → List End → List End
-both works fails = map (after (false ∷ [])) works ++ map (after (true ∷ [])) fails
+abbrev pub bothSides : List End → List End → List End
+bothSides works fails = map (after (false ∷ [])) works ++ map (after (true ∷ [])) fails
 
 -- the ends of the walk over the events from the mass m, in order: a scenario is dropped where its mass is below the threshold t;
 -- each event is decided in turn, "works" before "fails"
@@ -30,7 +30,7 @@ ends t m (e ∷ events) =
     elim (ltb m t) [
       | true ↦ dropped ∷ []
       | false ↦
-          both (ends t (working m (e .probability)) events) (ends t (failing m (e .probability)) events)
+          bothSides (ends t (working m (e .probability)) events) (ends t (failing m (e .probability)) events)
     ]
 
 -- the ends that follow a path: m is the mass that the path left, and the events are those not yet decided
