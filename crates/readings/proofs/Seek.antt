@@ -23,7 +23,7 @@ use Rattle.walk.specs.declared.WalkStep.{WalkStep}
 use Rattle.walk.proofs.Resume.{scenarios-found, scenarios-none}
 use Rattle.bounds.specs.Bounds.{cuts}
 use Rattle.readings.specs.Witness.{some, failingOf, witnessAnswer}
-use Rattle.readings.specs.Search.{reached, searched, Seeking}
+use Rattle.readings.specs.Search.{reachedScenarios, searched, Seeking}
 use Rattle.readings.specs.declared.Witnessed.the-variants as witnessed
 use Rattle.readings.proofs.FirstLaws.{some-here, some-passed, first-here, first-passed}
 
@@ -77,8 +77,8 @@ module _ (p : Plan) (v w : ℕ) where
 
 pub record Seek (h : Header) (links words : List ℕ) (at₀ : ℕ) (stack₀ : List ℕ) (v w k : ℕ) (stack : List ℕ) (at left : ℕ) : Type 0 where
   pub seeking : Seeking h links words at stack v w
-  pub answers : searched intact (planOfLists h links words) v w (reached h words at stack left)
-      ≡ searched intact (planOfLists h links words) v w (reached h words at₀ stack₀ k)
+  pub answers : searched intact (planOfLists h links words) v w (reachedScenarios h words at stack left)
+      ≡ searched intact (planOfLists h links words) v w (reachedScenarios h words at₀ stack₀ k)
 
 module _ (h : Header) (links words : List ℕ) (at₀ : ℕ) (stack₀ : List ℕ) (v w k : ℕ) (stack : List ℕ) (at left : ℕ)
     (g : Seek h links words at₀ stack₀ v w k stack at left)
@@ -87,10 +87,10 @@ module _ (h : Header) (links words : List ℕ) (at₀ : ℕ) (stack₀ : List �
   p = planOfLists h links words
 
   abbrev all : List Scenario
-  all = reached h words at₀ stack₀ k
+  all = reachedScenarios h words at₀ stack₀ k
 
   abbrev later : List Scenario
-  later = reached h words (r .at) stack′ (r .left)
+  later = reachedScenarios h words (r .at) stack′ (r .left)
 
   abbrev here : Scenario
   here = scenarioOf (h .events) (joined (r .low) (r .high))

@@ -19,7 +19,7 @@ use Rattle.bounds.specs.Calls.{pairNumber}
 use Rattle.plan.specs.Held.{Held}
 use Rattle.network.specs.Outage.{intact}
 use Rattle.readings.specs.Witness.{witnessNumber, firstCut, failingOf, witnessAnswer, witnessOf}
-use Rattle.readings.specs.Search.{reached, searched, Seeking}
+use Rattle.readings.specs.Search.{reachedScenarios, searched, Seeking}
 use Rattle.readings.specs.declared.Witnessed.{Witnessed}
 use Rattle.readings.specs.declared.Witnessed.the-variants as witnessed
 
@@ -30,11 +30,11 @@ module _ (h : Header) (links words : List ℕ) (at : ℕ) (stack : List ℕ) (v 
   seeking-whole held inside =
       record { held = held; stacked = begun-stack 0 whole 0 0 at stack b (omega arith) (h .events) (root-entry (h .events)); inside = inside }
 
-  firsts : reached h words at stack (h .cap) ≡ examined (planOfLists h links words)
+  firsts : reachedScenarios h words at stack (h .cap) ≡ examined (planOfLists h links words)
   unfolding planOfLists
   firsts = ap (λ (l : List End). scenarios (take (h .cap) l)) (begun-whole at stack b (h .events) (h .threshold) words)
 
-  pub answers-whole : searched intact (planOfLists h links words) v w (reached h words at stack (h .cap))
+  pub answers-whole : searched intact (planOfLists h links words) v w (reachedScenarios h words at stack (h .cap))
       ≡ searched intact (planOfLists h links words) v w (examined (planOfLists h links words))
   answers-whole = ap (searched intact (planOfLists h links words) v w) firsts
 

@@ -19,8 +19,8 @@ abbrev pub searched : Outage → Plan → ℕ → ℕ → List Scenario → Witn
 searched out p v w list = witnessAnswer (noneTest out p v w list) (failingOf (firstWhere (cuts out p v w) list))
 
 -- the relevant scenarios among the next k ends of a walk
-abbrev pub reached : Header → List ℕ → ℕ → List ℕ → ℕ → List Scenario
-reached h words at stack k = scenarios (take k (toCome (h .events) (h .threshold) words at stack))
+abbrev pub reachedScenarios : Header → List ℕ → ℕ → List ℕ → ℕ → List Scenario
+reachedScenarios h words at stack k = scenarios (take k (toCome (h .events) (h .threshold) words at stack))
 
 -- what a search asks: lists of a valid plan, a stack that denotes the ends to come, and two nodes
 pub record Seeking (h : Header) (links words : List ℕ) (at : ℕ) (stack : List ℕ) (v w : ℕ) : Type 0 where

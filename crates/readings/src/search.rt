@@ -14,7 +14,7 @@ ghost use Rattle.bounds.specs.Bounds.{cuts};
 ghost use Rattle.plan.specs.Held.{Held};
 ghost use Rattle.network.specs.Outage.{intact};
 ghost use Rattle.readings.specs.Witness.{witnessOf};
-ghost use Rattle.readings.specs.Search.{reached, searched, Seeking};
+ghost use Rattle.readings.specs.Search.{reachedScenarios, searched, Seeking};
 
 // Whether the topology of a scenario, by its failing events, disconnects the pair.
 fn cut_by(
@@ -65,7 +65,7 @@ fn search_on(
     requires { ⌜ LinksAt (now links) (h .links) (now table) ⌝ }
     requires { ⌜ Seeking h (now links) (now words) start (now stack) v w ⌝ }
     ensures { λ r. ⌜ r ≡ searched intact (planOfLists h (now (links .entry)) (now (words .entry))) v w
-        (reached h (now (words .entry)) start (now (stack .entry)) k) ⌝ }
+        (reachedScenarios h (now (words .entry)) start (now (stack .entry)) k) ⌝ }
 {
     let mut at = start;
     let mut left = k;
