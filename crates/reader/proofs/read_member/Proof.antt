@@ -135,8 +135,8 @@ module _ {M : Type 1} (𝓤 : URA M) (H : Heap 𝓤) (A : Atoms 𝓤) (W : Given
   abbrev to-next : Reader → Val → Next 𝓤 H A mem run .Ghost
   to-next r u = (((κ, tt), (q, tt), tt, (r, nums), (u ∷ [], num-vals)), tt)
 
-  abbrev answered : Reader → Stepped → Type 0
-  answered r t = t .step ≡ found (r .src) (r .at)
+  abbrev expected : Reader → Stepped → Type 0
+  expected r t = t .step ≡ found (r .src) (r .at)
 
   abbrev moved : Reader → Stepped → Type 0
   moved r t = (t .reader .src ≡ r .src) × (t .reader .at ≡ after (r .src) (r .at))
@@ -205,8 +205,8 @@ module _ {M : Type 1} (𝓤 : URA M) (H : Heap 𝓤) (A : Atoms 𝓤) (W : Given
           calls-at ! fm (Next 𝓤 H A mem run) known-next (to-next r u) (and-then ! (load ! (from ! (stop !)) (look ! 6 refl)) (and-then ! (load ! (from ! (stop !)) (look ! 14 refl))
           (and-then ! (load ! (from ! (stop !)) (look ! 12 refl)) (and-then ! (load ! (from ! (stop !)) (look ! 10 refl)) (no-more !))))) (λ w.
           use1 W (later (some (λ (t : Stepped). ((‵ (flft κ q) ⊛ ‵ ftrue) ⊛ ‵ (P.the-row αᵉ .own t (w ∷ []))) ⊛ raw (ensured 𝓤 H A next.ended (next.clauses 𝓤 H A mem run) (κ, tt) (r, nums) tt t)))) (id⊢ 𝓤 _) $ await ! tt $ pick ! (λ t.
-          split ! $ move ! (1 ∷ []) $ use1 W (some (λ (zs : Unit {0} × (Unit {0} × (Unit {0} × (Unit {0} × Unit {0})))). ‵ (lasts next.ended (κ, tt) (r, nums) zs) ⊛ (raw (fact 𝓤 (answered r t)) ⊛ raw (fact 𝓤 (moved r t))))) (id⊢ 𝓤 _) $ pick ! (λ zs.
-          split ! $ forgo ! $ split ! $ heard ! (answered r t) (λ e₁. heard ! (moved r t) (λ e₂. split ! $ move ! (1 ∷ []) $ peeks ! (P.the-row αᵉ) (Is (P.the-row αᵉ)) (shows 𝓤 H A (P.the-row αᵉ)) t (w ∷ []) (λ is′. forgo ! $
+          split ! $ move ! (1 ∷ []) $ use1 W (some (λ (zs : Unit {0} × (Unit {0} × (Unit {0} × (Unit {0} × Unit {0})))). ‵ (lasts next.ended (κ, tt) (r, nums) zs) ⊛ (raw (fact 𝓤 (expected r t)) ⊛ raw (fact 𝓤 (moved r t))))) (id⊢ 𝓤 _) $ pick ! (λ zs.
+          split ! $ forgo ! $ split ! $ heard ! (expected r t) (λ e₁. heard ! (moved r t) (λ e₂. split ! $ move ! (1 ∷ []) $ peeks ! (P.the-row αᵉ) (Is (P.the-row αᵉ)) (shows 𝓤 H A (P.the-row αᵉ)) t (w ∷ []) (λ is′. forgo ! $
           -- [the token; what s owns; _9; …; _0; …]: of the answer the step and the position are taken
           land ! (from ! (stop !)) (init ! 8 refl (LL.lawful (P.the-type αᵉ) (P′.the-laws αᵉ) 𝓤 H A W .typed t _ is′ .0)) $ rewrite ! 8 (λ (x : Val). ‵ (fat fullShare (P′.mir erased) l₆ 0 x)) (ap only (LL.tells (P.the-type αᵉ) (P′.the-laws αᵉ) t (w ∷ []) is′)) refl $
           assigns ! (of-opd ! (load ! (from ! (fld ! refl (stop !))) (look-in ! 8 (sub ! 0 refl (whole !))))) (from ! (stop !)) (init ! 4 refl (EL.lawful S.the-type S′.the-laws 𝓤 H A W tt .typed (t .step) _ (is-step t w is′) .0)) $

@@ -110,8 +110,8 @@ module _ {M : Type 1} (𝓤 : URA M) (H : Heap 𝓤) (A : Atoms 𝓤) (W : Given
   OwnS = ShrSlice (named 0) κ₀ u8 .own s (vals .0)
 
   -- what the contracts say of the bytes: the answer, and what is left in the links and the records
-  abbrev answered : List ℕ → Reading
-  answered b = readAnswer (readNumber (length ks) (length es) b) (headerOf b)
+  abbrev expected : List ℕ → Reading
+  expected b = readAnswer (readNumber (length ks) (length es) b) (headerOf b)
 
   abbrev links-left : List ℕ → List ℕ
   links-left b = filled (readNumber (length ks) (length es) b) (linkBytes ((planOf b) .links)) ks
@@ -146,7 +146,7 @@ module _ {M : Type 1} (𝓤 : URA M) (H : Heap 𝓤) (A : Atoms 𝓤) (W : Given
       qed W ((‵ (flft κ₀ q₀) ⊛ (‵ (flft κ₁ q₁) ⊛ (‵ (flft κ₂ q₂) ⊛ ‵ ftrue)))
       ∷ ‵ (owns (B ∷ MutSlice (named 1) κ₁ u8 ∷ MutSlice (named 2) κ₂ E ∷ []) (to-read r u .0 .3) (to-read r u .0 .4)) ∷ []) ∵ join ! $ frame ! $ done !
 
-  exits : (r : Reading) (u : Val) (links : List ℕ) (records : List Event) → Is R.the-row r (u ∷ []) → length links ≡ length ks → length records ≡ length es → r ≡ answered (s .now) → links ≡ links-left (s .now) → records ≡ records-left (s .now)
+  exits : (r : Reading) (u : Val) (links : List ℕ) (records : List Event) → Is R.the-row r (u ∷ []) → length links ≡ length ks → length records ≡ length es → r ≡ expected (s .now) → links ≡ links-left (s .now) → records ≡ records-left (s .now)
       → ent 𝓤 (⋆ 𝓤 H A (‵ (flft κ₀ q₀) ∷ ‵ (flft κ₁ q₁) ∷ ‵ (flft κ₂ q₂) ∷ ‵ OwnS ∷ ‵ (finally u8 γ₁ links) ∷ ‵ (finally E γ₂ records) ∷ [])) (Post u)
   exits r u links records is l₁ l₂ e₁ e₂ e₃ =
       qed W (‵ (flft κ₀ q₀) ∷ ‵ (flft κ₁ q₁) ∷ ‵ (flft κ₂ q₂) ∷ ‵ OwnS ∷ ‵ (finally u8 γ₁ links) ∷ ‵ (finally E γ₂ records) ∷ []) ∵
@@ -182,14 +182,14 @@ module _ {M : Type 1} (𝓤 : URA M) (H : Heap 𝓤) (A : Atoms 𝓤) (W : Given
         calls-at ! fm (Read 𝓤 H A mem″ run) known-read (to-read r u) (and-then ! (load ! (from ! (stop !)) (look ! 13 refl)) (and-then ! (load ! (from ! (stop !)) (look ! 9 refl)) (and-then ! (load ! (from ! (stop !)) (look ! 5 refl)) (no-more !)))) (λ w.
         use1 W (later (some (λ (t : Reading). ((‵ (flft κ₀ q₀) ⊛ (‵ (flft κ₁ q₁) ⊛ (‵ (flft κ₂ q₂) ⊛ ‵ ftrue))) ⊛ ‵ (R.the-row .own t (w ∷ []))) ⊛ raw (ensured 𝓤 H A read.ended (read.clauses 𝓤 H A mem″ run) (κ₀, (κ₁, (κ₂, tt))) (to-read r u .0 .3) tt t)))) (id⊢ 𝓤 _) $ await ! tt $ pick ! (λ t.
         split ! $ move ! (1 ∷ []) $
-        use1 W (some (λ (zs : Unit {0} × (List ℕ × (List Event × Unit {0}))). ‵ (lasts read.ended (κ₀, (κ₁, (κ₂, tt))) (to-read r u .0 .3) zs) ⊛ (raw (fact 𝓤 (t ≡ answered (left r))) ⊛ (raw (fact 𝓤 (zs .1 .0 ≡ links-left (left r))) ⊛ raw (fact 𝓤 (zs .1 .1 .0 ≡ records-left (left r))))))) (id⊢ 𝓤 _) $
-        pick ! (λ zs. split ! $ move ! (1 ∷ []) $ split ! $ heard ! (t ≡ answered (left r)) (λ e₁. split ! $ heard ! (zs .1 .0 ≡ links-left (left r)) (λ e₂. heard ! (zs .1 .1 .0 ≡ records-left (left r)) (λ e₃. fsplit ! $ move ! (1 ∷ []) $
+        use1 W (some (λ (zs : Unit {0} × (List ℕ × (List Event × Unit {0}))). ‵ (lasts read.ended (κ₀, (κ₁, (κ₂, tt))) (to-read r u .0 .3) zs) ⊛ (raw (fact 𝓤 (t ≡ expected (left r))) ⊛ (raw (fact 𝓤 (zs .1 .0 ≡ links-left (left r))) ⊛ raw (fact 𝓤 (zs .1 .1 .0 ≡ records-left (left r))))))) (id⊢ 𝓤 _) $
+        pick ! (λ zs. split ! $ move ! (1 ∷ []) $ split ! $ heard ! (t ≡ expected (left r)) (λ e₁. split ! $ heard ! (zs .1 .0 ≡ links-left (left r)) (λ e₂. heard ! (zs .1 .1 .0 ≡ records-left (left r)) (λ e₃. fsplit ! $ move ! (1 ∷ []) $
         fsplit ! $ fsplit ! $ move ! (2 ∷ []) $ fsplit ! $ fsplit ! $ move ! (4 ∷ []) $ feqL ! (λ len₁. move ! (1 ∷ []) $ feqL ! (λ len₂. move ! (4 ∷ []) $ split ! $ move ! (1 ∷ []) $
         peeks ! R.the-row (Is R.the-row) (shows 𝓤 H A R.the-row) t (w ∷ []) (λ is′. land ! (from ! (stop !)) (init ! 26 refl (EL.lawful R.the-type R′.the-laws 𝓤 H A W tt .typed t _ is′ .0)) $ move ! (1 ∷ []) $ split ! $ move ! (1 ∷ []) $
         split ! $ move ! (1 ∷ []) $ split ! $ returns ! (look ! 29 refl) $ forget ! 29 refl $ forget ! 27 refl $ forget ! 25 refl $ forget ! 23 refl $ forget ! 21 refl $ forget ! 19 refl $ forget ! 17 refl $ forget ! 15 refl $
         forget ! 13 refl $ move ! (29 ∷ 30 ∷ []) $ free1 ! $ move ! (27 ∷ 28 ∷ []) $ free1 ! $ move ! (25 ∷ 26 ∷ []) $ free1 ! $ move ! (23 ∷ 24 ∷ []) $ free1 ! $ move ! (21 ∷ 22 ∷ []) $ free1 ! $ move ! (19 ∷ 20 ∷ []) $ free1 ! $
         move ! (17 ∷ 18 ∷ []) $ free1 ! $ move ! (15 ∷ 16 ∷ []) $ free1 ! $ move ! (13 ∷ 14 ∷ []) $ free1 ! $ free0 ! $ keep ! (3 ∷ 2 ∷ 0 ∷ 10 ∷ 7 ∷ 5 ∷ []) $
-        by ! (exits t w (zs .1 .0) (zs .1 .1 .0) is′ len₁ len₂ (e₁ ∙ ap answered (same r e)) (e₂ ∙ ap links-left (same r e)) (e₃ ∙ ap records-left (same r e)))))))))))))))))))))))))
+        by ! (exits t w (zs .1 .0) (zs .1 .1 .0) is′ len₁ len₂ (e₁ ∙ ap expected (same r e)) (e₂ ∙ ap links-left (same r e)) (e₃ ∙ ap records-left (same r e)))))))))))))))))))))))))
 
 module _ {M : Type 1} (𝓤 : URA M) (H : Heap 𝓤) (A : Atoms 𝓤) (W : Given 𝓤 H A) (mem : Memory → SProp 𝓤) (run : Routine → Fun 𝓤) (𝓣 : Tables 𝓤 H)
     (known-new : Triple 𝓤 (𝓣 .C #new) (New 𝓤 H A mem run)) (known-read : Triple 𝓤 (𝓣 .C #read) (Read 𝓤 H A mem run)) where

@@ -136,8 +136,8 @@ module _ {M : Type 1} (𝓤 : URA M) (H : Heap 𝓤) (A : Atoms 𝓤) (W : Given
   abbrev taken : List ℕ → List ℕ
   taken ws = take (4 * min (length es) 128) ws
 
-  abbrev answered : List ℕ → Ran
-  answered ws = ranAnswer (runNumber (inWords h (k .now) ws) (length lo) (length up)) (totalsOf (planOfLists h (k .now) ws))
+  abbrev expected : List ℕ → Ran
+  expected ws = ranAnswer (runNumber (inWords h (k .now) ws) (length lo) (length up)) (totalsOf (planOfLists h (k .now) ws))
 
   abbrev lower-left : List ℕ → Ran → List ℕ
   lower-left ws r = filled (ranNumber r) (lowerList intact (planOfLists h (k .now) ws)) lo
@@ -237,10 +237,10 @@ module _ {M : Type 1} (𝓤 : URA M) (H : Heap 𝓤) (A : Atoms 𝓤) (W : Given
         use1 W (later (some (λ (r : Ran). ((‵ (flft κ₀ q₀) ⊛ (‵ (flft (ν′ ∷ []) fullShare) ⊛ (‵ (flft κ₂ q₂) ⊛ (‵ (flft κ₃ q₃) ⊛ ‵ ftrue)))) ⊛ ‵ (R.the-row .own r (u ∷ [])))
         ⊛ raw (ensured 𝓤 H A run-words.ended (run-words.clauses 𝓤 H A mem″ run) (κ₀, (ν′ ∷ [], (κ₂, (κ₃, tt)))) ((to-run l₆ ν′ δ′ (zs .1 .0)) .0 .3) tt r)))) (id⊢ 𝓤 _) $ await ! tt $ pick ! (λ r.
         split ! $ move ! (1 ∷ []) $ use1 W (some (λ (vs : Unit {0} × (Unit {0} × (Unit {0} × (Unit {0} × (List ℕ × (List ℕ × Unit {0})))))).
-        ‵ (lasts run-words.ended (κ₀, (ν′ ∷ [], (κ₂, (κ₃, tt)))) ((to-run l₆ ν′ δ′ (zs .1 .0)) .0 .3) vs) ⊛ (raw (fact 𝓤 (r ≡ answered (taken (zs .1 .0))))
+        ‵ (lasts run-words.ended (κ₀, (ν′ ∷ [], (κ₂, (κ₃, tt)))) ((to-run l₆ ν′ δ′ (zs .1 .0)) .0 .3) vs) ⊛ (raw (fact 𝓤 (r ≡ expected (taken (zs .1 .0))))
         ⊛ (raw (fact 𝓤 ((vs .1 .1 .1 .1 .0) ≡ lower-left (taken (zs .1 .0)) r)) ⊛ (raw (fact 𝓤 ((vs .1 .1 .1 .1 .1 .0) ≡ upper-left (taken (zs .1 .0)) r))
         ⊛ raw (fact 𝓤 (enclosed (taken (zs .1 .0)) r (vs .1 .1 .1 .1 .0) (vs .1 .1 .1 .1 .1 .0)))))))) (id⊢ 𝓤 _) $ pick ! (λ vs. split ! $ move ! (1 ∷ []) $
-        split ! $ heard ! (r ≡ answered (taken (zs .1 .0))) (λ e₂. split ! $ heard ! ((vs .1 .1 .1 .1 .0) ≡ lower-left (taken (zs .1 .0)) r) (λ e₃. split ! $
+        split ! $ heard ! (r ≡ expected (taken (zs .1 .0))) (λ e₂. split ! $ heard ! ((vs .1 .1 .1 .1 .0) ≡ lower-left (taken (zs .1 .0)) r) (λ e₃. split ! $
         heard ! ((vs .1 .1 .1 .1 .1 .0) ≡ upper-left (taken (zs .1 .0)) r) (λ e₄. heard ! (enclosed (taken (zs .1 .0)) r (vs .1 .1 .1 .1 .0) (vs .1 .1 .1 .1 .1 .0)) (λ e₅.
         fsplit ! $ move ! (1 ∷ []) $ fsplit ! $ move ! (1 ∷ []) $ fsplit ! $ move ! (1 ∷ []) $ fsplit ! $ move ! (1 ∷ []) $ fsplit ! $ fsplit ! $ move ! (2 ∷ []) $ fsplit ! $ fsplit ! $ move ! (4 ∷ []) $
         feqL ! (λ len₁. move ! (1 ∷ []) $ feqL ! (λ len₂. move ! (7 ∷ []) $ split ! $ move ! (1 ∷ []) $ peeks ! R.the-row (Is R.the-row) (shows 𝓤 H A R.the-row) r (u ∷ []) (λ is.

@@ -120,8 +120,8 @@ module _ {M : Type 1} (𝓤 : URA M) (H : Heap 𝓤) (A : Atoms 𝓤) (W : Given
   OwnS = ShrSlice (named 0) κ₀ u8 .own s (at .0)
 
   -- what the contract of `read_records` says, and that of `hand_over` at an answer and words
-  abbrev answered : SheetReading
-  answered = readSheetAnswer (readSheetRefusal 128 (s .now)) (countsOf (s .now))
+  abbrev expected : SheetReading
+  expected = readSheetAnswer (readSheetRefusal 128 (s .now)) (countsOf (s .now))
 
   abbrev records-left : List Event
   records-left = filledRecords (readSheetRefusal 128 (s .now)) (sheetRecords (s .now)) no-events
@@ -132,7 +132,7 @@ module _ {M : Type 1} (𝓤 : URA M) (H : Heap 𝓤) (A : Atoms 𝓤) (W : Given
   abbrev laid : SheetReading → List ℕ → List ℕ
   laid r ws = filled (handedNumber r (length us / 4)) (take (4 * (countsIn r) .lines) ws) us
 
-  bounded : {r : SheetReading} → r ≡ answered → (countsIn r) .lines ≤ 128
+  bounded : {r : SheetReading} → r ≡ expected → (countsIn r) .lines ≤ 128
   bounded e = count-bounds 128 (s .now) _ (ap (λ (t : SheetReading). (countsIn t) .lines) e) .0
 
   -- the call of `read_records`
@@ -203,8 +203,8 @@ module _ {M : Type 1} (𝓤 : URA M) (H : Heap 𝓤) (A : Atoms 𝓤) (W : Given
         calls-at ! fm (Reads 𝓤 H A mem″ run) known-read (to-read l₃ ν δ) (and-then ! (load ! (from ! (stop !)) (look ! 34 refl)) (and-then ! (load ! (from ! (stop !)) (look ! 22 refl)) (no-more !))) (λ u.
         use1 W (later (some (λ (r : SheetReading). ((‵ (flft κ₀ q₀) ⊛ (‵ (flft (ν ∷ []) fullShare) ⊛ ‵ ftrue)) ⊛ ‵ (R.the-row .own r (u ∷ []))) ⊛ raw (ensured 𝓤 H A reads.ended (reads.clauses 𝓤 H A mem″ run) (κ₀, (ν ∷ [], tt)) (to-read l₃ ν δ .0 .3) tt r)))) (id⊢ 𝓤 _) $
         await ! tt $ pick ! (λ r. split ! $ move ! (1 ∷ []) $
-        use1 W (some (λ (zs : Unit {0} × (List Event × Unit {0})). ‵ (lasts reads.ended (κ₀, (ν ∷ [], tt)) (to-read l₃ ν δ .0 .3) zs) ⊛ (raw (fact 𝓤 (r ≡ answered)) ⊛ raw (fact 𝓤 (zs .1 .0 ≡ records-left))))) (id⊢ 𝓤 _) $
-        pick ! (λ zs. split ! $ move ! (1 ∷ []) $ split ! $ heard ! (r ≡ answered) (λ e₁. heard ! (zs .1 .0 ≡ records-left) (λ e₂. fsplit ! $ move ! (1 ∷ []) $ fsplit ! $ fsplit ! $ move ! (4 ∷ []) $ split ! $ move ! (1 ∷ []) $
+        use1 W (some (λ (zs : Unit {0} × (List Event × Unit {0})). ‵ (lasts reads.ended (κ₀, (ν ∷ [], tt)) (to-read l₃ ν δ .0 .3) zs) ⊛ (raw (fact 𝓤 (r ≡ expected)) ⊛ raw (fact 𝓤 (zs .1 .0 ≡ records-left))))) (id⊢ 𝓤 _) $
+        pick ! (λ zs. split ! $ move ! (1 ∷ []) $ split ! $ heard ! (r ≡ expected) (λ e₁. heard ! (zs .1 .0 ≡ records-left) (λ e₂. fsplit ! $ move ! (1 ∷ []) $ fsplit ! $ fsplit ! $ move ! (4 ∷ []) $ split ! $ move ! (1 ∷ []) $
         peeks ! R.the-row (Is R.the-row) (shows 𝓤 H A R.the-row) r (u ∷ []) (λ is. land ! (from ! (stop !)) (init ! 33 refl (typed r u is)) $ move ! (1 ∷ []) $ split ! $ move ! (1 ∷ []) $ split ! $ lft-end ! tt $
         move ! (0 ∷ 9 ∷ 4 ∷ []) $ use3 W (later (‵ (mem Events′ .lies (zs .1 .0) l₃ 0))) (back-mut 𝓤 H A W E 128 tt (named 1) (ν ∷ []) l₃ δ (zs .1 .0)) $ await ! tt $
         -- they are lent by `&`, and the words by `&mut`, to `flatten`, for lifetimes μ and μ′ of the call

@@ -116,8 +116,8 @@ module _ {M : Type 1} (𝓤 : URA M) (H : Heap 𝓤) (A : Atoms 𝓤) (W : Given
   abbrev number : ℕ
   number = readSheetRefusal (length es) (s .now)
 
-  abbrev answered : SheetReading
-  answered = readSheetAnswer number (countsOf (s .now))
+  abbrev expected : SheetReading
+  expected = readSheetAnswer number (countsOf (s .now))
 
   abbrev words-left : List ℕ
   words-left = filled number (sheetWords (s .now)) zeros
@@ -125,13 +125,13 @@ module _ {M : Type 1} (𝓤 : URA M) (H : Heap 𝓤) (A : Atoms 𝓤) (W : Given
   abbrev records-left : List Event
   records-left = filledRecords number (sheetRecords (s .now)) es
 
-  counted : {r : SheetReading} {n : ℕ} → r ≡ answered → n ≡ (countsIn r) .lines → n ≡ (countsIn answered) .lines
+  counted : {r : SheetReading} {n : ℕ} → r ≡ expected → n ≡ (countsIn r) .lines → n ≡ (countsIn expected) .lines
   counted e₁ e₃ = e₃ ∙ ap (λ (t : SheetReading). (countsIn t) .lines) e₁
 
-  bounded : (n : ℕ) → n ≡ (countsIn answered) .lines → (n ≤ 128) × (n ≤ length es)
+  bounded : (n : ℕ) → n ≡ (countsIn expected) .lines → (n ≤ 128) × (n ≤ length es)
   bounded n e = count-bounds (length es) (s .now) n e
 
-  listed : (n : ℕ) (ws : List ℕ) (vs : List Event) → n ≡ (countsIn answered) .lines → ws ≡ words-left → vs ≡ sets es 0 (recordsOf n ws) → vs ≡ records-left
+  listed : (n : ℕ) (ws : List ℕ) (vs : List Event) → n ≡ (countsIn expected) .lines → ws ≡ words-left → vs ≡ sets es 0 (recordsOf n ws) → vs ≡ records-left
   listed n ws vs e w l = l ∙ ap (λ (us : List ℕ). sets es 0 (recordsOf n us)) w ∙ read-list (length es) (s .now) n e zeros es refl
 
   -- the call of `read_core`
@@ -169,7 +169,7 @@ module _ {M : Type 1} (𝓤 : URA M) (H : Heap 𝓤) (A : Atoms 𝓤) (W : Given
   typed : (r : SheetReading) (u : Val) → Is R.the-row r (u ∷ []) → Holds (hasTy R′.mir u) × WT u
   typed r u is = EL.lawful R.the-type R′.the-laws 𝓤 H A W tt .typed r _ is .0
 
-  exits : (r : SheetReading) (u : Val) (records : List Event) → Is R.the-row r (u ∷ []) → length records ≡ length es → r ≡ answered → records ≡ records-left
+  exits : (r : SheetReading) (u : Val) (records : List Event) → Is R.the-row r (u ∷ []) → length records ≡ length es → r ≡ expected → records ≡ records-left
       → ent 𝓤 (⋆ 𝓤 H A (‵ (flft κ₀ q₀) ∷ ‵ (flft κ₁ q₁) ∷ ‵ OwnS ∷ ‵ (finally E γ₁ records) ∷ [])) (Post u)
   exits r u records is len e₁ e₂ =
       qed W (‵ (flft κ₀ q₀) ∷ ‵ (flft κ₁ q₁) ∷ ‵ OwnS ∷ ‵ (finally E γ₁ records) ∷ []) ∵
@@ -203,8 +203,8 @@ module _ {M : Type 1} (𝓤 : URA M) (H : Heap 𝓤) (A : Atoms 𝓤) (W : Given
         await ! tt $ pick ! (λ r. split ! $
         -- what `read_core` ensures, at some last list
         move ! (1 ∷ []) $
-        use1 W (some (λ (zs : Unit {0} × (Unit {0} × (List ℕ × Unit {0}))). ‵ (lasts read-core.ended (κ₀, (ν ∷ [], tt)) (to-read l₃ ν δ .0 .3) zs) ⊛ (raw (fact 𝓤 (r ≡ answered)) ⊛ raw (fact 𝓤 (zs .1 .1 .0 ≡ words-left))))) (id⊢ 𝓤 _) $
-        pick ! (λ zs. split ! $ move ! (1 ∷ []) $ split ! $ heard ! (r ≡ answered) (λ e₁. heard ! (zs .1 .1 .0 ≡ words-left) (λ e₂. fsplit ! $ move ! (1 ∷ []) $ fsplit ! $ move ! (1 ∷ []) $ fsplit ! $ move ! (4 ∷ []) $ split ! $
+        use1 W (some (λ (zs : Unit {0} × (Unit {0} × (List ℕ × Unit {0}))). ‵ (lasts read-core.ended (κ₀, (ν ∷ [], tt)) (to-read l₃ ν δ .0 .3) zs) ⊛ (raw (fact 𝓤 (r ≡ expected)) ⊛ raw (fact 𝓤 (zs .1 .1 .0 ≡ words-left))))) (id⊢ 𝓤 _) $
+        pick ! (λ zs. split ! $ move ! (1 ∷ []) $ split ! $ heard ! (r ≡ expected) (λ e₁. heard ! (zs .1 .1 .0 ≡ words-left) (λ e₂. fsplit ! $ move ! (1 ∷ []) $ fsplit ! $ move ! (1 ∷ []) $ fsplit ! $ move ! (4 ∷ []) $ split ! $
         move ! (1 ∷ []) $ peeks ! R.the-row (Is R.the-row) (shows 𝓤 H A R.the-row) r (u ∷ []) (λ is. land ! (from ! (stop !)) (init ! 26 refl (typed r u is)) $ move ! (1 ∷ []) $ split ! $ move ! (1 ∷ []) $ split ! $ lft-end ! tt $
         move ! (0 ∷ 9 ∷ 4 ∷ []) $ use3 W (later (‵ (mem Words .lies (zs .1 .1 .0) l₃ 0))) (ref-back 𝓤 H A W Words (ν ∷ []) δ (zs .1 .1 .0) l₃ 0) $ await ! tt $
         -- how many events there are

@@ -149,8 +149,8 @@ module _ {M : Type 1} (𝓤 : URA M) (H : Heap 𝓤) (A : Atoms 𝓤) (W : Given
   abbrev number : ℕ
   number = readNumber (length ks) (length es) left
 
-  abbrev answered : Reading
-  answered = readAnswer number (headerOf left)
+  abbrev expected : Reading
+  expected = readAnswer number (headerOf left)
 
   abbrev links-left : List ℕ
   links-left = filled number (linkBytes ((planOf left) .links)) ks
@@ -161,13 +161,13 @@ module _ {M : Type 1} (𝓤 : URA M) (H : Heap 𝓤) (A : Atoms 𝓤) (W : Given
   abbrev records-left : List Event
   records-left = filledRecords number (eventRecords ((planOf left) .events)) es
 
-  counted : {r : Reading} {n : ℕ} → r ≡ answered → n ≡ (headerIn r) .events → n ≡ (headerIn answered) .events
+  counted : {r : Reading} {n : ℕ} → r ≡ expected → n ≡ (headerIn r) .events → n ≡ (headerIn expected) .events
   counted e₁ e₄ = e₄ ∙ ap (λ (t : Reading). (headerIn t) .events) e₁
 
-  bounded : (n : ℕ) → n ≡ (headerIn answered) .events → (n ≤ 128) × (n ≤ length es)
+  bounded : (n : ℕ) → n ≡ (headerIn expected) .events → (n ≤ 128) × (n ≤ length es)
   bounded n e = count-bounds (length ks) (length es) left n e
 
-  listed : (n : ℕ) (ws : List ℕ) (vs : List Event) → n ≡ (headerIn answered) .events → ws ≡ words-left → vs ≡ sets es 0 (recordsOf n ws) → vs ≡ records-left
+  listed : (n : ℕ) (ws : List ℕ) (vs : List Event) → n ≡ (headerIn expected) .events → ws ≡ words-left → vs ≡ sets es 0 (recordsOf n ws) → vs ≡ records-left
   listed n ws vs e w l = l ∙ ap (λ (us : List ℕ). sets es 0 (recordsOf n us)) w ∙ read-list (length ks) (length es) left n e zeros es refl
 
   -- the call of `read_words_at`
@@ -213,7 +213,7 @@ module _ {M : Type 1} (𝓤 : URA M) (H : Heap 𝓤) (A : Atoms 𝓤) (W : Given
   typed : (r : Reading) (u : Val) → Is R.the-row r (u ∷ []) → Holds (hasTy R′.mir u) × WT u
   typed r u is = EL.lawful R.the-type R′.the-laws 𝓤 H A W tt .typed r _ is .0
 
-  exits : (r : Reading) (u : Val) (links : List ℕ) (records : List Event) → Is R.the-row r (u ∷ []) → length links ≡ length ks → length records ≡ length es → r ≡ answered → links ≡ links-left → records ≡ records-left
+  exits : (r : Reading) (u : Val) (links : List ℕ) (records : List Event) → Is R.the-row r (u ∷ []) → length links ≡ length ks → length records ≡ length es → r ≡ expected → links ≡ links-left → records ≡ records-left
       → ent 𝓤 (⋆ 𝓤 H A (‵ (flft κ₀ q₀) ∷ ‵ (flft κ₁ q₁) ∷ ‵ (flft κ₂ q₂) ∷ ‵ Own ∷ ‵ (finally u8 γ₁ links) ∷ ‵ (finally E γ₂ records) ∷ [])) (Post u)
   exits r u links records is l₁ l₂ e₁ e₂ e₃ =
       qed W (‵ (flft κ₀ q₀) ∷ ‵ (flft κ₁ q₁) ∷ ‵ (flft κ₂ q₂) ∷ ‵ Own ∷ ‵ (finally u8 γ₁ links) ∷ ‵ (finally E γ₂ records) ∷ []) ∵
@@ -257,8 +257,8 @@ module _ {M : Type 1} (𝓤 : URA M) (H : Heap 𝓤) (A : Atoms 𝓤) (W : Given
         -- what `read_words_at` ensures, at some last lists
         split ! $ move ! (1 ∷ []) $
         use1 W (some (λ (zs : Unit {0} × (Unit {0} × (List ℕ × (Unit {0} × (List ℕ × Unit {0}))))). ‵ (lasts read-words.ended (κ₀, (κ₁, (ν ∷ [], tt))) (to-read l₄ ν δ .0 .3) zs)
-        ⊛ (raw (fact 𝓤 (r ≡ answered)) ⊛ (raw (fact 𝓤 (zs .1 .1 .0 ≡ links-left)) ⊛ raw (fact 𝓤 (zs .1 .1 .1 .1 .0 ≡ words-left)))))) (id⊢ 𝓤 _) $
-        pick ! (λ zs. split ! $ move ! (1 ∷ []) $ split ! $ heard ! (r ≡ answered) (λ e₁. split ! $ heard ! (zs .1 .1 .0 ≡ links-left) (λ e₂. heard ! (zs .1 .1 .1 .1 .0 ≡ words-left) (λ e₃. fsplit ! $ move ! (1 ∷ []) $ fsplit ! $
+        ⊛ (raw (fact 𝓤 (r ≡ expected)) ⊛ (raw (fact 𝓤 (zs .1 .1 .0 ≡ links-left)) ⊛ raw (fact 𝓤 (zs .1 .1 .1 .1 .0 ≡ words-left)))))) (id⊢ 𝓤 _) $
+        pick ! (λ zs. split ! $ move ! (1 ∷ []) $ split ! $ heard ! (r ≡ expected) (λ e₁. split ! $ heard ! (zs .1 .1 .0 ≡ links-left) (λ e₂. heard ! (zs .1 .1 .1 .1 .0 ≡ words-left) (λ e₃. fsplit ! $ move ! (1 ∷ []) $ fsplit ! $
         move ! (1 ∷ []) $ fsplit ! $ fsplit ! $ move ! (2 ∷ []) $ fsplit ! $ move ! (1 ∷ []) $ fsplit ! $ move ! (4 ∷ []) $ feqL ! (λ len₁. move ! (6 ∷ []) $ split ! $ move ! (1 ∷ []) $
         peeks ! R.the-row (Is R.the-row) (shows 𝓤 H A R.the-row) r (u ∷ []) (λ is. land ! (from ! (stop !)) (init ! 37 refl (typed r u is)) $ move ! (1 ∷ []) $ split ! $ move ! (1 ∷ []) $ split ! $ move ! (1 ∷ []) $ split ! $ lft-end ! tt $
         move ! (0 ∷ 11 ∷ 5 ∷ []) $ use3 W (later (‵ (mem Words .lies (zs .1 .1 .1 .1 .0) l₄ 0))) (ref-back 𝓤 H A W Words (ν ∷ []) δ (zs .1 .1 .1 .1 .0) l₄ 0) $ await ! tt $

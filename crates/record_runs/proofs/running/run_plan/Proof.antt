@@ -143,8 +143,8 @@ module _ {M : Type 1} (𝓤 : URA M) (H : Heap 𝓤) (A : Atoms 𝓤) (W : Given
   OwnS = ShrSlice (named 0) κ₀ u8 .own s (at .0)
 
   -- what the contract of `read_records` says, and that of `run_records` at a header and lists
-  abbrev answered : Reading
-  answered = readAnswer (readNumber 256 128 (s .now)) (headerOf (s .now))
+  abbrev expected : Reading
+  expected = readAnswer (readNumber 256 128 (s .now)) (headerOf (s .now))
 
   abbrev links-left : List ℕ
   links-left = filled (readNumber 256 128 (s .now)) (linkBytes ((planOf (s .now)) .links)) no-links
@@ -276,8 +276,8 @@ module _ {M : Type 1} (𝓤 : URA M) (H : Heap 𝓤) (A : Atoms 𝓤) (W : Given
         use1 W (later (some (λ (r : Reading). ((‵ (flft κ₀ q₀) ⊛ (‵ (flft (ν ∷ []) fullShare) ⊛ (‵ (flft (ν′ ∷ []) fullShare) ⊛ ‵ ftrue))) ⊛ ‵ (R.the-row .own r (u ∷ [])))
         ⊛ raw (ensured 𝓤 H A reads.ended (reads.clauses 𝓤 H A mem″ run) (κ₀, (ν ∷ [], (ν′ ∷ [], tt))) ((to-read l₄ l₅ ν ν′ δ δ′) .0 .3) tt r)))) (id⊢ 𝓤 _) $ await ! tt $ pick ! (λ r.
         split ! $ move ! (1 ∷ []) $ use1 W (some (λ (zs : Unit {0} × (List ℕ × (List Event × Unit {0}))). ‵ (lasts reads.ended (κ₀, (ν ∷ [], (ν′ ∷ [], tt))) ((to-read l₄ l₅ ν ν′ δ δ′) .0 .3) zs)
-        ⊛ (raw (fact 𝓤 (r ≡ answered)) ⊛ (raw (fact 𝓤 (zs .1 .0 ≡ links-left)) ⊛ raw (fact 𝓤 (zs .1 .1 .0 ≡ records-left)))))) (id⊢ 𝓤 _) $ pick ! (λ zs. split ! $ move ! (1 ∷ []) $
-        split ! $ heard ! (r ≡ answered) (λ e₁. split ! $ heard ! (zs .1 .0 ≡ links-left) (λ e₂. heard ! (zs .1 .1 .0 ≡ records-left) (λ e₃. fsplit ! $ move ! (1 ∷ []) $ fsplit ! $ fsplit ! $
+        ⊛ (raw (fact 𝓤 (r ≡ expected)) ⊛ (raw (fact 𝓤 (zs .1 .0 ≡ links-left)) ⊛ raw (fact 𝓤 (zs .1 .1 .0 ≡ records-left)))))) (id⊢ 𝓤 _) $ pick ! (λ zs. split ! $ move ! (1 ∷ []) $
+        split ! $ heard ! (r ≡ expected) (λ e₁. split ! $ heard ! (zs .1 .0 ≡ links-left) (λ e₂. heard ! (zs .1 .1 .0 ≡ records-left) (λ e₃. fsplit ! $ move ! (1 ∷ []) $ fsplit ! $ fsplit ! $
         move ! (2 ∷ []) $ fsplit ! $ fsplit ! $ move ! (4 ∷ []) $ feqL ! (λ len₁. move ! (1 ∷ []) $ feqL ! (λ len₂. move ! (4 ∷ []) $ split ! $ move ! (1 ∷ []) $
         peeks ! R.the-row (Is R.the-row) (shows 𝓤 H A R.the-row) r (u ∷ []) (λ is.
         land ! (from ! (stop !)) (init ! 48 refl (EL.lawful R.the-type R′.the-laws 𝓤 H A W tt .typed r _ is .0)) $ move ! (1 ∷ []) $ split ! $ move ! (1 ∷ []) $ split ! $ move ! (1 ∷ []) $ split ! $ move ! (2 ∷ []) $

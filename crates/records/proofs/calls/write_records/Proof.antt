@@ -130,8 +130,8 @@ module _ {M : Type 1} (𝓤 : URA M) (H : Heap 𝓤) (A : Atoms 𝓤) (W : Given
   abbrev taken : List ℕ → List ℕ
   taken ws = take (4 * min (length es) 128) ws
 
-  abbrev answered : Lent → Writing
-  answered l = writeAnswer (writeNumber l (length us)) (length (layout (planLent l)))
+  abbrev expected : Lent → Writing
+  expected l = writeAnswer (writeNumber l (length us)) (length (layout (planLent l)))
 
   abbrev out-left : Lent → Writing → List ℕ
   out-left l r = filled (writtenNumber r) (layout (planLent l)) us
@@ -220,9 +220,9 @@ module _ {M : Type 1} (𝓤 : URA M) (H : Heap 𝓤) (A : Atoms 𝓤) (W : Given
         use1 W (later (some (λ (r : Writing). ((‵ (flft κ₀ q₀) ⊛ (‵ (flft (ν′ ∷ []) fullShare) ⊛ (‵ (flft κ₂ q₂) ⊛ ‵ ftrue))) ⊛ ‵ (R.the-row .own r (u ∷ [])))
         ⊛ raw (ensured 𝓤 H A write-words.ended (write-words.clauses 𝓤 H A mem″ run) (κ₀, (ν′ ∷ [], (κ₂, tt))) ((to-write l₅ ν′ δ′ (zs .1 .0)) .0 .3) tt r)))) (id⊢ 𝓤 _) $ await ! tt $ pick ! (λ r.
         split ! $ move ! (1 ∷ []) $ use1 W (some (λ (vs : Unit {0} × (Unit {0} × (Unit {0} × (Unit {0} × (List ℕ × Unit {0}))))).
-        ‵ (lasts write-words.ended (κ₀, (ν′ ∷ [], (κ₂, tt))) ((to-write l₅ ν′ δ′ (zs .1 .0)) .0 .3) vs) ⊛ (raw (fact 𝓤 (r ≡ answered (inWords h (k .now) (taken (zs .1 .0)))))
+        ‵ (lasts write-words.ended (κ₀, (ν′ ∷ [], (κ₂, tt))) ((to-write l₅ ν′ δ′ (zs .1 .0)) .0 .3) vs) ⊛ (raw (fact 𝓤 (r ≡ expected (inWords h (k .now) (taken (zs .1 .0)))))
         ⊛ raw (fact 𝓤 (vs .1 .1 .1 .1 .0 ≡ out-left (inWords h (k .now) (taken (zs .1 .0))) r))))) (id⊢ 𝓤 _) $ pick ! (λ vs. split ! $ move ! (1 ∷ []) $
-        split ! $ heard ! (r ≡ answered (inWords h (k .now) (taken (zs .1 .0)))) (λ e₂. heard ! (vs .1 .1 .1 .1 .0 ≡ out-left (inWords h (k .now) (taken (zs .1 .0))) r) (λ e₃. fsplit ! $ move ! (1 ∷ []) $ fsplit ! $ move ! (1 ∷ []) $ fsplit ! $ move ! (1 ∷ []) $ fsplit ! $
+        split ! $ heard ! (r ≡ expected (inWords h (k .now) (taken (zs .1 .0)))) (λ e₂. heard ! (vs .1 .1 .1 .1 .0 ≡ out-left (inWords h (k .now) (taken (zs .1 .0))) r) (λ e₃. fsplit ! $ move ! (1 ∷ []) $ fsplit ! $ move ! (1 ∷ []) $ fsplit ! $ move ! (1 ∷ []) $ fsplit ! $
         move ! (1 ∷ []) $ fsplit ! $ fsplit ! $ move ! (1 ∷ []) $ feqL ! (λ len. move ! (6 ∷ []) $ split ! $ move ! (1 ∷ []) $ peeks ! R.the-row (Is R.the-row) (shows 𝓤 H A R.the-row) r (u ∷ []) (λ is.
         land ! (from ! (stop !)) (init ! 40 refl (EL.lawful R.the-type R′.the-laws 𝓤 H A W tt .typed r _ is .0)) $ move ! (1 ∷ []) $ split ! $ move ! (1 ∷ []) $ split ! $ move ! (1 ∷ []) $ split ! $ move ! (2 ∷ []) $
         lft-end ! tt $ move ! (0 ∷ 12 ∷ []) $ lent-back ! tt $ use1 W (‵ (froom words-ty l₅ 0)) (words-gone 𝓤 H A W (zs .1 .0) l₅) $ returns ! (look ! 42 refl) $ forget ! 42 refl $ forget ! 40 refl $ forget ! 38 refl $
