@@ -28,7 +28,7 @@ use Rattle.bounds.proofs.Answers.{enclosed}
 use Rattle.walk_state.specs.Sound.{sound}
 use Rattle.panel.specs.Walks.{capped, walkPlan, endsLeft, WalkAt}
 use Rattle.panel.specs.Calls.{fullQuota, quotaTest, endsWanted, WentOn, lookOf, lookPairOf}
-use Rattle.panel.specs.Sessions.{On, own, other, Call, madeOn, walkAfter, ownEnds, Answered, lastWalk, lastQuota, endsOfWalk, endsOfAll}
+use Rattle.panel.specs.Sessions.{On, own, other, Call, madeOn, walkAfter, ownEnds, CallsAnswered, lastWalk, lastQuota, endsOfWalk, endsOfAll}
 use Rattle.walk_state.specs.declared.Walk.{Walk}
 use Rattle.panel.specs.declared.Quota.{Quota}
 use Rattle.panel.specs.declared.GoneOn.{GoneOn}
@@ -146,7 +146,7 @@ module _ (p : Plan) where
   one-call (other v) n w quota k answer at went = let same : n ≡ n + 0 = omega arith in subst (λ (x : ℕ). WalkAt intact p x w) same at
 
   -- the walk after a list of calls is the one at the sum of the ends that they reached of it, and the quota is less by all ends that they reached
-  pub after-calls : (n : ℕ) (w : Walk) (quota : Quota) (calls : List Call) → WalkAt intact p n w → Answered w quota calls
+  pub after-calls : (n : ℕ) (w : Walk) (quota : Quota) (calls : List Call) → WalkAt intact p n w → CallsAnswered w quota calls
       → WalkAt intact p (n + endsOfWalk calls) (lastWalk w calls) × (lastQuota quota calls .left + endsOfAll calls ≡ quota .left)
   after-calls n w quota [] at answered =
       let same : n ≡ n + 0 = omega arith in (subst (λ (x : ℕ). WalkAt intact p x w) same at, omega arith)
@@ -160,7 +160,7 @@ module _ (p : Plan) where
 
   -- "After every list of go-on calls on a walk, the bounds, count, complete flag and E equal those of a run whose cap is the number of ends
   -- reached so far", and the quota is 10,000,000 less all ends that all of them reached since power-up
-  pub since-power-up : (w : Walk) (calls : List Call) → WalkAt intact p 0 w → Answered w fullQuota calls
+  pub since-power-up : (w : Walk) (calls : List Call) → WalkAt intact p 0 w → CallsAnswered w fullQuota calls
       → (lookOf (lastWalk w calls) ≡ totalsOf (capped p (endsOfWalk calls)))
       × ((v x : ℕ) → v < x → x < p .nodes → lookPairOf (lastWalk w calls) v x ≡ boundsOf intact (capped p (endsOfWalk calls)) v x)
       × (lastQuota fullQuota calls .left + endsOfAll calls ≡ 10000000)

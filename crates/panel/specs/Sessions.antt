@@ -35,10 +35,10 @@ ownEnds (other v) answer = 0
 
 -- a list of calls, the first one first, from a walk and a quota "handed on as the last call left them": each answer is one that `go_on`
 -- gives
-abbrev pub Answered : Walk → Quota → List Call → Type 0
-Answered w quota [] = Unit {0}
-Answered w quota (c ∷ calls) =
-    WentOn (madeOn (c .on) w) quota (c .ends) (c .answer) × Answered (walkAfter (c .on) (c .answer) w) (c .answer .quota) calls
+abbrev pub CallsAnswered : Walk → Quota → List Call → Type 0
+CallsAnswered w quota [] = Unit {0}
+CallsAnswered w quota (c ∷ calls) =
+    WentOn (madeOn (c .on) w) quota (c .ends) (c .answer) × CallsAnswered (walkAfter (c .on) (c .answer) w) (c .answer .quota) calls
 
 -- the walk in question and the quota after a list of calls
 abbrev pub lastWalk : Walk → List Call → Walk
