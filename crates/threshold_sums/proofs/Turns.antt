@@ -27,7 +27,7 @@ use Rattle.walk.proofs.Valid.{held-probable}
 use Rattle.pairs.specs.Pairs.{place, pairCount}
 use Rattle.pairs.proofs.PairLaws.{place-lt}
 use Rattle.bounds.specs.Bounds.{cuts}
-use Rattle.threshold_walk.specs.Stack.{toCome, Stack}
+use Rattle.threshold_walk.specs.Stack.{sharedToCome, SharedStack}
 use Rattle.threshold_walk.specs.Paths.{sharedWalk, pathEnds, handed, PathTaken}
 use Rattle.threshold_walk.specs.declared.WorksPath.{WorksPath}
 use Rattle.threshold_walk.proofs.Counting.{all-of}
@@ -57,7 +57,7 @@ one-more n m r e = go (decLt m n)
 
 -- the ends to come of threshold i
 abbrev coming : Plans → ℕ → ℕ → List ℕ → List End
-coming ps i at stack = toCome (ps .header .events) (getD (ps .list) i 0) (ps .words) at stack
+coming ps i at stack = sharedToCome (ps .header .events) (getD (ps .list) i 0) (ps .words) at stack
 
 module _ (ps : Plans) (active : ℕ) (f : FallingFirst active (ps .list)) (held : Held (ps .header) (ps .links) (ps .words))
     (cap-small : ps .header .cap < 4294967296) (at : ℕ) (stack : List ℕ) (n : PlaceNumbers) (lower : List ℕ)
@@ -150,7 +150,7 @@ kept-begin h active n lower sized = record { places = λ i l. (refl, refl, refl)
 -- the first `active` thresholds are under way, the others of the first `count` have ended, and all else is untouched
 pub record Walking (ps : Plans) (count : ℕ) (n₀ : PlaceNumbers) (lower₀ : List ℕ) (active at : ℕ) (stack : List ℕ) (n : PlaceNumbers) (lower : List ℕ) : Type 0 where
   pub within : active ≤ count
-  pub stacked : Stack (ps .header .events) at stack
+  pub stacked : SharedStack (ps .header .events) at stack
   pub sofar : AllCountedSoFar ps active at stack n lower
   pub ended : (i : ℕ) → active ≤ i → i < count → HoldsAnswers (planFor ps i) (numbersAt n i) (pairCount (ps .header .nodes) * i) lower
   pub kept : Kept (ps .header) count n₀ lower₀ n lower
@@ -218,7 +218,7 @@ module _ (ps : Plans) (count : ℕ) (n₀ : PlaceNumbers) (lower₀ : List ℕ) 
   -- the lowest that is under way ends
   module _ (few : ps .header .nodes ≤ 64) (active at : ℕ) (stack : List ℕ) (n : PlaceNumbers) (lower : List ℕ) (some : 1 ≤ active)
       (g : Walking ps count n₀ lower₀ active at stack n lower)
-      (at′ : ℕ) (stack′ : List ℕ) (n′ : PlaceNumbers) (lower′ : List ℕ) (stacked : Stack (ps .header .events) at′ stack′)
+      (at′ : ℕ) (stack′ : List ℕ) (n′ : PlaceNumbers) (lower′ : List ℕ) (stacked : SharedStack (ps .header .events) at′ stack′)
       (sofar : AllCountedSoFar ps active at′ stack′ n′ lower′) (kept : Kept (ps .header) active n lower n′ lower′)
       (over : (getD (n′ .rooms) (active - 1) 0 ≡ 0) ⊎ (at′ ≡ 640)) where
     abbrev last : ℕ

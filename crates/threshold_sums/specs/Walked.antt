@@ -17,7 +17,7 @@ use Rattle.walk.specs.Ends.{End, sumEnds, weighed}
 use Rattle.walk.specs.Walk.{count, complete, massExamined}
 use Rattle.pairs.specs.Pairs.{place, pairCount}
 use Rattle.bounds.specs.Bounds.{cuts, lowerOf}
-use Rattle.threshold_walk.specs.Stack.{toCome}
+use Rattle.threshold_walk.specs.Stack.{sharedToCome}
 use Rattle.threshold_walk.specs.Paths.{SharedWalk, pathEnds, handed}
 use Rattle.threshold_walk.specs.declared.WorksPath.{WorksPath}
 
@@ -150,7 +150,7 @@ pub record PathCounted (k : SharedWalk) (list : List ℕ) (active : ℕ) (path :
 -- the first `active` thresholds are under way: for each, what was counted so far and what is to come give its plan's answers
 pub record AllCountedSoFar (ps : Plans) (active at : ℕ) (stack : List ℕ) (n : PlaceNumbers) (lower : List ℕ) : Type 0 where
   pub each : (i : ℕ) → i < active
-      → CountedSoFar (planFor ps i) (toCome (ps .header .events) (getD (ps .list) i 0) (ps .words) at stack)
+      → CountedSoFar (planFor ps i) (sharedToCome (ps .header .events) (getD (ps .list) i 0) (ps .words) at stack)
       (numbersAt n i) (pairCount (ps .header .nodes) * i) lower
 
 -- what is not of the first `active` thresholds is untouched

@@ -11,7 +11,7 @@ ghost use lib.ListN.{length, getD};
 ghost use Rattle.plan.specs.Held.{Held};
 ghost use Rattle.network.specs.Table.{LinksAt};
 ghost use Rattle.pairs.specs.Pairs.{pairCount};
-ghost use Rattle.threshold_walk.specs.Stack.{Stack};
+ghost use Rattle.threshold_walk.specs.Stack.{SharedStack};
 ghost use Rattle.threshold_sums.specs.Walked.{plansOf, placeNumbers, FallingFirst, Places, AllCountedSoFar, Kept, Fresh, AllHoldAnswers};
 
 // Goes on with the walk for the first `active` thresholds until the lowest of them has reached more ends than the cap, or no branch is
@@ -33,11 +33,11 @@ fn walk_with(
     requires { ⌜ Held h (now links) (now words) ⌝ }
     requires { ⌜ LinksAt (now links) (h .links) (now table) ⌝ }
     requires { ⌜ FallingFirst active (now list) × (1 ≤ active) × (h .cap < 4294967296) ⌝ }
-    requires { ⌜ Stack (h .events) start (now stack) × (pairCount (h .nodes) * active ≤ length (now lower))
+    requires { ⌜ SharedStack (h .events) start (now stack) × (pairCount (h .nodes) * active ≤ length (now lower))
         × Places (placeNumbers (now rooms) (now counts) (now masses)) ⌝ }
     requires { ⌜ AllCountedSoFar (plansOf h (now links) (now words) (now list)) active start (now stack)
         (placeNumbers (now rooms) (now counts) (now masses)) (now lower) ⌝ }
-    ensures { λ r. ⌜ Stack (h .events) r (now (stack .exit)) ⌝ }
+    ensures { λ r. ⌜ SharedStack (h .events) r (now (stack .exit)) ⌝ }
     ensures { λ r. ⌜ AllCountedSoFar (plansOf h (now (links .entry)) (now (words .entry)) (now (list .entry))) active r (now (stack .exit))
         (placeNumbers (now (rooms .exit)) (now (counts .exit)) (now (masses .exit))) (now (lower .exit)) ⌝ }
     ensures { λ r. ⌜ Kept h active (placeNumbers (now (rooms .entry)) (now (counts .entry)) (now (masses .entry))) (now (lower .entry))

@@ -22,8 +22,8 @@ use Rattle.walk.specs.Steps.{Stopped}
 use Rattle.walk.specs.declared.Stop.{Stop}
 use Rattle.walk.proofs.Descents.{probable, branch-parts}
 use Rattle.walk.proofs.Resume.{ends-some}
-use Rattle.threshold_walk.specs.Stack.{entryEnds, toCome, SoundEntry, SoundEntries, Stack}
-use Rattle.threshold_walk.specs.Paths.{SharedWalk, sharedWalk, Pushed, Faint, Halted, pathEnds, leftToTake, PathTaken}
+use Rattle.threshold_walk.specs.Stack.{entryEnds, sharedToCome, SoundShared, AllSoundShared, SharedStack}
+use Rattle.threshold_walk.specs.Paths.{SharedWalk, sharedWalk, SharedPushed, Faint, Halted, pathEnds, leftToTake, PathTaken}
 use Rattle.threshold_walk.specs.declared.Halt.{Halt}
 use Rattle.threshold_walk.specs.declared.SharedEntry.{SharedEntry}
 use Rattle.threshold_walk.specs.declared.WorksPath.{WorksPath}
@@ -36,11 +36,11 @@ inHand e r = record { depth = r .depth; mass = r .mass; low = e .low; high = e .
 
 -- on the way down: a branch in hand, the pending entries on the stack, and for every threshold the same ends to come as at the start
 pub record Going (k : SharedWalk) (at : ℕ) (e : SharedEntry) (stack₀ stack : List ℕ) (r : Halt) : Type 0 where
-  pub hand : SoundEntry (k .count) (inHand e r) (length (drop (r .at) stack))
-  pub held : Stack (k .count) (r .at) stack
+  pub hand : SoundShared (k .count) (inHand e r) (length (drop (r .at) stack))
+  pub held : SharedStack (k .count) (r .at) stack
   pub ahead : (t : ℕ)
-      → branchEnds t (eventsOf (k .count) (k .words)) (branchOf (e .depth) (e .mass) (e .low) (e .high)) ++ toCome (k .count) t (k .words) at stack₀
-      ≡ branchEnds t (eventsOf (k .count) (k .words)) (branchOf (r .depth) (r .mass) (e .low) (e .high)) ++ toCome (k .count) t (k .words) (r .at) stack
+      → branchEnds t (eventsOf (k .count) (k .words)) (branchOf (e .depth) (e .mass) (e .low) (e .high)) ++ sharedToCome (k .count) t (k .words) at stack₀
+      ≡ branchEnds t (eventsOf (k .count) (k .words)) (branchOf (r .depth) (r .mass) (e .low) (e .high)) ++ sharedToCome (k .count) t (k .words) (r .at) stack
   pub lighter : r .mass ≤ e .mass
   pub still : e .mass < k .lowest → r .at ≡ at
 
@@ -91,7 +91,7 @@ module _ (k : SharedWalk) (at : ℕ) (e : SharedEntry) (stack₀ stack : List �
     -- the "fails" side is laid down, and the "works" side is in hand
     module _ (stack′ : List ℕ) (fails works : ℕ) (failed : fails ≡ failing mass (getD words (depth * 4) 0))
         (worked : works ≡ working mass (getD words (depth * 4) 0))
-        (d : Pushed (record { depth = depth; mass = fails; low = low; high = high; parent = mass }) (top - 5) stack stack′) where
+        (d : SharedPushed (record { depth = depth; mass = fails; low = low; high = high; parent = mass }) (top - 5) stack stack′) where
       events : List Event
       events = eventsOf count words
 
@@ -110,7 +110,7 @@ module _ (k : SharedWalk) (at : ℕ) (e : SharedEntry) (stack₀ stack : List �
       less : works ≤ mass
       less = omega (arith, worked, works-le mass (getD words (depth * 4) 0) fits)
 
-      laid : SoundEntry count (record { depth = depth + 1; mass = fails; low = d .setLow; high = d .setHigh; parent = mass }) (length (drop top stack))
+      laid : SoundShared count (record { depth = depth + 1; mass = fails; low = d .setLow; high = d .setHigh; parent = mass }) (length (drop top stack))
       laid =
           record {
             deep = omega arith;
@@ -123,8 +123,8 @@ module _ (k : SharedWalk) (at : ℕ) (e : SharedEntry) (stack₀ stack : List �
 
       -- for a threshold that the branch meets both sides are its ends, for any other it has ended
       both : (t : ℕ) → Dec (mass < t)
-          → branchEnds t events (branchOf depth mass low high) ++ toCome count t words top stack
-          ≡ branchEnds t events (branchOf (depth + 1) works low high) ++ toCome count t words (top - 5) stack′
+          → branchEnds t events (branchOf depth mass low high) ++ sharedToCome count t words top stack
+          ≡ branchEnds t events (branchOf (depth + 1) works low high) ++ sharedToCome count t words (top - 5) stack′
       unfolding events
       both t (yes c) =
           rw (
@@ -169,7 +169,7 @@ module _ (k : SharedWalk) (at : ℕ) (e : SharedEntry) (stack₀ stack : List �
           }
 
 -- the next branch is taken off the stack
-module _ (count : ℕ) (words : List ℕ) (at : ℕ) (stack : List ℕ) (s : Stack count at stack) (h : at < 640) where
+module _ (count : ℕ) (words : List ℕ) (at : ℕ) (stack : List ℕ) (s : SharedStack count at stack) (h : at < 640) where
   abbrev e : SharedEntry
   e =
       record {
@@ -183,17 +183,17 @@ module _ (count : ℕ) (words : List ℕ) (at : ℕ) (stack : List ℕ) (s : Sta
   inside : at + 5 ≤ length stack
   inside = omega (arith, s .fives, s .sized)
 
-  all-sound : SoundEntries count (e .depth ∷ e .mass ∷ e .low ∷ e .high ∷ e .parent ∷ drop (at + 5) stack)
+  all-sound : AllSoundShared count (e .depth ∷ e .mass ∷ e .low ∷ e .high ∷ e .parent ∷ drop (at + 5) stack)
   all-sound = rw (words-at stack at inside) at (s .entries)
 
-  pub under : Stack count (at + 5) stack
+  pub under : SharedStack count (at + 5) stack
   under = record { fives = omega (arith, s .fives); within = omega (arith, s .fives); sized = s .sized; entries = all-sound .1 }
 
-  pub taken : SoundEntry count e (length (drop (at + 5) stack))
+  pub taken : SoundShared count e (length (drop (at + 5) stack))
   taken = all-sound .0
 
-  taken-ends : (t : ℕ) → toCome count t words at stack
-      ≡ entryEnds t (eventsOf count words) (e .parent) (branchOf (e .depth) (e .mass) (e .low) (e .high)) ++ toCome count t words (at + 5) stack
+  taken-ends : (t : ℕ) → sharedToCome count t words at stack
+      ≡ entryEnds t (eventsOf count words) (e .parent) (branchOf (e .depth) (e .mass) (e .low) (e .high)) ++ sharedToCome count t words (at + 5) stack
   taken-ends t = rw (words-at stack at inside)
 
   -- and gone down from, to where its "works" path stops
@@ -217,9 +217,9 @@ module _ (count : ℕ) (words : List ℕ) (at : ℕ) (stack : List ℕ) (s : Sta
 
     -- for each threshold: where the walk does not come to the branch, nothing is to come off
     ends-both : (t : ℕ) → lowest ≤ t → Dec (e .parent < t)
-        → toCome count t words at stack ≡ pathEnds count t words path ++ toCome count t words (halt .at) stack′
+        → sharedToCome count t words at stack ≡ pathEnds count t words path ++ sharedToCome count t words (halt .at) stack′
     ends-both t l (yes c) =
-        let same : toCome count t words (at + 5) stack ≡ toCome count t words (halt .at) stack′ =
+        let same : sharedToCome count t words (at + 5) stack ≡ sharedToCome count t words (halt .at) stack′ =
         cancel
         (rw (
           branch-cut t (eventsOf count words) (branchOf (e .depth) (e .mass) (e .low) (e .high)) (omega (arith, taken .lighter)),
@@ -237,7 +237,7 @@ module _ (count : ℕ) (words : List ℕ) (at : ℕ) (stack : List ℕ) (s : Sta
           entry-some (e .parent) t (eventsOf count words) (branchOf (halt .depth) (halt .mass) (e .low) (e .high)) (omega arith),
         ) (d .ends t l)
 
-    ends-all : (t : ℕ) → lowest ≤ t → toCome count t words at stack ≡ pathEnds count t words path ++ toCome count t words (halt .at) stack′
+    ends-all : (t : ℕ) → lowest ≤ t → sharedToCome count t words at stack ≡ pathEnds count t words path ++ sharedToCome count t words (halt .at) stack′
     ends-all t l = ends-both t l (decLt (e .parent) t)
 
     -- a branch has an end
@@ -256,14 +256,14 @@ module _ (count : ℕ) (words : List ℕ) (at : ℕ) (stack : List ℕ) (s : Sta
     fewer (yes c) =
         let none : pathEnds count lowest words path ≡ [] =
         entry-none (e .parent) lowest (eventsOf count words) (branchOf (halt .depth) (halt .mass) (e .low) (e .high)) c in
-        let same : toCome count lowest words at stack ≡ toCome count lowest words (halt .at) stack′ =
-        ends-all lowest (omega arith) ∙ ap (λ (l : List End). l ++ toCome count lowest words (halt .at) stack′) none in
+        let same : sharedToCome count lowest words at stack ≡ sharedToCome count lowest words (halt .at) stack′ =
+        ends-all lowest (omega arith) ∙ ap (λ (l : List End). l ++ sharedToCome count lowest words (halt .at) stack′) none in
         omega (arith, ap length same, d .still (omega (arith, taken .lighter)), d .held .within)
     fewer (no c) =
         omega (
           arith,
           ap length (ends-all lowest (omega arith)),
-          length-append (pathEnds count lowest words path) (toCome count lowest words (halt .at) stack′),
+          length-append (pathEnds count lowest words path) (sharedToCome count lowest words (halt .at) stack′),
           some (omega arith),
           d .held .within,
         )

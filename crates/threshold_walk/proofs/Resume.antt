@@ -11,7 +11,7 @@ use Rattle.plan.specs.Lists.{eventsOf}
 use Rattle.walk.specs.Ends.{ends}
 use Rattle.walk.specs.Stack.{branchOf}
 use Rattle.walk.proofs.StackLaws.{root-ends}
-use Rattle.threshold_walk.specs.Stack.{toCome, Stack}
+use Rattle.threshold_walk.specs.Stack.{sharedToCome, SharedStack}
 use Rattle.threshold_walk.proofs.Words.{laid-size, laid-words}
 use Rattle.threshold_walk.proofs.Stops.{entry-some}
 
@@ -22,7 +22,7 @@ module _ (at : ℕ) (stack stack′ : List ℕ) (place : at ≡ 635) (laid : sta
       (laid-words stack stack′ 635 0 whole 0 0 whole laid size (omega arith))
 
   -- a walk begun may be gone on with
-  pub begun-stack : (count : ℕ) → Stack count at stack′
+  pub begun-stack : (count : ℕ) → SharedStack count at stack′
   begun-stack count =
       record {
         fives = rw place;
@@ -43,10 +43,10 @@ module _ (at : ℕ) (stack stack′ : List ℕ) (place : at ≡ 635) (laid : sta
       }
 
   -- its ends are those of the whole walk, for every threshold of at most one whole
-  pub begun-ends : (count t : ℕ) (words : List ℕ) → t ≤ whole → toCome count t words at stack′ ≡ ends t whole (eventsOf count words)
+  pub begun-ends : (count t : ℕ) (words : List ℕ) → t ≤ whole → sharedToCome count t words at stack′ ≡ ends t whole (eventsOf count words)
   begun-ends count t words h =
       rw (only, entry-some whole t (eventsOf count words) (branchOf 0 whole 0 0) h, append-nil) (root-ends t whole (eventsOf count words))
 
 -- law: nothing is to come where the stack is empty
-pub none-to-come : (count t : ℕ) (words stack : List ℕ) → length stack ≡ 640 → toCome count t words 640 stack ≡ []
+pub none-to-come : (count t : ℕ) (words stack : List ℕ) → length stack ≡ 640 → sharedToCome count t words 640 stack ≡ []
 none-to-come count t words stack h = rw (drop-of-length-le stack {i = 640} (omega arith))

@@ -13,7 +13,7 @@ use Rattle.walk.specs.Ends.{End, dropped}
 use Rattle.walk.specs.Pending.{branchEnds}
 use Rattle.walk.specs.Stack.{branchOf}
 use Rattle.walk.specs.Steps.{Stopped, endOf}
-use Rattle.threshold_walk.specs.Stack.{entryEnds, toCome, Stack}
+use Rattle.threshold_walk.specs.Stack.{entryEnds, sharedToCome, SharedStack}
 use Rattle.threshold_walk.specs.declared.Halt.{Halt}
 use Rattle.threshold_walk.specs.declared.SharedEntry.{SharedEntry}
 use Rattle.threshold_walk.specs.declared.WorksPath.{WorksPath}
@@ -28,7 +28,7 @@ abbrev pub sharedWalk : ℕ → ℕ → List ℕ → SharedWalk
 sharedWalk count lowest words = record { count = count; lowest = lowest; words = words }
 
 -- a branch laid down with one failing event more, that at its depth
-pub record Pushed (e : SharedEntry) (at : ℕ) (stack stack′ : List ℕ) : Type 0 where
+pub record SharedPushed (e : SharedEntry) (at : ℕ) (stack stack′ : List ℕ) : Type 0 where
   pub setLow : ℕ
   pub setHigh : ℕ
   pub word : setLow < 2 ^ 64
@@ -43,9 +43,9 @@ Faint count threshold words depth mass = threshold ≤ mass → depth < count �
 -- from a branch down to there: for each threshold t that is not below the lowest, the ends to come are the same
 pub record Halted (k : SharedWalk) (at : ℕ) (e : SharedEntry) (stack stack′ : List ℕ) (r : Halt) : Type 0 where
   pub ends : (t : ℕ) → k .lowest ≤ t
-      → branchEnds t (eventsOf (k .count) (k .words)) (branchOf (e .depth) (e .mass) (e .low) (e .high)) ++ toCome (k .count) t (k .words) at stack
-      ≡ branchEnds t (eventsOf (k .count) (k .words)) (branchOf (r .depth) (r .mass) (e .low) (e .high)) ++ toCome (k .count) t (k .words) (r .at) stack′
-  pub held : Stack (k .count) (r .at) stack′
+      → branchEnds t (eventsOf (k .count) (k .words)) (branchOf (e .depth) (e .mass) (e .low) (e .high)) ++ sharedToCome (k .count) t (k .words) at stack
+      ≡ branchEnds t (eventsOf (k .count) (k .words)) (branchOf (r .depth) (r .mass) (e .low) (e .high)) ++ sharedToCome (k .count) t (k .words) (r .at) stack′
+  pub held : SharedStack (k .count) (r .at) stack′
   pub deep : r .depth ≤ k .count
   pub decided : joined (e .low) (e .high) < 2 ^ r .depth
   pub lighter : r .mass ≤ e .mass
@@ -67,14 +67,14 @@ pub record SoundPath (k : SharedWalk) (r : WorksPath) : Type 0 where
 
 -- how many ends of the lowest threshold are to come where the stack begins at `at`, and then how many branches are pending, in one number
 abbrev pub leftToTake : SharedWalk → ℕ → List ℕ → ℕ
-leftToTake k at stack = length (toCome (k .count) (k .lowest) (k .words) at stack) * 1024 + (640 - at)
+leftToTake k at stack = length (sharedToCome (k .count) (k .lowest) (k .words) at stack) * 1024 + (640 - at)
 
 -- a step: for each threshold that is not below the lowest, the ends to come are those of the path, then those then to come; fewer are to
 -- come, or fewer branches are pending
 pub record PathTaken (k : SharedWalk) (at : ℕ) (stack stack′ : List ℕ) (r : WorksPath) : Type 0 where
   pub ends : (t : ℕ) → k .lowest ≤ t
-      → toCome (k .count) t (k .words) at stack ≡ pathEnds (k .count) t (k .words) r ++ toCome (k .count) t (k .words) (r .at) stack′
-  pub held : Stack (k .count) (r .at) stack′
+      → sharedToCome (k .count) t (k .words) at stack ≡ pathEnds (k .count) t (k .words) r ++ sharedToCome (k .count) t (k .words) (r .at) stack′
+  pub held : SharedStack (k .count) (r .at) stack′
   pub sound : SoundPath k r
   pub fewer : leftToTake k (r .at) stack′ < leftToTake k at stack
 

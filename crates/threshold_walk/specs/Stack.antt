@@ -22,27 +22,27 @@ entryEnds t events parent b = elim (ltb parent t) [ true ↦ [] | false ↦ bran
 
 -- the ends that a list of words stands for in the walk with the threshold t, five words to a branch, the next one first: its depth, its
 -- mass, its failing events in two words, and the mass before its last event
-abbrev pub stackEnds : ℕ → List Event → List ℕ → List End
-stackEnds t events [] = []
-stackEnds t events (a ∷ []) = []
-stackEnds t events (a ∷ b ∷ []) = []
-stackEnds t events (a ∷ b ∷ c ∷ []) = []
-stackEnds t events (a ∷ b ∷ c ∷ d ∷ []) = []
-stackEnds t events (depth ∷ mass ∷ low ∷ high ∷ parent ∷ rest) =
-    entryEnds t events parent (branchOf depth mass low high) ++ stackEnds t events rest
+abbrev pub sharedEnds : ℕ → List Event → List ℕ → List End
+sharedEnds t events [] = []
+sharedEnds t events (a ∷ []) = []
+sharedEnds t events (a ∷ b ∷ []) = []
+sharedEnds t events (a ∷ b ∷ c ∷ []) = []
+sharedEnds t events (a ∷ b ∷ c ∷ d ∷ []) = []
+sharedEnds t events (depth ∷ mass ∷ low ∷ high ∷ parent ∷ rest) =
+    entryEnds t events parent (branchOf depth mass low high) ++ sharedEnds t events rest
 
 -- example: a branch of mass 4 after a mass of 5, with no event left: relevant at a threshold of 4, dropped at 5, and not come to at 6
-example-stack : (stackEnds 4 [] (0 ∷ 4 ∷ 0 ∷ 0 ∷ 5 ∷ []) ≡ relevant [] 4 ∷ []) × (stackEnds 5 [] (0 ∷ 4 ∷ 0 ∷ 0 ∷ 5 ∷ []) ≡ dropped ∷ [])
-    × (stackEnds 6 [] (0 ∷ 4 ∷ 0 ∷ 0 ∷ 5 ∷ []) ≡ [])
+example-stack : (sharedEnds 4 [] (0 ∷ 4 ∷ 0 ∷ 0 ∷ 5 ∷ []) ≡ relevant [] 4 ∷ []) × (sharedEnds 5 [] (0 ∷ 4 ∷ 0 ∷ 0 ∷ 5 ∷ []) ≡ dropped ∷ [])
+    × (sharedEnds 6 [] (0 ∷ 4 ∷ 0 ∷ 0 ∷ 5 ∷ []) ≡ [])
 unfolding entryEnds ends
 example-stack = (refl, refl, refl)
 
 -- the ends still to come in the walk with the threshold t: the stack is the words from `at` on; `count` events in `words`
-abbrev pub toCome : ℕ → ℕ → List ℕ → ℕ → List ℕ → List End
-toCome count t words at stack = stackEnds t (eventsOf count words) (drop at stack)
+abbrev pub sharedToCome : ℕ → ℕ → List ℕ → ℕ → List ℕ → List End
+sharedToCome count t words at stack = sharedEnds t (eventsOf count words) (drop at stack)
 
 -- what holds of a pending branch, and of the words under its five: no more entries lie under a branch than its depth says
-pub record SoundEntry (count : ℕ) (e : SharedEntry) (below : ℕ) : Type 0 where
+pub record SoundShared (count : ℕ) (e : SharedEntry) (below : ℕ) : Type 0 where
   pub deep : e .depth ≤ count
   pub lighter : e .mass ≤ e .parent
   pub light : e .parent ≤ whole
@@ -51,18 +51,18 @@ pub record SoundEntry (count : ℕ) (e : SharedEntry) (below : ℕ) : Type 0 whe
   pub room : below ≤ 5 * e .depth
 
 -- what holds of each entry of the stack
-abbrev pub SoundEntries : ℕ → List ℕ → Type 0
-SoundEntries count [] = Unit {0}
-SoundEntries count (a ∷ []) = ⊥
-SoundEntries count (a ∷ b ∷ []) = ⊥
-SoundEntries count (a ∷ b ∷ c ∷ []) = ⊥
-SoundEntries count (a ∷ b ∷ c ∷ d ∷ []) = ⊥
-SoundEntries count (depth ∷ mass ∷ low ∷ high ∷ parent ∷ rest) =
-    SoundEntry count (record { depth = depth; mass = mass; low = low; high = high; parent = parent }) (length rest) × SoundEntries count rest
+abbrev pub AllSoundShared : ℕ → List ℕ → Type 0
+AllSoundShared count [] = Unit {0}
+AllSoundShared count (a ∷ []) = ⊥
+AllSoundShared count (a ∷ b ∷ []) = ⊥
+AllSoundShared count (a ∷ b ∷ c ∷ []) = ⊥
+AllSoundShared count (a ∷ b ∷ c ∷ d ∷ []) = ⊥
+AllSoundShared count (depth ∷ mass ∷ low ∷ high ∷ parent ∷ rest) =
+    SoundShared count (record { depth = depth; mass = mass; low = low; high = high; parent = parent }) (length rest) × AllSoundShared count rest
 
 -- a stack that the walk may go on with
-pub record Stack (count at : ℕ) (stack : List ℕ) : Type 0 where
+pub record SharedStack (count at : ℕ) (stack : List ℕ) : Type 0 where
   pub fives : at % 5 ≡ 0
   pub within : at ≤ 640
   pub sized : length stack ≡ 640
-  pub entries : SoundEntries count (drop at stack)
+  pub entries : AllSoundShared count (drop at stack)

@@ -11,8 +11,8 @@ ghost use Rattle.mass.specs.Split.{certain, whole};
 ghost use Rattle.sets.specs.Sets.{joined};
 ghost use Rattle.plan.specs.Lists.{eventsOf};
 ghost use Rattle.plan.specs.Held.{Falling};
-ghost use Rattle.threshold_walk.specs.Stack.{SoundEntry, Stack};
-ghost use Rattle.threshold_walk.specs.Paths.{sharedWalk, Pushed, Halted, SoundPath, PathTaken, pathEnds, handed};
+ghost use Rattle.threshold_walk.specs.Stack.{SoundShared, SharedStack};
+ghost use Rattle.threshold_walk.specs.Paths.{sharedWalk, SharedPushed, Halted, SoundPath, PathTaken, pathEnds, handed};
 
 // A pending branch, as it stands in five words of the stack: how many events are decided, the mass, the failing events, and the mass before
 // the last event.
@@ -77,7 +77,7 @@ pub fn begin(stack: &mut [u64; 640]) -> usize
 // Lays a branch down with one failing event more, that at its depth.
 fn push(stack: &mut [u64; 640], at: usize, branch: SharedEntry)
     requires { ⌜ (branch .depth < 128) × (branch .low < 2 ^ 64) × (joined (branch .low) (branch .high) < 2 ^ (branch .depth)) × (at + 5 ≤ 640) ⌝ }
-    ensures { λ r. ⌜ Pushed branch at (now (stack .entry)) (now (stack .exit)) ⌝ }
+    ensures { λ r. ⌜ SharedPushed branch at (now (stack .entry)) (now (stack .exit)) ⌝ }
 {
     let before = Failing {
         low: branch.low,
@@ -108,7 +108,7 @@ fn go_down(
     branch: SharedEntry,
 ) -> Halt
     requires { ⌜ (count ≤ 128) × Falling certain (eventsOf count (now events)) ⌝ }
-    requires { ⌜ SoundEntry count branch (length (drop at (now stack))) × Stack count at (now stack) ⌝ }
+    requires { ⌜ SoundShared count branch (length (drop at (now stack))) × SharedStack count at (now stack) ⌝ }
     ensures { λ r. ⌜ Halted (sharedWalk count lowest (now (events .entry))) at branch (now (stack .entry)) (now (stack .exit)) r ⌝ }
 {
     let mut top = at;
@@ -165,7 +165,7 @@ pub fn next_path(
     stack: &mut [u64; 640],
     at: usize,
 ) -> WorksPath
-    requires { ⌜ (count ≤ 128) × Falling certain (eventsOf count (now events)) × (at < 640) × Stack count at (now stack) ⌝ }
+    requires { ⌜ (count ≤ 128) × Falling certain (eventsOf count (now events)) × (at < 640) × SharedStack count at (now stack) ⌝ }
     ensures { λ r. ⌜ PathTaken (sharedWalk count lowest (now (events .entry))) at (now (stack .entry)) (now (stack .exit)) r ⌝ }
 {
     let depth = stack[at];
