@@ -27,8 +27,8 @@ use Rattle.sheets.specs.SheetFile.{linesRefusal, lineIn, sheetRefusal}
 -- ---- the product
 
 -- a product that is cut at 10^9 + 1 after its first factor is cut there as a whole
-pub capped-again : (x e : ℕ) → min (min x (certain + 1) * e) (certain + 1) ≡ min (x * e) (certain + 1)
-capped-again x e = go (decLe x (certain + 1)) e
+pub bounded-again : (x e : ℕ) → min (min x (certain + 1) * e) (certain + 1) ≡ min (x * e) (certain + 1)
+bounded-again x e = go (decLe x (certain + 1)) e
   where
     go : Dec (x ≤ certain + 1) → (e : ℕ) → min (min x (certain + 1) * e) (certain + 1) ≡ min (x * e) (certain + 1)
     go (yes h) e = ap (λ (y : ℕ). min (y * e) (certain + 1)) (min-eq-left h)
@@ -40,8 +40,8 @@ capped-again x e = go (decLe x (certain + 1)) e
         ∙ min-eq-right (omega arith)
         ∙ sym (min-eq-right (omega (arith, mul-le-mul-right {m = certain + 1} {n = x} (suc e) (omega arith))))
 
-pub none-capped : (a b : ℕ) → b ≡ 0 → 0 ≡ min (a * b) (certain + 1)
-none-capped a b e = sym (ap (λ (y : ℕ). min (a * y) (certain + 1)) e ∙ ap (λ (y : ℕ). min y (certain + 1)) (mul-zero a))
+pub none-bounded : (a b : ℕ) → b ≡ 0 → 0 ≡ min (a * b) (certain + 1)
+none-bounded a b e = sym (ap (λ (y : ℕ). min (a * y) (certain + 1)) e ∙ ap (λ (y : ℕ). min y (certain + 1)) (mul-zero a))
 
 -- where the first factor is above the quotient, the product is above 10^9; else it is not
 pub above-quotient : (a b : ℕ) → (b ≡ 0 → ⊥) → certain / b < a → certain + 1 ≡ min (a * b) (certain + 1)

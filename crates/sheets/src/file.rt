@@ -9,7 +9,7 @@ ghost use Rattle.mass.specs.Split.{certain};
 ghost use Rattle.sheets.specs.SheetFile.{productTest, linesTest, sheetHeaderRefusal, lineRefusal, lineSize, linesRefusal, sheetRefusal};
 
 // The product of two numbers, or 10^9 + 1 where it is more. It is taken only where it is at most 10^9.
-fn capped(a: u64, b: u64) -> u64
+fn bounded_product(a: u64, b: u64) -> u64
     ensures { λ r. ⌜ r ≡ min (a * b) (certain + 1) ⌝ }
 {
     if b == 0 {
@@ -25,7 +25,7 @@ fn capped(a: u64, b: u64) -> u64
 pub fn product(fit: u64, hours: u64, extent: u64) -> u64
     ensures { λ r. ⌜ r ≡ min (fit * hours * extent) (certain + 1) ⌝ }
 {
-    capped(capped(fit, hours), extent)
+    bounded_product(bounded_product(fit, hours), extent)
 }
 
 // 17: the product of FIT, hours and length is above 10^9.
