@@ -62,7 +62,7 @@ pub fn give_totals(answer: Ran, result: &mut [u64]) -> u32
 }
 
 // The lower and the upper bound.
-pub fn give_bounds(answer: Paired, result: &mut [u64]) -> u32
+pub fn give_pair(answer: Paired, result: &mut [u64]) -> u32
     ensures number { λ r. ⌜ r ≡ pairedNumber answer ⌝ }
     ensures result { λ r. ⌜ now (result .exit) ≡ laid (boundsValues answer) (now (result .entry)) ⌝ }
 {

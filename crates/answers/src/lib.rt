@@ -5,8 +5,8 @@
 mod calls;
 mod lay;
 
-pub use calls::give_bounds;
 pub use calls::give_header;
+pub use calls::give_pair;
 pub use calls::give_size;
 pub use calls::give_totals;
 pub use lay::give_three;

@@ -1,7 +1,7 @@
 // The calls on a walk in lent words, for the exports of crate `probe`, not part of the product: document 02, request U4. Each returns the
 // number of the refusal, or 0.
 // Assumes nothing.
-use answers::give_bounds;
+use answers::give_pair;
 use answers::give_three;
 use answers::give_two;
 use answers::put;
@@ -115,5 +115,5 @@ pub fn look_pair(state: &[u64], v: u64, w: u64, result: &mut [u64]) -> u32
         give_two(result, 0, 0);
         return room;
     }
-    give_bounds(panel::look_pair(walk_of(state), v, w), result)
+    give_pair(panel::look_pair(walk_of(state), v, w), result)
 }

@@ -1,7 +1,7 @@
 // The check of a file, the run with windows and the bounds of a pair with their answers as numbers, for the exports of crate `probe`: the
 // number of the refusal, or 0, is returned, and the values are laid down in a lent list, as far as it has room.
 // Assumes nothing.
-use answers::give_bounds;
+use answers::give_pair;
 use answers::give_totals;
 use plan::Header;
 ghost use mathlib.Core.Path.{_≡_};
@@ -59,5 +59,5 @@ pub fn pair(h: Header, links: &[u8], events: &[u64], v: u64, w: u64, result: &mu
         (boundsValues (pairAnswer r (boundsOf intact (planOfLists h (now (links .entry)) (now (events .entry))) v w)))
         (now (result .entry)) ⌝ }
 {
-    give_bounds(bounds::pair(h, links, events, v, w), result)
+    give_pair(bounds::pair(h, links, events, v, w), result)
 }

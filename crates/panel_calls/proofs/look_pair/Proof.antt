@@ -29,7 +29,7 @@ walk-of-requires c κs = room-none _ _ (sym (c .before .room-test .ensures) ∙ 
 
 returns-2 : tie.Need-returns-2
 returns-2 c =
-    let given = c .before .before .give-bounds .ensures in
+    let given = c .before .before .give-pair .ensures in
     let seen = c .before .before .before .before in
     let one = seen .before .before in
     let a = entry (one .before) .args in
@@ -49,6 +49,6 @@ look-pair-spec =
     returns
     walk-of-requires
     (λ c κs. search needs)  -- look-pair-requires
-    (λ c κs. search needs)  -- give-bounds-requires
+    (λ c κs. search needs)  -- give-pair-requires
     (λ c. search needs)  -- same-length-2
     returns-2)

@@ -7,7 +7,7 @@ use Rattle.run_answers.proofs.pair.Tie as tie
 
 returns : tie.Need-returns
 returns c =
-    let f = c .before .before .give-bounds .ensures in
+    let f = c .before .before .give-pair .ensures in
     let e = c .before .before .before .before .pair .ensures .0 in
     let n = rw (e, paired-number) at (f .0) in
     rw n (refl, rw e at (f .1))
@@ -17,6 +17,6 @@ pair-spec =
     tie.close
     (tie.spec
     (λ c κs. search needs)  -- pair-requires
-    (λ c κs. search needs)  -- give-bounds-requires
+    (λ c κs. search needs)  -- give-pair-requires
     (λ c. search needs)  -- same-length
     returns)

@@ -1,8 +1,8 @@
--- `answers::calls::give_bounds` meets its contract: case by case. Assumes nothing.
+-- `answers::calls::give_pair` meets its contract: case by case. Assumes nothing.
 use mathlib.Core.Path.{refl}
 use borrow.Author.Needs.{needs}
-use Rattle.answers.proofs.calls.give_bounds.Statement.{statement}
-use Rattle.answers.proofs.calls.give_bounds.Tie as tie
+use Rattle.answers.proofs.calls.give_pair.Statement.{statement}
+use Rattle.answers.proofs.calls.give_pair.Tie as tie
 
 returns : tie.Need-returns
 returns c =
@@ -12,8 +12,8 @@ returns-2 : tie.Need-returns-2
 returns-2 c =
     rw (c .before .before .before .before .before .answer2 .given .1) (refl, c .before .before .give-two2 .ensures)
 
-pub give-bounds-spec : {M : Type 1} → statement M
-give-bounds-spec =
+pub give-pair-spec : {M : Type 1} → statement M
+give-pair-spec =
     tie.close
     (tie.spec
     (λ c. search needs)  -- enum-known-answer
