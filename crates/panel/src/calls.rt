@@ -106,7 +106,7 @@ fn ends_open(w: Walk) -> u64
 }
 
 // Goes on with a walk, by the loop of the run, for at most so many ends as are allowed.
-fn reach(w: Walk, allowed: u64) -> Walk
+fn reach_ends(w: Walk, allowed: u64) -> Walk
     requires { ⌜ (sound w ≡ true) × (allowed + w .reached ≤ w .header .cap) ⌝ }
     ensures { λ r. ⌜ WalkedOn w allowed r ⌝ }
 {
@@ -169,7 +169,7 @@ pub fn go_on(w: Walk, quota: Quota, k: u64) -> GoneOn
     if empty != 0 {
         return unmoved(empty, w, quota);
     }
-    let walk = reach(w, fewer_of(wanted, quota.left));
+    let walk = reach_ends(w, fewer_of(wanted, quota.left));
     let reached = walk.reached - w.reached;
     GoneOn {
         number: 0,

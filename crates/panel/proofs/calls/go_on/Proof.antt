@@ -51,14 +51,14 @@ returns-2 c =
     let one = c .before .before .before in
     rw (c .unmoved2 .ensures) (none-drawn _ _ _ (opened one .wanted) _ (c .before .before .quota-test .ensures) (c .before .if2 .taken))
 
-reach-requires : tie.Need-reach-requires
-reach-requires c κs =
+reach-ends-requires : tie.Need-reach-ends-requires
+reach-ends-requires c κs =
     let s = entry (tested c) in
     let o = opened (tested c) in
     (o .is-sound, under-cap (s .args .w) (s .args .quota) (s .args .k) (size s) o _ (allowed c))
 
 sub-reached : tie.Need-sub-reached
-sub-reached c = omega (arith, c .before .before .reach .ensures .reached)
+sub-reached c = omega (arith, c .before .before .reach-ends .ensures .reached)
 
 sub-t8 : tie.Need-sub-t8
 sub-t8 c =
@@ -67,7 +67,7 @@ sub-t8 c =
     omega (
       arith,
       in-quota (a .w) (a .quota) (a .k) (size (entry (tested (on .before)))) (opened (tested (on .before))) _ (allowed (on .before)) (some-allowed (on .before))
-          (full (on .before)) _ (on .reach .ensures),
+          (full (on .before)) _ (on .reach-ends .ensures),
     )
 
 returns-3 : tie.Need-returns-3
@@ -75,7 +75,7 @@ returns-3 c =
     let on = c .before .before .before in
     let a = entry (tested (on .before)) .args in
     went (a .w) (a .quota) (a .k) (size (entry (tested (on .before)))) (opened (tested (on .before))) _ (allowed (on .before)) (some-allowed (on .before))
-    (full (on .before)) _ (on .reach .ensures)
+    (full (on .before)) _ (on .reach-ends .ensures)
 
 pub go-on-spec : {M : Type 1} → statement M
 go-on-spec =
@@ -89,7 +89,7 @@ go-on-spec =
     (λ c κs. search needs)  -- unmoved-requires-2
     returns-2
     (λ c κs. search needs)  -- fewer-of-requires-2
-    reach-requires
+    reach-ends-requires
     sub-reached
     sub-t8
     returns-3)

@@ -1,12 +1,12 @@
--- `panel::calls::reach` meets its contract. Assumes nothing.
+-- `panel::calls::reach_ends` meets its contract. Assumes nothing.
 use borrow.Author.Needs.{needs, length-unmapped}
 use mathlib.Core.Path.{_≡_}
 use Prim.Native.Nat.{ℕ}
 use lib.ListN.{length}
 use Rattle.walk_state.proofs.SoundLaws.{sound-is}
 use Rattle.panel.proofs.GoingOn.{held, ready, walked}
-use Rattle.panel.proofs.calls.reach.Statement.{statement}
-use Rattle.panel.proofs.calls.reach.Tie as tie
+use Rattle.panel.proofs.calls.reach_ends.Statement.{statement}
+use Rattle.panel.proofs.calls.reach_ends.Tie as tie
 
 -- the arrays have their lengths
 stack-size : (c : tie.Start) → length (c .args .w .stack) ≡ 512
@@ -32,8 +32,8 @@ returns c =
     let s = on .before .before .before .before .before .before .before .before .before .before .before .before .before in
     walked (s .args .w) (s .args .allowed) _ _ _ (on .go-on .ensures) (s .pre .1)
 
-pub reach-spec : {M : Type 1} → statement M
-reach-spec =
+pub reach-ends-spec : {M : Type 1} → statement M
+reach-ends-spec =
     tie.close
     (tie.spec
     links-at-requires
