@@ -1,7 +1,7 @@
 // The listing of a plan file.
 use crate::Formatted;
 use crate::fields::put_refused;
-use crate::rows::put_plan;
+use crate::rows::put_plan_text;
 use plan::Header;
 use plan::Reading;
 ghost use mathlib.Core.Path.{_≡_};
@@ -24,7 +24,7 @@ fn put_accepted(out: &mut [u8], h: Header, links: &[u8; 256], words: &[u64; 512]
 {
     let mut sums = [0u64; 2016];
     let totals = bounds::walk_all(h, links, words, network::Failed::NONE, &mut sums);
-    put_plan(out, h, totals, &sums)
+    put_plan_text(out, h, totals, &sums)
 }
 
 // The listing of a plan file, where there is room for it.

@@ -67,7 +67,7 @@ pub fn put_head(out: &mut [u8], h: Header, t: Totals) -> usize
 }
 
 // The lines of a plan, from what the run gave.
-pub fn put_plan(out: &mut [u8], h: Header, t: Totals, sums: &[u64; 2016]) -> usize
+pub fn put_plan_text(out: &mut [u8], h: Header, t: Totals, sums: &[u64; 2016]) -> usize
     requires { ⌜ BoundsFit (h .nodes) (t .mass) (now sums) (now sums) (now sums) ⌝ }
     requires { ⌜ length (sumsText h t (now sums)) ≤ length (now out) ⌝ }
     ensures { λ r. ⌜ (now (out .exit) ≡ sets (now (out .entry)) 0 (sumsText h t (now (sums .entry))))

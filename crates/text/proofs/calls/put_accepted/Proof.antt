@@ -14,8 +14,8 @@ use Rattle.text.proofs.calls.put_accepted.Tie as tie
 walk-all-requires : tie.Need-walk-all-requires
 walk-all-requires c κs = (c .before .before .pre .0, cleared)
 
-put-plan-requires : tie.Need-put-plan-requires
-put-plan-requires c κs =
+put-plan-text-requires : tie.Need-put-plan-text-requires
+put-plan-text-requires c κs =
     let z = c .before .before .before .before .before .pre .0 in
     let a = c .before .before .before .before .before .args in
     let t = c .before .before .walk-all .ensures in
@@ -31,13 +31,13 @@ returns c =
     let z = c .before .before .before .before .before .before .before .before .pre .0 in
     let a = c .before .before .before .before .before .before .before .before .args in
     let t = c .before .before .before .before .before .walk-all .ensures in
-    laid-as _ _ _ _ _ (sums-text (a .h) (a .links .now) (a .words .now) _ _ z (t .0) (t .1)) (c .before .before .put-plan .ensures)
+    laid-as _ _ _ _ _ (sums-text (a .h) (a .links .now) (a .words .now) _ _ z (t .0) (t .1)) (c .before .before .put-plan-text .ensures)
 
 pub put-accepted-spec : {M : Type 1} → statement M
 put-accepted-spec =
     tie.close
     (tie.spec
     walk-all-requires
-    put-plan-requires
+    put-plan-text-requires
     (λ c. search needs)  -- same-length
     returns)

@@ -1,9 +1,9 @@
--- `text::rows::put_plan` meets its contract: the rows are laid down where the first line ends. Assumes nothing.
+-- `text::rows::put_plan_text` meets its contract: the rows are laid down where the first line ends. Assumes nothing.
 use native.Mathlib.Omega.{arith}
 use Rattle.text.proofs.TextLaws.{sums-long, sums-laid, listable}
 use borrow.Author.Needs.{needs}
-use Rattle.text.proofs.rows.put_plan.Statement.{statement}
-use Rattle.text.proofs.rows.put_plan.Tie as tie
+use Rattle.text.proofs.rows.put_plan_text.Statement.{statement}
+use Rattle.text.proofs.rows.put_plan_text.Tie as tie
 
 put-head-requires : tie.Need-put-head-requires
 put-head-requires c κs =
@@ -23,8 +23,8 @@ returns c =
     let rows = c .before .before in
     sums-laid _ _ _ _ _ _ _ _ (rows .before .before .before .before .before .before .put-head .ensures) (rows .put-rows .ensures)
 
-pub put-plan-spec : {M : Type 1} → statement M
-put-plan-spec =
+pub put-plan-text-spec : {M : Type 1} → statement M
+put-plan-text-spec =
     tie.close
     (tie.spec
     put-head-requires
