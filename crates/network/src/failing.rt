@@ -29,7 +29,7 @@ pub fn beside(f: Failed, more: Failed) -> Failed
 }
 
 // What has failed when event i fails too.
-fn with_event(events: &[u64; 512], i: usize, f: Failed) -> Failed
+fn failed_with_event(events: &[u64; 512], i: usize, f: Failed) -> Failed
     requires { ⌜ i < 128 ⌝ }
     ensures { λ r. ⌜ outage r ≡ withEvent (outage f) (eventAt (eventsOf 128 (now (events .entry))) i) ⌝ }
 {
@@ -52,7 +52,7 @@ fn failed_word(events: &[u64; 512], count: usize, base: usize, set: u64, start: 
     // When the events of `left` fail beside f, what has failed is what the call is to return.
     // Each turn takes the lowest element out of `left`, which falls as a number.
     while left != 0 {
-        f = with_event(events, base + sets::lowest(left), f);
+        f = failed_with_event(events, base + sets::lowest(left), f);
         left = sets::rest(left);
     }
     f

@@ -31,11 +31,11 @@ below c =
     (c .before .before .loop .inv .0)
     (c .lowest .ensures .1 .1 .0)
 
-add-with-event : tie.Need-add-with-event Inv-loop μ-loop
-add-with-event c = omega (arith, below c)
+add-failed-with-event : tie.Need-add-failed-with-event Inv-loop μ-loop
+add-failed-with-event c = omega (arith, below c)
 
-with-event-requires : tie.Need-with-event-requires Inv-loop μ-loop
-with-event-requires c κs = omega (arith, below c)
+failed-with-event-requires : tie.Need-failed-with-event-requires Inv-loop μ-loop
+failed-with-event-requires c κs = omega (arith, below c)
 
 loop-less : tie.Need-loop-less Inv-loop μ-loop
 loop-less c = c .rest .ensures .0
@@ -48,7 +48,7 @@ loop-again c =
       omega (arith, c .rest .ensures .0, loop .inv .0),
       outage-move (a .count) (a .events .now) (c .before .before .before .before .before .pre .0) (outage (loop .f)) _ _ _
           (a .base + at .lowest .result)
-          (c .before .with-event .ensures)
+          (c .before .failed-with-event .ensures)
           (below at)
           (bit-shl (loop .left) (a .base) (at .lowest .result) ∙ at .lowest .ensures .1 .1 .0)
           (rest-shifted (a .base) (loop .left) (c .rest .result) _ (at .lowest .result) (at .lowest .ensures .0) (c .rest .ensures .1))
@@ -69,8 +69,8 @@ failed-word-spec =
     μ-loop
     loop-holds
     (λ c κs. search needs)  -- lowest-requires
-    add-with-event
-    with-event-requires
+    add-failed-with-event
+    failed-with-event-requires
     (λ c κs. search needs)  -- rest-requires
     loop-less
     loop-again

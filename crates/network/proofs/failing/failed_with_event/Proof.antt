@@ -1,11 +1,11 @@
--- `network::failing::with_event` meets its contract: the words that are put beside what has failed are those of the event. Assumes nothing.
+-- `network::failing::failed_with_event` meets its contract: the words that are put beside what has failed are those of the event. Assumes nothing.
 use borrow.Author.Needs.{needs}
 use mathlib.Core.Path.{ap, _∙_}
 use Rattle.network.specs.Outage.{beside}
 use Rattle.network.specs.Code.{outage}
 use Rattle.network.proofs.Events.{named-words}
-use Rattle.network.proofs.failing.with_event.Statement.{statement}
-use Rattle.network.proofs.failing.with_event.Tie as tie
+use Rattle.network.proofs.failing.failed_with_event.Statement.{statement}
+use Rattle.network.proofs.failing.failed_with_event.Tie as tie
 
 returns : tie.Need-returns
 returns c =
@@ -18,8 +18,8 @@ returns c =
     (e .before .word2 .ensures)
     (e .word3 .ensures))
 
-pub with-event-spec : {M : Type 1} → statement M
-with-event-spec =
+pub failed-with-event-spec : {M : Type 1} → statement M
+failed-with-event-spec =
     tie.close
     (tie.spec
     (λ c. search needs)  -- mul-at
