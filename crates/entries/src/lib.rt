@@ -75,7 +75,7 @@ fn put(list: &mut [u64], i: usize, t: Topology, mass: u64)
 }
 
 // Adds a mass to the entry of its topology, or to a new entry after the last; 15 where the list has no entry left for it.
-pub fn place(list: &mut [u64], count: usize, t: Topology, mass: u64) -> Placed
+pub fn place_topology(list: &mut [u64], count: usize, t: Topology, mass: u64) -> Placed
     requires { ⌜ MassFits count mass (now list) ⌝ }
     ensures { λ r. ⌜ HoldsList
         (fitted (length (now (list .entry)) / 4) (entriesOf count (now (list .entry))) (added t mass (entriesOf count (now (list .entry)))))

@@ -1,7 +1,7 @@
 // The loop of the topology list over the ends of the walk.
 use entries::Placed;
 use entries::Topology;
-use entries::place;
+use entries::place_topology;
 use network::Failed;
 use plan::Header;
 use walk::Failing;
@@ -83,7 +83,7 @@ fn list_ends(
             high: r.high,
         };
         let t = topology_of(h, links, words, table, failing);
-        let placed = place(&mut *list, count, t, r.mass);
+        let placed = place_topology(&mut *list, count, t, r.mass);
         if placed.number != 0 {
             return placed;
         }

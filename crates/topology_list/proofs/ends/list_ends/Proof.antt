@@ -35,8 +35,8 @@ topology-of-requires c κs =
     let l = n .before .before in
     (l .loop .inv .held, (l .before .before .pre .0, n .next-relevant .ensures .decided))
 
-place-requires : tie.Need-place-requires Inv-loop μ-loop
-place-requires c κs =
+place-topology-requires : tie.Need-place-topology-requires Inv-loop μ-loop
+place-topology-requires c κs =
     let e = c .before .before in
     let n = e .before .before in
     may-place _ _ _ _ _ _ _ _ _ _ _ _ (n .before .before .loop .inv) _ _ (n .next-relevant .ensures) (not-false _ (e .if1 .left))
@@ -44,7 +44,7 @@ place-requires c κs =
 same-length-2 : tie.Need-same-length-2 Inv-loop μ-loop
 same-length-2 c =
     let p = c .before .before .before .before in
-    p .place .ensures .sized ∙ p .before .before .before .before .before .before .before .loop .inv .sized
+    p .place-topology .ensures .sized ∙ p .before .before .before .before .before .before .before .loop .inv .sized
 
 returns-2 : tie.Need-returns-2 Inv-loop μ-loop
 returns-2 c =
@@ -53,7 +53,7 @@ returns-2 c =
     let e = t .before in
     let n = e .before .before in
     stopped _ _ _ _ _ _ _ _ _ _ _ _ (n .before .before .loop .inv) _ _ (n .next-relevant .ensures) (not-false _ (e .if1 .left))
-    _ (t .topology-of .ensures) _ _ (p .place .ensures) (c .if2 .taken)
+    _ (t .topology-of .ensures) _ _ (p .place-topology .ensures) (c .if2 .taken)
 
 loop-less : tie.Need-loop-less Inv-loop μ-loop
 loop-less c =
@@ -67,7 +67,7 @@ loop-again c =
     let e = t .before in
     let n = e .before .before in
     turned _ _ _ _ _ _ _ _ _ _ _ _ (n .before .before .loop .inv) _ _ (n .next-relevant .ensures) (not-false _ (e .if1 .left))
-    _ (t .topology-of .ensures) _ _ (p .place .ensures) (c .if2 .left)
+    _ (t .topology-of .ensures) _ _ (p .place-topology .ensures) (c .if2 .left)
 
 pub list-ends-spec : {M : Type 1} → statement M
 list-ends-spec =
@@ -80,7 +80,7 @@ list-ends-spec =
     same-length
     returns
     topology-of-requires
-    place-requires
+    place-topology-requires
     same-length-2
     returns-2
     loop-less

@@ -1,9 +1,9 @@
--- `entries::place` meets its contract, each of the three ways. Assumes nothing.
+-- `entries::place_topology` meets its contract, each of the three ways. Assumes nothing.
 use native.Mathlib.Omega.{arith}
 use borrow.Author.Needs.{needs}
 use Rattle.entries.proofs.PlaceLaws.{mass-fits, placed-known, placed-full, placed-new}
-use Rattle.entries.proofs.place.Statement.{statement}
-use Rattle.entries.proofs.place.Tie as tie
+use Rattle.entries.proofs.place_topology.Statement.{statement}
+use Rattle.entries.proofs.place_topology.Tie as tie
 
 raise-requires : tie.Need-raise-requires
 raise-requires c κs =
@@ -29,8 +29,8 @@ returns-3 c =
     rw (c .before .before .put .ensures)
     (placed-new _ _ _ _ _ (start .pre) found (c .before .before .before .before .before .if1 .left) (c .before .before .before .before .if2 .left))
 
-pub place-spec : {M : Type 1} → statement M
-place-spec =
+pub place-topology-spec : {M : Type 1} → statement M
+place-topology-spec =
     tie.close
     (tie.spec
     (λ c κs. search needs)  -- find-requires
