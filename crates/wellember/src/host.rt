@@ -21,7 +21,14 @@ ghost use Rattle.bounds.specs.Calls.{pairAnswer, boundsOf, boundsIn};
 ghost use Rattle.wellember.specs.Host.{hostRefusal, sixteen, lowerIn, upperIn};
 
 // The bounds of one pair of an accepted plan in arrays, where the buffer has `room` bytes: 12, then 13.
-fn pair_in(h: Header, room: usize, links: &[u8; 256], words: &[u64; 512], v: u64, w: u64) -> Paired
+fn pair_with_room(
+    h: Header,
+    room: usize,
+    links: &[u8; 256],
+    words: &[u64; 512],
+    v: u64,
+    w: u64,
+) -> Paired
     requires { ⌜ planRefusal (planOfLists h (now links) (now words)) ≡ 0 ⌝ }
     ensures { λ r. ⌜ r ≡ pairAnswer
         (first (roomTest room 16 ∷ pairTest (h .nodes) v w ∷ []))
@@ -49,7 +56,7 @@ fn pair_of(s: &[u8], room: usize, v: u64, w: u64) -> Paired
     let answer = input::read_input(s, &mut links, &mut words);
     match answer {
         Reading::Refused(number) => Paired::Refused(number),
-        Reading::Accepted(h) => pair_in(h, room, &links, &words, v, w),
+        Reading::Accepted(h) => pair_with_room(h, room, &links, &words, v, w),
     }
 }
 

@@ -1,4 +1,4 @@
--- `wellember::host::pair_in` meets its contract: 12, then 13, then the bounds of the plan in the arrays. Assumes nothing.
+-- `wellember::host::pair_with_room` meets its contract: 12, then 13, then the bounds of the plan in the arrays. Assumes nothing.
 use mathlib.Core.Path.{_≡_, refl, sym, ap, _∙_}
 use mathlib.Core.List.{[], _∷_}
 use borrow.Author.Needs.{needs}
@@ -9,8 +9,8 @@ use Rattle.refusals.proofs.OrderLaws.{also}
 use Rattle.pairs.specs.Pairs.{pairTest}
 use Rattle.bounds.specs.declared.Paired.the-variants as paired
 use Rattle.bounds.proofs.Answers.{pair-inside}
-use Rattle.wellember.proofs.host.pair_in.Statement.{statement}
-use Rattle.wellember.proofs.host.pair_in.Tie as tie
+use Rattle.wellember.proofs.host.pair_with_room.Statement.{statement}
+use Rattle.wellember.proofs.host.pair_with_room.Tie as tie
 
 -- the entry, seen from the tests
 abbrev entry : tie.After-first-of → tie.Start
@@ -33,8 +33,8 @@ pair-in-requires c κs =
 returns-2 : tie.Need-returns-2
 returns-2 c = rw (passed (c .before)) (ap paired.Done (c .pair-in .ensures))
 
-pub pair-in-spec : {M : Type 1} → statement M
-pair-in-spec =
+pub pair-with-room-spec : {M : Type 1} → statement M
+pair-with-room-spec =
     tie.close
     (tie.spec
     (λ c κs. search needs)  -- room-test-requires
