@@ -16,7 +16,7 @@ use Rattle.walk.specs.Pending.{Branch}
 use Rattle.walk.specs.Stack.{branchOf}
 use Rattle.walk.specs.Steps.{Stopped, endOf}
 use Rattle.walk.specs.declared.Stop.{Stop}
-use Rattle.threshold_walk.specs.Paths.{sharedWalk, Faint, pathEnds, SoundPath, handed}
+use Rattle.threshold_walk.specs.Paths.{sharedWalk, FailsBelow, pathEnds, SoundPath, handed}
 use Rattle.threshold_walk.specs.declared.WorksPath.{WorksPath}
 use Rattle.threshold_walk.proofs.Stops.{path-shared, path-below, entry-none, entry-some, branch-cut, probables, branch-path}
 
@@ -39,8 +39,8 @@ module _ (count lowest t : ℕ) (words : List ℕ) (falls : Falling certain (eve
       )
 
   module _ (enough : t ≤ path .mass) where
-    faint : Faint count t words (path .depth) (path .mass)
-    faint h k = omega (arith, s .faint (omega arith) k)
+    fails-below : FailsBelow count t words (path .depth) (path .mass)
+    fails-below h k = omega (arith, s .fails-below (omega arith) k)
 
     -- its end and the dropped ones after it, where its "works" path stops for t
     stopped-at : (end : Stop) → Stopped count t words (path .depth) (path .mass) end
@@ -48,7 +48,7 @@ module _ (count lowest t : ℕ) (words : List ℕ) (falls : Falling certain (eve
         ≡ endOf count (leb t (end .mass)) (end .mass) (path .low) (path .high) ∷ replicate (end .depth - path .depth) dropped
     stopped-at end stops =
         entry-some (path .parent) t (eventsOf count words) here (omega (arith, s .lighter))
-        ∙ branch-path count words falls t (path .depth) (path .mass) (path .low) (path .high) (s .deep) (s .decided) enough faint end stops
+        ∙ branch-path count words falls t (path .depth) (path .mass) (path .low) (path .high) (s .deep) (s .decided) enough fails-below end stops
 
     -- it is the path of the lowest threshold
     pub all-of : t ≤ path .last → pathEnds count t words path ≡ handed count t path (path .stop - path .depth + 1)

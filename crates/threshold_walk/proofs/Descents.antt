@@ -23,7 +23,7 @@ use Rattle.walk.specs.declared.Stop.{Stop}
 use Rattle.walk.proofs.Descents.{probable, branch-parts}
 use Rattle.walk.proofs.Resume.{ends-some}
 use Rattle.threshold_walk.specs.Stack.{entryEnds, sharedToCome, SoundShared, AllSoundShared, SharedStack}
-use Rattle.threshold_walk.specs.Paths.{SharedWalk, sharedWalk, SharedPushed, Faint, Halted, pathEnds, leftToTake, PathTaken}
+use Rattle.threshold_walk.specs.Paths.{SharedWalk, sharedWalk, SharedPushed, FailsBelow, Halted, pathEnds, leftToTake, PathTaken}
 use Rattle.threshold_walk.specs.declared.Halt.{Halt}
 use Rattle.threshold_walk.specs.declared.SharedEntry.{SharedEntry}
 use Rattle.threshold_walk.specs.declared.WorksPath.{WorksPath}
@@ -66,15 +66,15 @@ module _ (k : SharedWalk) (at : ℕ) (e : SharedEntry) (stack₀ stack : List �
   abbrev top : ℕ
   top = r .at
 
-  pub halts : Faint (k .count) (k .lowest) (k .words) (r .depth) (r .mass) → Halted k at e stack₀ stack r
-  halts faint =
+  pub halts : FailsBelow (k .count) (k .lowest) (k .words) (r .depth) (r .mass) → Halted k at e stack₀ stack r
+  halts fails-below =
       record {
         ends = λ t h. g .ahead t;
         held = g .held;
         deep = g .hand .deep;
         decided = g .hand .decided;
         lighter = g .lighter;
-        faint = faint;
+        fails-below = fails-below;
         still = g .still;
       }
 
@@ -279,7 +279,7 @@ module _ (count : ℕ) (words : List ℕ) (at : ℕ) (stack : List ℕ) (s : Sha
                 lighter = omega (arith, d .lighter, taken .lighter);
                 light = taken .light;
                 decided = d .decided;
-                faint = d .faint;
+                fails-below = d .fails-below;
                 stops = stopped;
               };
           fewer = fewer (decLt (e .parent) lowest);

@@ -29,7 +29,7 @@ use Rattle.walk.proofs.Branches.{events-length}
 use Rattle.walk.proofs.Dropped.{run-after, works-path}
 use Rattle.walk.proofs.Descents.{left-at, probable, falls-on}
 use Rattle.threshold_walk.specs.Stack.{entryEnds}
-use Rattle.threshold_walk.specs.Paths.{Faint}
+use Rattle.threshold_walk.specs.Paths.{FailsBelow}
 
 -- ---- two thresholds, the lower one s
 
@@ -93,7 +93,7 @@ module _ (count : ℕ) (words : List ℕ) (falls : Falling certain (eventsOf cou
   probables depth = probable-drop depth (eventsOf count words) (falling-probable certain (eventsOf count words) (omega arith) falls)
 
   module _ (t depth mass low high : ℕ) (deep : depth ≤ count) (decided : joined low high < 2 ^ depth) (enough : t ≤ mass)
-      (faint : Faint count t words depth mass) (s : Stop) (stopped : Stopped count t words depth mass s) where
+      (fails-below : FailsBelow count t words depth mass) (s : Stop) (stopped : Stopped count t words depth mass s) where
     abbrev path : Scenario
     path = scenarioOf depth (joined low high)
 
@@ -106,7 +106,7 @@ module _ (count : ℕ) (words : List ℕ) (falls : Falling certain (eventsOf cou
         step : Dec (depth < count) → ends t mass (drop depth (eventsOf count words)) ≡ pathEnd t (s .mass) (count - depth) ∷ replicate (s .depth - depth) dropped
         step (yes l) =
             rw (← left-at count words depth, stopped .stops, steps)
-            (works-path t (getD words (depth * 4) 0) mass (drop depth (eventsOf count words)) (probable count words falls depth l) (falls-on count words falls depth l) (faint enough l))
+            (works-path t (getD words (depth * 4) 0) mass (drop depth (eventsOf count words)) (probable count words falls depth l) (falls-on count words falls depth l) (fails-below enough l))
         step (no l) =
             let over : drop depth (eventsOf count words) ≡ [] = drop-of-length-le (eventsOf count words) {i = depth} (omega (arith, events-length count words)) in
             let here : s .mass ≡ mass = stopped .stops ∙ ap (pathMass t mass) over ∙ path-last t mass .1 in

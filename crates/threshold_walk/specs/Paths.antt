@@ -37,8 +37,8 @@ pub record SharedPushed (e : SharedEntry) (at : ℕ) (stack stack′ : List ℕ)
 
 -- where no "fails" side of a "works" path is left pending any more: its mass is below the threshold, no event is left, or the "fails" side
 -- of the next event is below the threshold
-abbrev pub Faint : ℕ → ℕ → List ℕ → ℕ → ℕ → Type 0
-Faint count threshold words depth mass = threshold ≤ mass → depth < count → failing mass (getD words (depth * 4) 0) < threshold
+abbrev pub FailsBelow : ℕ → ℕ → List ℕ → ℕ → ℕ → Type 0
+FailsBelow count threshold words depth mass = threshold ≤ mass → depth < count → failing mass (getD words (depth * 4) 0) < threshold
 
 -- from a branch down to there: for each threshold t that is not below the lowest, the ends to come are the same
 pub record Halted (k : SharedWalk) (at : ℕ) (e : SharedEntry) (stack stack′ : List ℕ) (r : Halt) : Type 0 where
@@ -49,7 +49,7 @@ pub record Halted (k : SharedWalk) (at : ℕ) (e : SharedEntry) (stack stack′ 
   pub deep : r .depth ≤ k .count
   pub decided : joined (e .low) (e .high) < 2 ^ r .depth
   pub lighter : r .mass ≤ e .mass
-  pub faint : Faint (k .count) (k .lowest) (k .words) (r .depth) (r .mass)
+  pub fails-below : FailsBelow (k .count) (k .lowest) (k .words) (r .depth) (r .mass)
   pub still : e .mass < k .lowest → r .at ≡ at
 
 -- the ends of a path in the walk with the threshold t
@@ -62,7 +62,7 @@ pub record SoundPath (k : SharedWalk) (r : WorksPath) : Type 0 where
   pub lighter : r .mass ≤ r .parent
   pub light : r .parent ≤ whole
   pub decided : joined (r .low) (r .high) < 2 ^ r .depth
-  pub faint : Faint (k .count) (k .lowest) (k .words) (r .depth) (r .mass)
+  pub fails-below : FailsBelow (k .count) (k .lowest) (k .words) (r .depth) (r .mass)
   pub stops : Stopped (k .count) (k .lowest) (k .words) (r .depth) (r .mass) (record { depth = r .stop; mass = r .last })
 
 -- how many ends of the lowest threshold are to come where the stack begins at `at`, and then how many branches are pending, in one number
