@@ -10,7 +10,7 @@ use Rattle.sets.specs.Sets.{joined, digit}
 use Rattle.plan.specs.LentLists.{planOfLists}
 use Rattle.walk.specs.Scenario.{Scenario, scenarioOf}
 use Rattle.walk.specs.Ends.{sumEnds}
-use Rattle.walk.specs.Steps.{Handed}
+use Rattle.walk.specs.Steps.{StepTaken}
 use Rattle.walk.specs.declared.WalkStep.{WalkStep}
 use Rattle.walk.proofs.Resume.{left-less, left-found, left-none, drop-found, drop-none, sum-found, sum-none}
 use Rattle.bounds.specs.Bounds.{cuts}
@@ -23,7 +23,7 @@ pub record Turn (p : WalkedPlan) (start here : RunState) : Type 0 where
 
 -- a step of the walk
 module _ (p : WalkedPlan) (start here : RunState) (g : Turn p start here) (stack′ : List ℕ) (step : WalkStep)
-    (s : Handed (p .header .events) (p .header .threshold) (p .words) (here .sums .at) (here .stack) (here .sums .left) stack′ step) where
+    (s : StepTaken (p .header .events) (p .header .threshold) (p .words) (here .sums .at) (here .stack) (here .sums .left) stack′ step) where
   ready : Ready (p .header) (p .links) (p .words) here
   ready = g .ready
 

@@ -18,7 +18,7 @@ use Rattle.network.specs.Code.{outage, networkIn}
 use Rattle.network.specs.declared.Failed.{Failed}
 use Rattle.walk.specs.Scenario.{Scenario, scenarioOf, failingSet}
 use Rattle.walk.proofs.ScenarioLaws.{failing-scenario}
-use Rattle.walk.specs.Steps.{Handed}
+use Rattle.walk.specs.Steps.{StepTaken}
 use Rattle.walk.specs.declared.WalkStep.{WalkStep}
 use Rattle.walk.proofs.Resume.{scenarios-found, scenarios-none}
 use Rattle.bounds.specs.Bounds.{cuts}
@@ -82,7 +82,7 @@ pub record Seek (h : Header) (links words : List ℕ) (at₀ : ℕ) (stack₀ : 
 
 module _ (h : Header) (links words : List ℕ) (at₀ : ℕ) (stack₀ : List ℕ) (v w k : ℕ) (stack : List ℕ) (at left : ℕ)
     (g : Seek h links words at₀ stack₀ v w k stack at left)
-    (stack′ : List ℕ) (r : WalkStep) (s : Handed (h .events) (h .threshold) words at stack left stack′ r) where
+    (stack′ : List ℕ) (r : WalkStep) (s : StepTaken (h .events) (h .threshold) words at stack left stack′ r) where
   abbrev p : Plan
   p = planOfLists h links words
 

@@ -18,7 +18,7 @@ use Rattle.walk.specs.Scenario.{Scenario, scenarioOf}
 use Rattle.walk.specs.Ends.{End, relevant, sumEnds}
 use Rattle.walk.proofs.Laws.{masses-le}
 use Rattle.walk.specs.Stack.{Stack}
-use Rattle.walk.specs.Steps.{Handed}
+use Rattle.walk.specs.Steps.{StepTaken}
 use Rattle.walk.proofs.Valid.{held-probable}
 use Rattle.walk.specs.declared.WalkStep.{WalkStep}
 use Rattle.walk.proofs.Resume.{Alone, begun-stack, begun-whole, root-entry, value-found, value-none, sum-found}
@@ -113,7 +113,7 @@ turn-begun h links words at₀ stack₀ list₀ ready =
 
 module _ (h : Header) (links words : List ℕ) (at₀ : ℕ) (stack₀ list₀ : List ℕ) (k : ℕ) (stack list : List ℕ) (at left count : ℕ)
     (g : Turn h links words at₀ stack₀ list₀ k stack list at left count)
-    (stack′ : List ℕ) (r : WalkStep) (s : Handed (h .events) (h .threshold) words at stack left stack′ r) where
+    (stack′ : List ℕ) (r : WalkStep) (s : StepTaken (h .events) (h .threshold) words at stack left stack′ r) where
   abbrev T : Scenario → Topology
   T = topologyAfter intact (planOfLists h links words)
 

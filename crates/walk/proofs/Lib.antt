@@ -5,7 +5,7 @@ pub mod Dropped
 pub mod Branches
 pub mod Descents
 pub mod Resume
-pub mod Handing
+pub mod Stepping
 pub mod ScenarioLaws
 pub mod EndsLaws
 pub mod MemberLaws

@@ -24,7 +24,7 @@ use Rattle.walk.proofs.StackLaws.{root-ends, words-run, words-branch, m
 use Rattle.walk.proofs.Words.{laid-size, laid-words}
 use Rattle.walk.specs.Walk.{planEnds, complete}
 use Rattle.walk.specs.Stack.{Begun, SoundBranch, wordsEnds, stackEnds, toCome, pendingMass, SoundEntry, SoundEntries, Stack}
-use Rattle.walk.specs.Steps.{Handed}
+use Rattle.walk.specs.Steps.{StepTaken}
 use Rattle.walk.specs.declared.WalkStep.{WalkStep}
 
 -- ---- the beginning
@@ -144,7 +144,7 @@ drop-run zero k list = rw (zero-add k)
 drop-run (suc n) k list = rw (suc-add n k) (drop-run n k list)
 
 module _ (count threshold : ℕ) (words : List ℕ) (at : ℕ) (stack : List ℕ) (allowed : ℕ) (stack′ : List ℕ) (r : WalkStep)
-    (s : Handed count threshold words at stack allowed stack′ r) where
+    (s : StepTaken count threshold words at stack allowed stack′ r) where
   -- the ends to come before and after the step, and the end handed out
   abbrev before : List End
   before = toCome count threshold words at stack

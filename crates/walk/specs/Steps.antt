@@ -22,17 +22,17 @@ use Rattle.walk.specs.declared.WalkStep.{WalkStep}
 use Rattle.walk.specs.declared.Stop.{Stop}
 
 -- the scenario that a step hands out, with its mass; no end where it found none
-abbrev pub handedOut : ℕ → Bool → ℕ → ℕ → ℕ → List End
-handedOut count true mass low high = relevant (scenarioOf count (joined low high)) mass ∷ []
-handedOut count false mass low high = []
+abbrev pub foundEnds : ℕ → Bool → ℕ → ℕ → ℕ → List End
+foundEnds count true mass low high = relevant (scenarioOf count (joined low high)) mass ∷ []
+foundEnds count false mass low high = []
 
 -- A step, from a stack that begins at `at`, where so many ends as `allowed` may still be reached: the ends to come begin with `passed`
 -- dropped ones, then the one handed out; the ends then still to come, and how many may still be reached, are the rest. Where none is
 -- handed out, no more may be reached, or none is to come. The mass handed out comes off that of the pending branches.
-pub record Handed (count threshold : ℕ) (words : List ℕ) (at : ℕ) (stack : List ℕ) (allowed : ℕ) (stack′ : List ℕ) (r : WalkStep) : Type 0 where
+pub record StepTaken (count threshold : ℕ) (words : List ℕ) (at : ℕ) (stack : List ℕ) (allowed : ℕ) (stack′ : List ℕ) (r : WalkStep) : Type 0 where
   pub passed : ℕ
   pub ends : toCome count threshold words at stack
-      ≡ replicate passed dropped ++ (handedOut count (r .found) (r .mass) (r .low) (r .high) ++ toCome count threshold words (r .at) stack′)
+      ≡ replicate passed dropped ++ (foundEnds count (r .found) (r .mass) (r .low) (r .high) ++ toCome count threshold words (r .at) stack′)
   pub counted : allowed ≡ passed + (digit (r .found) + r .left)
   pub ended : r .found ≡ false → 0 < r .left → toCome count threshold words (r .at) stack′ ≡ []
   pub held : Stack count (r .at) stack′

@@ -18,7 +18,7 @@ ghost use mathlib.Core.List.{_++_};
 ghost use mathlib.Core.Bool.{false};
 ghost use Rattle.walk.specs.Pending.{branchEnds};
 ghost use Rattle.walk.specs.Stack.{branchOf, SoundBranch, toCome, pendingMass, Stack};
-ghost use Rattle.walk.specs.Steps.{Handed, TwoParts, Stopped, Pushed, Delayed, Descended, descentOf};
+ghost use Rattle.walk.specs.Steps.{StepTaken, TwoParts, Stopped, Pushed, Delayed, Descended, descentOf};
 
 // The first word of an entry that is a number of dropped ends, and no branch.
 const RUN: u64 = 129;
@@ -280,7 +280,7 @@ pub fn next_relevant(
     allowed: u64,
 ) -> WalkStep
     requires { ⌜ (count ≤ 128) × Falling certain (eventsOf count (now events)) × Stack count at (now stack) ⌝ }
-    ensures { λ r. ⌜ Handed count threshold (now (events .entry)) at (now (stack .entry)) allowed (now (stack .exit)) r ⌝ }
+    ensures { λ r. ⌜ StepTaken count threshold (now (events .entry)) at (now (stack .entry)) allowed (now (stack .exit)) r ⌝ }
 {
     let mut top = at;
     let mut left = allowed;

@@ -4,7 +4,7 @@ use borrow.Author.Needs.{needs}
 use native.Mathlib.Omega.{arith}
 use lib.ListN.{length}
 use Rattle.walk.specs.Stack.{toCome}
-use Rattle.walk.proofs.Handing.{Passing, starts, used-up, all-reached, further, fewer, hands}
+use Rattle.walk.proofs.Stepping.{Passing, starts, used-up, all-reached, further, fewer, finds}
 use Rattle.walk.proofs.ahead.next_relevant.Statement.{statement}
 use Rattle.walk.proofs.ahead.next_relevant.Tie as tie
 
@@ -35,7 +35,7 @@ returns-2 : tie.Need-returns-2 Inv-loop μ-loop
 returns-2 c =
     let two = c .before .before in
     let one = two .before .before .before in
-    hands _ _ _ _ _ _ _ _ _ (one .before .before .loop .inv) (one .if1 .left) _ _ (two .before .descend .ensures) (two .if2 .taken) _ _ (c .delay .ensures)
+    finds _ _ _ _ _ _ _ _ _ (one .before .before .loop .inv) (one .if1 .left) _ _ (two .before .descend .ensures) (two .if2 .taken) _ _ (c .delay .ensures)
 
 sub-delay : tie.Need-sub-delay Inv-loop μ-loop
 sub-delay c = omega (arith, c .before .reachable .ensures, c .before .before .before .before .before .if1 .left)

@@ -10,7 +10,7 @@ use lib.ListN.{length, drop, replicate, length-append, length-replicate}
 use lib.Pow.{pow-pos}
 use Rattle.walk.specs.Ends.{End, dropped}
 use Rattle.walk.specs.Stack.{toCome, pendingMass, Stack}
-use Rattle.walk.specs.Steps.{Handed, Delayed, Descended}
+use Rattle.walk.specs.Steps.{StepTaken, Delayed, Descended}
 use Rattle.walk.specs.declared.Descent.{Descent}
 use Rattle.walk.proofs.Dropped.{runs-add}
 use Rattle.walk.proofs.Resume.{none-to-come}
@@ -30,7 +30,7 @@ starts count threshold words allowed at stack s = record { passed = 0; ends = re
 module _ (count threshold : ℕ) (words : List ℕ) (at₀ : ℕ) (stack₀ : List ℕ) (allowed at left : ℕ) (stack : List ℕ)
     (g : Passing count threshold words at₀ stack₀ allowed at left stack) where
   -- no end may be reached any more
-  pub used-up : left ≡ 0 → Handed count threshold words at₀ stack₀ allowed stack (record { at = at; left = 0; found = false; mass = 0; low = 0; high = 0 })
+  pub used-up : left ≡ 0 → StepTaken count threshold words at₀ stack₀ allowed stack (record { at = at; left = 0; found = false; mass = 0; low = 0; high = 0 })
   used-up e =
       record {
         passed = g .passed;
@@ -45,7 +45,7 @@ module _ (count threshold : ℕ) (words : List ℕ) (at₀ : ℕ) (stack₀ : Li
       }
 
   -- no end is to come
-  pub all-reached : 512 ≤ at → Handed count threshold words at₀ stack₀ allowed stack (record { at = at; left = left; found = false; mass = 0; low = 0; high = 0 })
+  pub all-reached : 512 ≤ at → StepTaken count threshold words at₀ stack₀ allowed stack (record { at = at; left = left; found = false; mass = 0; low = 0; high = 0 })
   all-reached h =
       record {
         passed = g .passed;
@@ -95,9 +95,9 @@ module _ (count threshold : ℕ) (words : List ℕ) (at₀ : ℕ) (stack₀ : Li
       fewer = rw (parts, length-append, length-replicate passed dropped) (omega (arith, reached, some))
 
     -- to a relevant end: the dropped ones that follow it are laid down
-    pub hands : d .relevant ≡ true → (stack₂ : List ℕ) (top : ℕ) → Delayed (d .dropped) (d .at) stack₁ stack₂ top
-        → Handed count threshold words at₀ stack₀ allowed stack₂ (record { at = top; left = left - 1; found = true; mass = d .mass; low = d .low; high = d .high })
-    hands e stack₂ top laid =
+    pub finds : d .relevant ≡ true → (stack₂ : List ℕ) (top : ℕ) → Delayed (d .dropped) (d .at) stack₁ stack₂ top
+        → StepTaken count threshold words at₀ stack₀ allowed stack₂ (record { at = top; left = left - 1; found = true; mass = d .mass; low = d .low; high = d .high })
+    finds e stack₂ top laid =
         record {
           passed = g .passed;
           ends = g .ends ∙ ap (λ l. replicate (g .passed) dropped ++ l) (rw (laid .ahead count threshold words (s .held)) (rw e at (s .ends)));
