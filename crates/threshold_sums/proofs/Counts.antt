@@ -8,7 +8,7 @@ use native.Mathlib.Omega.{arith}
 use lib.ListN.{getD, set, length-set}
 use lib.Seq.{getD-set-same, getD-set-other}
 use Rattle.mass.specs.Split.{whole}
-use Rattle.threshold_walk.specs.Paths.{SharedWalk, pathEnds, handed}
+use Rattle.threshold_walk.specs.Paths.{SharedWalk, pathEnds, ownThenDropped}
 use Rattle.threshold_walk.specs.declared.WorksPath.{WorksPath}
 use Rattle.threshold_sums.specs.Walked.{PlaceNumbers, placeNumbers, numbersAt, Places, CountsFit, SamePlace, Counted, PathCounted, examinedBy}
 use Rattle.threshold_sums.proofs.Examined.{once}
@@ -31,7 +31,7 @@ counts-room k list path n₀ n i active g l fits one is =
     )
 
 module _ (k : SharedWalk) (list : List ℕ) (path : WorksPath) (n₀ n : PlaceNumbers) (i : ℕ) (g : PathCounted k list i path n₀ n) (few : i < 16)
-    (ends : ℕ) (are : pathEnds (k .count) (getD list i 0) (k .words) path ≡ handed (k .count) (getD list i 0) path ends)
+    (ends : ℕ) (are : pathEnds (k .count) (getD list i 0) (k .words) path ≡ ownThenDropped (k .count) (getD list i 0) path ends)
     (none : ends ≡ 0 → path .last < getD list i 0)
     (one : ℕ) (is : one ≡ examinedBy (getD list i 0) (getD (n .rooms) i 0) (path .last)) (left : ℕ) (rest : left ≡ getD (n .rooms) i 0 - ends) where
   abbrev n′ : PlaceNumbers

@@ -20,7 +20,7 @@ use Rattle.walk.proofs.EndsLaws.{take-append, sumEnds-append}
 use Rattle.pairs.specs.Pairs.{place}
 use Rattle.pairs.proofs.Row.{at-most}
 use Rattle.bounds.specs.Bounds.{cuts}
-use Rattle.threshold_walk.specs.Paths.{handed}
+use Rattle.threshold_walk.specs.Paths.{ownThenDropped}
 use Rattle.threshold_walk.specs.declared.WorksPath.{WorksPath}
 use Rattle.threshold_sums.specs.Walked.{OwnNumbers, CountedSoFar, HoldsAnswers, examinedBy}
 use Rattle.threshold_sums.proofs.Examined.{not-met, no-room, with-room}
@@ -48,19 +48,19 @@ module _ (events t : ℕ) (path : WorksPath) where
   end-sum f list (yes h) = rw (lt-leb t (path .last) h) (omega arith)
   end-sum f list (no h) = rw (le-leb t (path .last) (omega arith)) (omega arith)
 
-  handed-long : (k : ℕ) → length (handed events t path k) ≡ k
-  handed-long zero = refl
-  handed-long (suc k) = ap suc (length-replicate k dropped)
+  own-long : (k : ℕ) → length (ownThenDropped events t path k) ≡ k
+  own-long zero = refl
+  own-long (suc k) = ap suc (length-replicate k dropped)
 
   -- the ends that may be reached with room: those of the path, and those after them
   module _ (room count : ℕ) (none : count ≡ 0 → path .last < t) (list : List End) where
     sum-step : (f : Scenario → ℕ → ℕ)
-        → sumEnds f (take (room - 1) (handed events t path count ++ list))
+        → sumEnds f (take (room - 1) (ownThenDropped events t path count ++ list))
         ≡ f scenario (path .last) * examinedBy t room (path .last) + sumEnds f (take (room - count - 1) list)
     sum-step f = go count refl (decLt room 2)
       where
         go : (k : ℕ) → count ≡ k → Dec (room < 2)
-            → sumEnds f (take (room - 1) (handed events t path k ++ list))
+            → sumEnds f (take (room - 1) (ownThenDropped events t path k ++ list))
             ≡ f scenario (path .last) * examinedBy t room (path .last) + sumEnds f (take (room - k - 1) list)
         go zero e d =
             let same : room - 1 ≡ room - 0 - 1 = omega arith in
@@ -77,22 +77,22 @@ module _ (events t : ℕ) (path : WorksPath) where
             ∙ omega (arith, sum-past f (room - 2) k list, ap (λ (m : ℕ). sumEnds f (take m list)) rest))
 
     -- and whether fewer are to come than the room says
-    fewer-step : ltb (length (handed events t path count ++ list)) room ≡ ltb (length list) (room - count)
+    fewer-step : ltb (length (ownThenDropped events t path count ++ list)) room ≡ ltb (length list) (room - count)
     fewer-step = go (decLt (length list) (room - count))
       where
-        long : length (handed events t path count ++ list) ≡ count + length list
-        long = length-append (handed events t path count) list ∙ ap (λ (n : ℕ). n + length list) (handed-long count)
+        long : length (ownThenDropped events t path count ++ list) ≡ count + length list
+        long = length-append (ownThenDropped events t path count) list ∙ ap (λ (n : ℕ). n + length list) (own-long count)
 
-        go : Dec (length list < room - count) → ltb (length (handed events t path count ++ list)) room ≡ ltb (length list) (room - count)
+        go : Dec (length list < room - count) → ltb (length (ownThenDropped events t path count ++ list)) room ≡ ltb (length list) (room - count)
         go (yes h) =
-            lt-ltb (length (handed events t path count ++ list)) room (omega (arith, long)) ∙ sym (lt-ltb (length list) (room - count) h)
+            lt-ltb (length (ownThenDropped events t path count ++ list)) room (omega (arith, long)) ∙ sym (lt-ltb (length list) (room - count) h)
         go (no h) =
-            le-ltb (length (handed events t path count ++ list)) room (omega (arith, long)) ∙ sym (le-ltb (length list) (room - count) (omega arith))
+            le-ltb (length (ownThenDropped events t path count ++ list)) room (omega (arith, long)) ∙ sym (le-ltb (length list) (room - count) (omega arith))
 
 -- ---- what was counted so far for one threshold
 
 module _ (p : Plan) (events t : ℕ) (path : WorksPath) (coming coming′ : List End) (o : OwnNumbers) (block : ℕ) (lower : List ℕ)
-    (g : CountedSoFar p coming o block lower) (k : ℕ) (none : k ≡ 0 → path .last < t) (split : coming ≡ handed events t path k ++ coming′) where
+    (g : CountedSoFar p coming o block lower) (k : ℕ) (none : k ≡ 0 → path .last < t) (split : coming ≡ ownThenDropped events t path k ++ coming′) where
   abbrev one : ℕ
   one = examinedBy t (o .room) (path .last)
 

@@ -28,7 +28,7 @@ use Rattle.pairs.specs.Pairs.{place, pairCount}
 use Rattle.pairs.proofs.PairLaws.{place-lt}
 use Rattle.bounds.specs.Bounds.{cuts}
 use Rattle.threshold_walk.specs.Stack.{sharedToCome, SharedStack}
-use Rattle.threshold_walk.specs.Paths.{sharedWalk, pathEnds, handed, PathTaken}
+use Rattle.threshold_walk.specs.Paths.{sharedWalk, pathEnds, ownThenDropped, PathTaken}
 use Rattle.threshold_walk.specs.declared.WorksPath.{WorksPath}
 use Rattle.threshold_walk.proofs.Counting.{all-of}
 use Rattle.threshold_walk.proofs.Resume.{begun-stack, begun-ends, none-to-come}
@@ -65,8 +65,8 @@ module _ (ps : Plans) (active : ℕ) (f : FallingFirst active (ps .list)) (held 
     (t : PathTaken (sharedWalk (ps .header .events) (getD (ps .list) (active - 1) 0) (ps .words)) at stack stack′ path) where
   -- the ends to come of a threshold are those of the path, and those then to come
   split : (i : ℕ) → i < active → (k : ℕ)
-      → pathEnds (ps .header .events) (getD (ps .list) i 0) (ps .words) path ≡ handed (ps .header .events) (getD (ps .list) i 0) path k
-      → coming ps i at stack ≡ handed (ps .header .events) (getD (ps .list) i 0) path k ++ coming ps i (path .at) stack′
+      → pathEnds (ps .header .events) (getD (ps .list) i 0) (ps .words) path ≡ ownThenDropped (ps .header .events) (getD (ps .list) i 0) path k
+      → coming ps i at stack ≡ ownThenDropped (ps .header .events) (getD (ps .list) i 0) path k ++ coming ps i (path .at) stack′
   split i l k are =
       t .ends (getD (ps .list) i 0) (lowest-least active (ps .list) f i l) ∙ ap (λ (x : List End). x ++ coming ps i (path .at) stack′) are
 

@@ -18,7 +18,7 @@ use Rattle.walk.specs.Walk.{count, complete, massExamined}
 use Rattle.pairs.specs.Pairs.{place, pairCount}
 use Rattle.bounds.specs.Bounds.{cuts, lowerOf}
 use Rattle.threshold_walk.specs.Stack.{sharedToCome}
-use Rattle.threshold_walk.specs.Paths.{SharedWalk, pathEnds, handed}
+use Rattle.threshold_walk.specs.Paths.{SharedWalk, pathEnds, ownThenDropped}
 use Rattle.threshold_walk.specs.declared.WorksPath.{WorksPath}
 
 -- a header with another threshold
@@ -135,7 +135,7 @@ SamePlace n n′ i =
 -- what one path counts for one threshold: its ends come off the room, and its scenario is counted where it is examined
 pub record Counted (k : SharedWalk) (t : ℕ) (path : WorksPath) (o o′ : OwnNumbers) : Type 0 where
   pub ends : ℕ
-  pub are : pathEnds (k .count) t (k .words) path ≡ handed (k .count) t path ends
+  pub are : pathEnds (k .count) t (k .words) path ≡ ownThenDropped (k .count) t path ends
   pub none : ends ≡ 0 → path .last < t
   pub left : o′ .room ≡ o .room - ends
   pub counted : o′ .count ≡ o .count + examinedBy t (o .room) (path .last)

@@ -16,7 +16,7 @@ use Rattle.walk.specs.Pending.{Branch}
 use Rattle.walk.specs.Stack.{branchOf}
 use Rattle.walk.specs.Steps.{Stopped, endOf}
 use Rattle.walk.specs.declared.Stop.{Stop}
-use Rattle.threshold_walk.specs.Paths.{sharedWalk, FailsBelow, pathEnds, SoundPath, handed}
+use Rattle.threshold_walk.specs.Paths.{sharedWalk, FailsBelow, pathEnds, SoundPath, ownThenDropped}
 use Rattle.threshold_walk.specs.declared.WorksPath.{WorksPath}
 use Rattle.threshold_walk.proofs.Stops.{path-shared, path-below, entry-none, entry-some, branch-cut, probables, branch-path}
 
@@ -26,11 +26,11 @@ module _ (count lowest t : ℕ) (words : List ℕ) (falls : Falling certain (eve
   here = branchOf (path .depth) (path .mass) (path .low) (path .high)
 
   -- the walk does not come to it
-  pub none-of : path .parent < t → pathEnds count t words path ≡ handed count t path 0
+  pub none-of : path .parent < t → pathEnds count t words path ≡ ownThenDropped count t path 0
   none-of h = entry-none (path .parent) t (eventsOf count words) here h
 
   -- it is dropped before the "fails" sides are
-  pub one-of : t ≤ path .parent → path .mass < t → pathEnds count t words path ≡ handed count t path 1
+  pub one-of : t ≤ path .parent → path .mass < t → pathEnds count t words path ≡ ownThenDropped count t path 1
   one-of h c =
       rw (
         entry-some (path .parent) t (eventsOf count words) here h,
@@ -51,7 +51,7 @@ module _ (count lowest t : ℕ) (words : List ℕ) (falls : Falling certain (eve
         ∙ branch-path count words falls t (path .depth) (path .mass) (path .low) (path .high) (s .deep) (s .decided) enough fails-below end stops
 
     -- it is the path of the lowest threshold
-    pub all-of : t ≤ path .last → pathEnds count t words path ≡ handed count t path (path .stop - path .depth + 1)
+    pub all-of : t ≤ path .last → pathEnds count t words path ≡ ownThenDropped count t path (path .stop - path .depth + 1)
     all-of h =
         rw (add-one (path .stop - path .depth))
         (stopped-at (record { depth = path .stop; mass = path .last })
@@ -67,7 +67,7 @@ module _ (count lowest t : ℕ) (words : List ℕ) (falls : Falling certain (eve
 
     -- it is a path of its own, and is dropped
     pub own-of : path .last < t → (end : Stop) → Stopped count t words (path .depth) (path .mass) end
-        → pathEnds count t words path ≡ handed count t path (end .depth - path .depth + 1)
+        → pathEnds count t words path ≡ ownThenDropped count t path (end .depth - path .depth + 1)
     own-of h end stops =
         let below : end .mass < t =
         omega (arith, stops .stops, path-below lowest t (path .mass) (drop (path .depth) (eventsOf count words)) l (omega (arith, s .stops .stops))) in

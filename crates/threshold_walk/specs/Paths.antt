@@ -78,7 +78,7 @@ pub record PathTaken (k : SharedWalk) (at : ℕ) (stack stack′ : List ℕ) (r 
   pub sound : SoundPath k r
   pub fewer : leftToTake k (r .at) stack′ < leftToTake k at stack
 
--- `number` ends of a path: its own, relevant where the mass where it stops is at least t, then dropped ones
-abbrev pub handed : ℕ → ℕ → WorksPath → ℕ → List End
-handed count t r zero = []
-handed count t r (suc number) = endOf count (leb t (r .last)) (r .last) (r .low) (r .high) ∷ replicate number dropped
+-- so many ends of a path as the last number says: its own, relevant where the mass where it stops is at least t, then dropped ones
+abbrev pub ownThenDropped : ℕ → ℕ → WorksPath → ℕ → List End
+ownThenDropped count t r zero = []
+ownThenDropped count t r (suc more) = endOf count (leb t (r .last)) (r .last) (r .low) (r .high) ∷ replicate more dropped

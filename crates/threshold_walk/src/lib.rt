@@ -12,7 +12,7 @@ ghost use Rattle.sets.specs.Sets.{joined};
 ghost use Rattle.plan.specs.Lists.{eventsOf};
 ghost use Rattle.plan.specs.Held.{Falling};
 ghost use Rattle.threshold_walk.specs.Stack.{SoundShared, SharedStack};
-ghost use Rattle.threshold_walk.specs.Paths.{sharedWalk, SharedPushed, Halted, SoundPath, PathTaken, pathEnds, handed};
+ghost use Rattle.threshold_walk.specs.Paths.{sharedWalk, SharedPushed, Halted, SoundPath, PathTaken, pathEnds, ownThenDropped};
 
 // A pending branch, as it stands in five words of the stack: how many events are decided, the mass, the failing events, and the mass before
 // the last event.
@@ -199,7 +199,7 @@ pub fn next_path(
 pub fn ends_of(count: u64, lowest: u64, threshold: u64, events: &[u64; 512], path: WorksPath) -> u64
     requires { ⌜ (count ≤ 128) × Falling certain (eventsOf count (now events)) × (lowest ≤ threshold)
         × SoundPath (sharedWalk count lowest (now events)) path ⌝ }
-    ensures { λ r. ⌜ (pathEnds count threshold (now (events .entry)) path ≡ handed count threshold path r)
+    ensures { λ r. ⌜ (pathEnds count threshold (now (events .entry)) path ≡ ownThenDropped count threshold path r)
         × (r ≡ 0 → path .last < threshold) ⌝ }
 {
     if path.parent < threshold {
