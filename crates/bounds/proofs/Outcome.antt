@@ -16,7 +16,7 @@ use Rattle.plan.specs.LentLists.{Lent, planRefusal, planOfLists, listsNumber}
 use Rattle.plan.specs.Calls.{filled}
 use Rattle.plan.specs.declared.Header.{Header}
 use Rattle.plan.proofs.FilledLaws.{filled-none}
-use Rattle.lent.specs.Taken.{Taken}
+use Rattle.plan_lists.specs.Taken.{Taken}
 use Rattle.network.specs.Outage.{Outage}
 use Rattle.walk.specs.Walk.{massExamined, count}
 use Rattle.pairs.specs.BoundsFit.{BoundsFit}

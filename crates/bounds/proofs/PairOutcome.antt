@@ -10,8 +10,8 @@ use Rattle.refusals.proofs.OrderLaws.{stop, skip, last}
 use Rattle.plan.specs.Plan.{Plan}
 use Rattle.plan.specs.LentLists.{planRefusal, planOfLists, inWords, listsNumber}
 use Rattle.plan.specs.declared.Header.{Header}
-use Rattle.lent.specs.Taken.{Taken}
-use Rattle.lent.proofs.Accepted.{plan-held}
+use Rattle.plan_lists.specs.Taken.{Taken}
+use Rattle.plan_lists.proofs.Accepted.{plan-held}
 use Rattle.network.specs.Outage.{intact}
 use Rattle.walk.specs.Walk.{count}
 use Rattle.pairs.specs.BoundsFit.{BoundsFit}

@@ -11,7 +11,7 @@ ghost use Prim.Native.Nat.{_+_, _-_, _<_};
 ghost use lib.ListN.{getD};
 ghost use Rattle.mass.specs.Split.{whole};
 ghost use Rattle.plan.specs.LentLists.{planRefusal, planOfLists, inWords};
-ghost use Rattle.lent.specs.Taken.{Taken};
+ghost use Rattle.plan_lists.specs.Taken.{Taken};
 ghost use Rattle.network.specs.Outage.{intact};
 ghost use Rattle.walk.specs.Walk.{count};
 ghost use Rattle.pairs.specs.Pairs.{place};
@@ -47,7 +47,7 @@ pub fn accept_pair(
     ensures accepted { λ r. ⌜ (r ≡ 0 → Taken h (now (links .entry)) (now (events .entry)) (now (bytes .exit)) (now (words .exit))
         × ((v < w) × (w < h .nodes))) ⌝ }
 {
-    let lists = lent::accept(h, links, events, bytes, words);
+    let lists = plan_lists::accept(h, links, events, bytes, words);
     if lists != 0 {
         return lists;
     }

@@ -15,7 +15,7 @@ ghost use Rattle.mass.specs.Refusal.{first};
 ghost use Rattle.refusals.specs.Tests.{roomTest};
 ghost use Rattle.plan.specs.LentLists.{planRefusal, planOfLists, inWords};
 ghost use Rattle.plan.specs.Calls.{filled};
-ghost use Rattle.lent.specs.Taken.{Taken};
+ghost use Rattle.plan_lists.specs.Taken.{Taken};
 ghost use Rattle.network.specs.Outage.{intact};
 ghost use Rattle.network.specs.Code.{outage};
 ghost use Rattle.pairs.specs.Pairs.{pairCount};
@@ -48,7 +48,7 @@ fn accept_run(
     ensures accepted { λ r. ⌜ (r ≡ 0 → Taken h (now (links .entry)) (now (events .entry)) (now (bytes .exit)) (now (words .exit))
         × ((pairCount (h .nodes) ≤ «lower_room») × (pairCount (h .nodes) ≤ «upper_room»))) ⌝ }
 {
-    let lists = lent::accept(h, links, events, bytes, words);
+    let lists = plan_lists::accept(h, links, events, bytes, words);
     if lists != 0 {
         return lists;
     }

@@ -14,13 +14,13 @@ use Rattle.plan.specs.declared.Header.{Header}
 use Rattle.plan.specs.declared.Reading.{Reading}
 use Rattle.plan.specs.declared.Writing.{Writing}
 use Rattle.plan.specs.declared.Writing.the-variants as writing
-use Rattle.layout.proofs.Theorems.{read-writes-again}
-use Rattle.writer.proofs.WriterAnswer.{Outcome}
-use Rattle.records.specs.Events.{wordsOf, inRecords}
-use Rattle.records.specs.declared.Event.{Event}
-use Rattle.reader.specs.Filled.{eventRecords, filledRecords}
-use Rattle.files.proofs.ReaderLawsAnswer.{full-rooms}
-use Rattle.reader.proofs.WholeLists.{no-links, no-events, read-links, read-events, same-plan, lists-pass}
+use Rattle.plan_layout.proofs.Theorems.{read-writes-again}
+use Rattle.plan_writing.proofs.WriterAnswer.{Outcome}
+use Rattle.record_lists.specs.Events.{wordsOf, inRecords}
+use Rattle.record_lists.specs.declared.Event.{Event}
+use Rattle.record_reading.specs.Filled.{eventRecords, filledRecords}
+use Rattle.plan_reading.proofs.ReaderLawsAnswer.{full-rooms}
+use Rattle.record_reading.proofs.WholeLists.{no-links, no-events, read-links, read-events, same-plan, lists-pass}
 use Rattle.copying.specs.Copying.{copyNumber, copyAnswer}
 
 -- an answer of a copy, with what it leaves in the output

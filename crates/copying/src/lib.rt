@@ -2,9 +2,9 @@
 // Assumes nothing.
 use plan::Reading;
 use plan::Writing;
-use reader::read_records;
-use records::Event;
-use records::write_records;
+use record_lists::Event;
+use record_lists::write_records;
+use record_reading::read_records;
 ghost use mathlib.Core.Path.{_≡_};
 ghost use lib.ListN.{length};
 ghost use Rattle.plan.specs.Calls.{filled, writeAnswer, writtenNumber};
@@ -33,7 +33,7 @@ pub fn copy_plan(s: &[u8], out: &mut [u8]) -> Writing
         links_high: 0,
     }; 128];
     let answer = read_records(s, &mut links, &mut events);
-    let header = files::header_in(answer);
+    let header = plan_reading::header_in(answer);
     let written = write_records(header, &links, &events, out);
     answer_of(answer, written)
 }

@@ -1,14 +1,14 @@
 // The credit of a pair with its answer as numbers, for the export of crate `probe`: the number of the refusal, or 0, is returned, and the
 // values are laid down in a lent list, as far as it has room.
 // Assumes nothing.
-use answers::give_three;
 use credits::Credited;
+use host_answers::give_three;
 use plan::Header;
 ghost use mathlib.Core.Path.{_≡_};
 ghost use Rattle.plan.specs.LentLists.{inWords};
 ghost use Rattle.network.specs.Outage.{intact};
 ghost use Rattle.credits.specs.Credit.{creditedNumber, creditNumber, creditOf};
-ghost use Rattle.answers.specs.Laid.{laid};
+ghost use Rattle.host_answers.specs.Laid.{laid};
 ghost use Rattle.credit_answers.specs.CreditAnswers.{wordOf, creditsValues};
 
 // A signed number as an unsigned one: 2^64 is added where it is negative, so that −(k + 1) is k less than 2^64 − 1.

@@ -14,9 +14,9 @@ use Rattle.plan.specs.Calls.{filled, headerOf, readNumber, readAnswer}
 use Rattle.plan.specs.declared.Header.{Header}
 use Rattle.plan.specs.declared.Reading.the-variants as reading
 use Rattle.plan.proofs.FileLawsAccepted.{accepted-counts}
-use Rattle.layout.proofs.LayoutFile.{ValidPlan, file-none, read-valid, valid-pass}
-use Rattle.layout.proofs.Theorems.{read-denotes}
-use Rattle.files.proofs.ReaderLawsAnswer.{full-rooms, length-links, length-events}
+use Rattle.plan_layout.proofs.LayoutFile.{ValidPlan, file-none, read-valid, valid-pass}
+use Rattle.plan_layout.proofs.Theorems.{read-denotes}
+use Rattle.plan_reading.proofs.ReaderLawsAnswer.{full-rooms, length-links, length-events}
 use Rattle.input.specs.Loaded.{Loaded}
 
 -- a list whose elements are below 256

@@ -16,5 +16,5 @@ pub fn read_input(s: &[u8], links: &mut [u8; 256], words: &mut [u64; 512]) -> Re
     ensures words { λ r. ⌜ now (words .exit) ≡ filled (refusal (now (s .entry))) (eventWords ((planOf (now (s .entry))) .events)) (now (words .entry)) ⌝ }
     ensures loaded { λ r. ⌜ (refusal (now (s .entry)) ≡ 0 → Loaded (now (s .entry)) (now (links .exit)) (now (words .exit))) ⌝ }
 {
-    files::read_core(s, 256, 128, links, words)
+    plan_reading::read_core(s, 256, 128, links, words)
 }

@@ -10,7 +10,7 @@ use Rattle.sets.proofs.Laws.{bit-none}
 use Rattle.sets.proofs.Bools.{and-left, and-right, and-both, same-bool}
 use Rattle.plan.specs.Plan.{Link}
 use Rattle.plan.specs.Lists.{linksOf}
-use Rattle.layout.proofs.ListLaws.{length-links-of}
+use Rattle.plan_layout.proofs.ListLaws.{length-links-of}
 use Rattle.network.specs.Outage.{Outage}
 use Rattle.network.specs.Topology.{networkOf, linkWorks, hasEnds, joins, adjacent}
 use Rattle.network.proofs.Works.{adjacent-link, link-adjacent, link-below}

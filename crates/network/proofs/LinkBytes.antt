@@ -8,7 +8,7 @@ use lib.ListN.{getD, drop}
 use lib.Seq.{getD-drop}
 use Rattle.plan.specs.Plan.{Link, linkAt}
 use Rattle.plan.specs.Lists.{linksOf}
-use Rattle.layout.proofs.ListLaws.{length-links-of}
+use Rattle.plan_layout.proofs.ListLaws.{length-links-of}
 use Rattle.plan.specs.Held.{EndsBelow}
 use Rattle.network.specs.Table.{linkIn}
 

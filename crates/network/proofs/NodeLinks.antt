@@ -15,7 +15,7 @@ use Rattle.sets.specs.Sets.{bit, joined}
 use Rattle.sets.proofs.Laws.{bit-none, bit-past, bit-joined-low, bit-joined-high}
 use Rattle.sets.proofs.Bools.{not-so, same-bool, and-left, and-right, and-both, or-either, or-left, or-right, any-found, any-here}
 use Rattle.plan.specs.Lists.{linksOf}
-use Rattle.layout.proofs.ListLaws.{length-links-of}
+use Rattle.plan_layout.proofs.ListLaws.{length-links-of}
 use Rattle.network.specs.Outage.{Outage}
 use Rattle.network.specs.Topology.{networkOf, nodeWorks, linkWorks}
 use Rattle.plan.specs.Held.{LinksHeld}

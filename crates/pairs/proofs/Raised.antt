@@ -8,7 +8,7 @@ use native.Mathlib.Numerals.{add-one}
 use native.Mathlib.Omega.{arith}
 use lib.ListN.{length, getD, take, drop, set, replicate, length-map, length-drop, length-replicate, replicate-append-replicate}
 use lib.Seq.{sets, take-suc, length-take-le, getD-drop}
-use Rattle.lent.proofs.ListLaws.{sets-append}
+use Rattle.plan_lists.proofs.ListLaws.{sets-append}
 
 -- one entry more
 pub raise-next : (from to out : List ℕ) (start rest i : ℕ) → out ≡ sets to start (map (λ x. rest + x) (take i (drop start from)))

@@ -9,7 +9,7 @@ use lib.Seq.{sets}
 use Rattle.mass.specs.Split.{whole}
 use Rattle.plan.specs.LentLists.{planOfLists}
 use Rattle.plan.specs.declared.Header.{Header}
-use Rattle.lent.specs.Taken.{Taken}
+use Rattle.plan_lists.specs.Taken.{Taken}
 use Rattle.network.specs.Outage.{intact}
 use Rattle.walk.specs.Walk.{planEnds}
 use Rattle.walk.specs.Stack.{Begun}

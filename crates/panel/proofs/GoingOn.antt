@@ -11,7 +11,7 @@ use Rattle.sets.specs.Sets.{digit}
 use Rattle.plan.specs.Plan.{Plan}
 use Rattle.plan.specs.Held.{Held}
 use Rattle.plan.specs.LentLists.{planOfLists}
-use Rattle.lent.proofs.Accepted.{plan-held, plan-cap-small}
+use Rattle.plan_lists.proofs.Accepted.{plan-held, plan-cap-small}
 use Rattle.network.specs.Outage.{intact}
 use Rattle.walk.specs.Scenario.{Scenario}
 use Rattle.walk.specs.Ends.{End, sumEnds}

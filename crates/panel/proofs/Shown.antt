@@ -13,7 +13,7 @@ use Rattle.sets.specs.Sets.{digit}
 use Rattle.sets.proofs.Bools.{and-left, and-right}
 use Rattle.plan.specs.Plan.{Plan}
 use Rattle.plan.specs.LentLists.{planOfLists}
-use Rattle.lent.proofs.Accepted.{plan-held}
+use Rattle.plan_lists.proofs.Accepted.{plan-held}
 use Rattle.network.specs.Outage.{intact}
 use Rattle.walk.specs.Walk.{complete}
 use Rattle.walk.proofs.Resume.{complete-at}

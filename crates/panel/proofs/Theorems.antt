@@ -16,7 +16,7 @@ use Rattle.sets.specs.Sets.{digit}
 use Rattle.refusals.proofs.TestLaws.{or-none}
 use Rattle.plan.specs.Plan.{Plan}
 use Rattle.plan.specs.LentLists.{planRefusal, planOfLists}
-use Rattle.layout.proofs.LayoutFile.{valid-none, valid-pass}
+use Rattle.plan_layout.proofs.LayoutFile.{valid-none, valid-pass}
 use Rattle.network.specs.Outage.{intact}
 use Rattle.walk.specs.Ends.{End, dropped, relevant, sumEnds, scenarios, weighed}
 use Rattle.walk.specs.Walk.{planEnds, firstEnds, count, complete}

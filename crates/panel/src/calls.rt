@@ -27,7 +27,7 @@ pub fn begin(h: Header, links: &[u8], events: &[u64]) -> WalkAnswer
 {
     let mut bytes = [0u8; 256];
     let mut words = [0u64; 512];
-    let number = lent::accept(h, links, events, &mut bytes, &mut words);
+    let number = plan_lists::accept(h, links, events, &mut bytes, &mut words);
     if number != 0 {
         return WalkAnswer {
             number,

@@ -31,12 +31,12 @@
 // The seven relevant ones have 252 + 63 + 84 + 108 + 168 + 56 + 72 = 803, the seven dropped ones 21 + 27 + 45 + 42 + 14 + 18 + 30 = 197.
 use panel::GoneOn;
 use panel::Quota;
-use panel_vectors::after;
-use panel_vectors::answered;
-use panel_vectors::bounds;
-use panel_vectors::totals;
-use vectors::header;
-use vectors::same;
+use trials_panel_vectors::after;
+use trials_panel_vectors::answered;
+use trials_panel_vectors::bounds;
+use trials_panel_vectors::totals;
+use trials_vectors::header;
+use trials_vectors::same;
 use walk_state::Walk;
 ghost use mathlib.Core.Path.{_≡_};
 ghost use lib.ListN.{getD};

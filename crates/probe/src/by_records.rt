@@ -8,8 +8,8 @@ ghost use Rattle.bounds.specs.Bounds.{lowerList, upperList};
 ghost use Rattle.bounds.specs.Calls.{totalsOf, ranAnswer};
 ghost use Rattle.copying.specs.Copying.{copyNumber};
 ghost use Rattle.record_runs.specs.Running.{fileNumber};
-ghost use Rattle.answers.specs.Laid.{laid};
-ghost use Rattle.answers.specs.Answers.{sizeValues, totalsValues};
+ghost use Rattle.host_answers.specs.Laid.{laid};
+ghost use Rattle.host_answers.specs.Answers.{sizeValues, totalsValues};
 
 #[no_mangle]
 pub extern "C" fn probe_run_plan(
@@ -24,7 +24,7 @@ pub extern "C" fn probe_run_plan(
     ensures result { λ r. ⌜ now (result .exit) ≡ laid
         (totalsValues (ranAnswer r (totalsOf (planOf (now (plan .entry)))))) (now (result .entry)) ⌝ }
 {
-    answers::give_totals(record_runs::run_plan(plan, lower, upper), result)
+    host_answers::give_totals(record_runs::run_plan(plan, lower, upper), result)
 }
 
 #[no_mangle]
@@ -33,5 +33,5 @@ pub extern "C" fn probe_copy_plan(plan: &[u8], out: &mut [u8], size: &mut [u64])
     ensures out { λ r. ⌜ now (out .exit) ≡ filled r (now (plan .entry)) (now (out .entry)) ⌝ }
     ensures size { λ r. ⌜ now (size .exit) ≡ laid (sizeValues (writeAnswer r (length (now (plan .entry))))) (now (size .entry)) ⌝ }
 {
-    answers::give_size(copying::copy_plan(plan, out), size)
+    host_answers::give_size(copying::copy_plan(plan, out), size)
 }

@@ -3,14 +3,14 @@ ghost use mathlib.Core.Path.{_≡_};
 ghost use Rattle.plan.specs.Calls.{filled};
 ghost use Rattle.sheets.specs.SheetFile.{sheetRefusal};
 ghost use Rattle.sheets.specs.SheetCalls.{countsOf, readSheetNumber, readSheetAnswer, sheetWords};
-ghost use Rattle.answers.specs.Laid.{laid};
-ghost use Rattle.sheet_answers.specs.SheetAnswers.{countsValues};
+ghost use Rattle.host_answers.specs.Laid.{laid};
+ghost use Rattle.host_sheets.specs.SheetAnswers.{countsValues};
 
 #[no_mangle]
 pub extern "C" fn probe_check_sheet(sheet: &[u8]) -> u32
     ensures { λ r. ⌜ r ≡ sheetRefusal (now (sheet .entry)) ⌝ }
 {
-    sheet_answers::check(sheet)
+    host_sheets::check(sheet)
 }
 
 #[no_mangle]
@@ -20,7 +20,7 @@ pub extern "C" fn probe_sheet(sheet: &[u8], events: &mut [u64], counts: &mut [u6
     ensures counts { λ r. ⌜ now (counts .exit) ≡ laid
         (countsValues (readSheetAnswer r (countsOf (now (sheet .entry))))) (now (counts .entry)) ⌝ }
 {
-    sheet_answers::read(sheet, events, counts)
+    host_sheets::read(sheet, events, counts)
 }
 
 #[no_mangle]
@@ -30,5 +30,5 @@ pub extern "C" fn probe_sheet_records(sheet: &[u8], events: &mut [u64], counts: 
     ensures counts { λ r. ⌜ now (counts .exit) ≡ laid
         (countsValues (readSheetAnswer r (countsOf (now (sheet .entry))))) (now (counts .entry)) ⌝ }
 {
-    sheet_answers::read_by_records(sheet, events, counts)
+    host_sheets::read_by_records(sheet, events, counts)
 }

@@ -8,9 +8,9 @@ ghost use Rattle.readings.specs.Figure.{figureOf};
 ghost use Rattle.readings.specs.Witness.{witnessNumber, witnessOf};
 ghost use Rattle.readings.specs.Downtime.{downtimeAnswer, downtimeRefusal, secondsOf};
 ghost use Rattle.credits.specs.Credit.{creditNumber, creditOf};
-ghost use Rattle.answers.specs.Laid.{laid};
-ghost use Rattle.answers.specs.Answers.{headerWith};
-ghost use Rattle.further_answers.specs.FurtherAnswers.{figureValues, secondsValues, failingValues};
+ghost use Rattle.host_answers.specs.Laid.{laid};
+ghost use Rattle.host_answers.specs.Answers.{headerWith};
+ghost use Rattle.host_readings.specs.FurtherAnswers.{figureValues, secondsValues, failingValues};
 ghost use Rattle.credit_answers.specs.CreditAnswers.{creditsValues};
 
 #[no_mangle]
@@ -33,7 +33,7 @@ pub extern "C" fn probe_figure(
         (now (bits .entry)) ⌝ }
 {
     let h = header(nodes, links_count, events_count, threshold, cap);
-    further_answers::give_figure(readings::figure(h, links, events, v, w), bits)
+    host_readings::give_figure(readings::figure(h, links, events, v, w), bits)
 }
 
 #[no_mangle]
@@ -56,7 +56,7 @@ pub extern "C" fn probe_witness(
         (now (result .entry)) ⌝ }
 {
     let h = header(nodes, links_count, events_count, threshold, cap);
-    further_answers::give_failing(readings::witness(h, links, events, v, w), result)
+    host_readings::give_failing(readings::witness(h, links, events, v, w), result)
 }
 
 #[no_mangle]
@@ -65,7 +65,7 @@ pub extern "C" fn probe_downtime(lower: u64, upper: u64, result: &mut [u64]) -> 
     ensures result { λ r. ⌜ now (result .exit) ≡ laid
         (secondsValues (downtimeAnswer r (secondsOf lower upper))) (now (result .entry)) ⌝ }
 {
-    further_answers::downtime(lower, upper, result)
+    host_readings::downtime(lower, upper, result)
 }
 
 #[no_mangle]

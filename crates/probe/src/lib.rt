@@ -23,14 +23,14 @@ ghost use Rattle.plan.specs.Calls.{filled, headerOf, readNumber, readAnswer, wr
 ghost use Rattle.network.specs.Outage.{intact};
 ghost use Rattle.bounds.specs.Bounds.{lowerList, upperList};
 ghost use Rattle.bounds.specs.Calls.{totalsOf, ranAnswer, runNumber, boundsOf, pairAnswer, pairNumber};
-ghost use Rattle.answers.specs.Laid.{laid};
-ghost use Rattle.answers.specs.Answers.{headerWith, headerValues, sizeValues, totalsValues, boundsValues};
+ghost use Rattle.host_answers.specs.Laid.{laid};
+ghost use Rattle.host_answers.specs.Answers.{headerWith, headerValues, sizeValues, totalsValues, boundsValues};
 
 #[no_mangle]
 pub extern "C" fn probe_check(plan: &[u8]) -> u32
     ensures { λ r. ⌜ r ≡ refusal (now (plan .entry)) ⌝ }
 {
-    run_answers::check(plan)
+    host_runs::check(plan)
 }
 
 #[no_mangle]
@@ -47,7 +47,7 @@ pub extern "C" fn probe_read(
     ensures links { λ r. ⌜ now (links .exit) ≡ filled r (linkBytes (planOf (now (plan .entry)) .links)) (now (links .entry)) ⌝ }
     ensures events { λ r. ⌜ now (events .exit) ≡ filled r (eventWords (planOf (now (plan .entry)) .events)) (now (events .entry)) ⌝ }
 {
-    answers::give_header(files::read(plan, links, events), numbers)
+    host_answers::give_header(plan_reading::read(plan, links, events), numbers)
 }
 
 fn header(nodes: u64, links: u64, events: u64, threshold: u64, cap: u64) -> Header
@@ -84,7 +84,7 @@ pub extern "C" fn probe_write(
         (now (size .entry)) ⌝ }
 {
     let h = header(nodes, links_count, events_count, threshold, cap);
-    answers::give_size(writer::write(h, links, events, out), size)
+    host_answers::give_size(plan_writing::write(h, links, events, out), size)
 }
 
 #[no_mangle]
@@ -113,7 +113,7 @@ pub extern "C" fn probe_run(
         (now (result .entry)) ⌝ }
 {
     let h = header(nodes, links_count, events_count, threshold, cap);
-    answers::give_totals(bounds::run(h, links, events, lower, upper), result)
+    host_answers::give_totals(bounds::run(h, links, events, lower, upper), result)
 }
 
 #[no_mangle]
@@ -136,5 +136,5 @@ pub extern "C" fn probe_pair(
         (now (result .entry)) ⌝ }
 {
     let h = header(nodes, links_count, events_count, threshold, cap);
-    run_answers::pair(h, links, events, v, w, result)
+    host_runs::pair(h, links, events, v, w, result)
 }

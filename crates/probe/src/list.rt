@@ -5,9 +5,9 @@ ghost use Rattle.plan.specs.LentLists.{inWords};
 ghost use Prim.Native.Nat.{_/_};
 ghost use lib.ListN.{length};
 ghost use Rattle.topology_list.specs.Calls.{topologyListIn, topologiesNumber, listedAnswer, listAfter};
-ghost use Rattle.answers.specs.Laid.{laid};
-ghost use Rattle.answers.specs.Answers.{headerWith};
-ghost use Rattle.further_answers.specs.FurtherAnswers.{entriesValues};
+ghost use Rattle.host_answers.specs.Laid.{laid};
+ghost use Rattle.host_answers.specs.Answers.{headerWith};
+ghost use Rattle.host_readings.specs.FurtherAnswers.{entriesValues};
 ghost use Rattle.network.specs.Outage.{intact};
 
 #[no_mangle]
@@ -31,5 +31,5 @@ pub extern "C" fn probe_topologies(
         (now (list .entry)) .entries)))) (now (result .entry)) ⌝ }
 {
     let h = header(nodes, links_count, events_count, threshold, cap);
-    further_answers::give_entries(topology_list::topologies(h, links, events, list), result)
+    host_readings::give_entries(topology_list::topologies(h, links, events, list), result)
 }

@@ -1,7 +1,7 @@
 // What a node reaches, and in how many rounds, for the tests in Rust.
 ghost use mathlib.Core.Path.{_≡_};
-ghost use Rattle.answers.specs.Laid.{laid};
-ghost use Rattle.node_reach.specs.NodeReach.{reachNumber, reachIn, reachValues};
+ghost use Rattle.host_answers.specs.Laid.{laid};
+ghost use Rattle.host_reach.specs.NodeReach.{reachNumber, reachIn, reachValues};
 
 #[no_mangle]
 pub extern "C" fn probe_reach(
@@ -18,7 +18,7 @@ pub extern "C" fn probe_reach(
     ensures result { λ r. ⌜ now (result .exit) ≡ laid (reachValues r (reachIn nodes «links_count» (now (links .entry))
         (record { nodes = «failed_nodes»; low = «failed_low»; high = «failed_high» }) v)) (now (result .entry)) ⌝ }
 {
-    node_reach::reach(
+    host_reach::reach(
         nodes,
         links_count,
         links,

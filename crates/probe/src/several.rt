@@ -6,8 +6,8 @@ ghost use Rattle.plan.specs.Calls.{filled};
 ghost use Rattle.network.specs.Outage.{intact};
 ghost use Rattle.bounds.specs.Bounds.{lowerList, upperList};
 ghost use Rattle.thresholds.specs.Thresholds.{lentAt, planAt, thresholdsNumber, thresholdsAnswer, blocks};
-ghost use Rattle.answers.specs.Laid.{laid};
-ghost use Rattle.threshold_answers.specs.ThresholdAnswers.{commonWith, placesValues};
+ghost use Rattle.host_answers.specs.Laid.{laid};
+ghost use Rattle.host_thresholds.specs.ThresholdAnswers.{commonWith, placesValues};
 
 #[no_mangle]
 pub extern "C" fn probe_thresholds(
@@ -41,5 +41,5 @@ pub extern "C" fn probe_thresholds(
         events: events_count,
         cap,
     };
-    threshold_answers::thresholds(h, links, events, thresholds, lower, upper, result)
+    host_thresholds::thresholds(h, links, events, thresholds, lower, upper, result)
 }

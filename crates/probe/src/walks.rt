@@ -10,9 +10,9 @@ ghost use Rattle.bounds.specs.Calls.{ranAnswer, pairAnswer};
 ghost use Rattle.panel.specs.Walks.{WalkAt, rootWalk};
 ghost use Rattle.panel.specs.Calls.{lookOf, lookPairOf};
 ghost use Rattle.walk_words.specs.WalkWords.{walkLength, walkWords, walkOf};
-ghost use Rattle.answers.specs.Laid.{laid};
-ghost use Rattle.answers.specs.Answers.{headerWith, totalsValues, boundsValues};
-ghost use Rattle.panel_calls.specs.WordCalls.{beginNumber, ShortState, WordsWent, lookNumber, lookPairNumber};
+ghost use Rattle.host_answers.specs.Laid.{laid};
+ghost use Rattle.host_answers.specs.Answers.{headerWith, totalsValues, boundsValues};
+ghost use Rattle.host_panel.specs.WordCalls.{beginNumber, ShortState, WordsWent, lookNumber, lookPairNumber};
 
 #[no_mangle]
 pub extern "C" fn probe_walk_words() -> u64
@@ -42,7 +42,7 @@ pub extern "C" fn probe_begin(
         (walkOf (now (state .exit)))) ⌝ }
 {
     let h = header(nodes, links_count, events_count, threshold, cap);
-    panel_calls::begin(h, links, events, state)
+    host_panel::begin(h, links, events, state)
 }
 
 #[no_mangle]
@@ -57,7 +57,7 @@ pub extern "C" fn probe_go_on(
     ensures went { λ r. ⌜ (walkLength ≤ length (now (state .entry)) → WordsWent (now (state .entry)) (now (quota .entry)) k
         (now (reached .entry)) r (now (state .exit)) (now (quota .exit)) (now (reached .exit))) ⌝ }
 {
-    panel_calls::go_on(state, quota, k, reached)
+    host_panel::go_on(state, quota, k, reached)
 }
 
 #[no_mangle]
@@ -66,7 +66,7 @@ pub extern "C" fn probe_look(state: &[u64], result: &mut [u64]) -> u32
     ensures result { λ r. ⌜ now (result .exit) ≡ laid
         (totalsValues (ranAnswer r (lookOf (walkOf (now (state .entry)))))) (now (result .entry)) ⌝ }
 {
-    panel_calls::look(state, result)
+    host_panel::look(state, result)
 }
 
 #[no_mangle]
@@ -75,5 +75,5 @@ pub extern "C" fn probe_look_pair(state: &[u64], v: u64, w: u64, result: &mut [u
     ensures result { λ r. ⌜ now (result .exit) ≡ laid
         (boundsValues (pairAnswer r (lookPairOf (walkOf (now (state .entry))) v w))) (now (result .entry)) ⌝ }
 {
-    panel_calls::look_pair(state, v, w, result)
+    host_panel::look_pair(state, v, w, result)
 }

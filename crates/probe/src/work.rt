@@ -7,8 +7,8 @@ ghost use Rattle.plan.specs.Calls.{filled};
 ghost use Rattle.windows.specs.Windows.{takenOut};
 ghost use Rattle.bounds.specs.Bounds.{lowerList, upperList};
 ghost use Rattle.bounds.specs.Calls.{totalsOf, ranAnswer, runAtNumber};
-ghost use Rattle.answers.specs.Laid.{laid};
-ghost use Rattle.answers.specs.Answers.{headerWith, totalsValues};
+ghost use Rattle.host_answers.specs.Laid.{laid};
+ghost use Rattle.host_answers.specs.Answers.{headerWith, totalsValues};
 
 #[no_mangle]
 pub extern "C" fn probe_run_at(
@@ -39,5 +39,5 @@ pub extern "C" fn probe_run_at(
         (now (result .entry)) ⌝ }
 {
     let h = header(nodes, links_count, events_count, threshold, cap);
-    run_answers::run_at(h, links, events, windows, minute, lower, upper, result)
+    host_runs::run_at(h, links, events, windows, minute, lower, upper, result)
 }

@@ -8,7 +8,7 @@ use Rattle.mass.specs.Split.{whole}
 use Rattle.mass.proofs.RefusalLaws.{first-none}
 use Rattle.plan.specs.Plan.{Plan}
 use Rattle.plan.specs.LentLists.{Lent, planLent, planOfLists, planRefusal}
-use Rattle.layout.proofs.Theorems.{lists-denote}
+use Rattle.plan_layout.proofs.Theorems.{lists-denote}
 use Rattle.network.specs.Outage.{intact}
 use Rattle.walk.proofs.Valid.{plan-probable}
 use Rattle.sums.proofs.BoundsLaws.{lower-upper, upper-le}

@@ -10,7 +10,7 @@ use Rattle.mass.specs.Split.{whole}
 use Rattle.plan.specs.Plan.{Plan}
 use Rattle.plan.specs.LentLists.{Lent, planOfLists, planLent, inWords}
 use Rattle.plan.specs.declared.Header.{Header}
-use Rattle.lent.specs.Taken.{Taken}
+use Rattle.plan_lists.specs.Taken.{Taken}
 use Rattle.refusals.proofs.OrderLaws.{stop, skip, last}
 use Rattle.walk.specs.Ends.{End, scenarios}
 use Rattle.walk.specs.Walk.{examined}

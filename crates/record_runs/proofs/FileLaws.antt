@@ -19,11 +19,11 @@ use Rattle.bounds.specs.Bounds.{lowerList, upperList}
 use Rattle.bounds.specs.Calls.{runNumber, ranNumber}
 use Rattle.bounds.specs.declared.Ran.{Ran}
 use Rattle.bounds.specs.declared.Ran.the-variants as ran
-use Rattle.records.specs.Events.{inRecords}
-use Rattle.reader.specs.Filled.{eventRecords, filledRecords}
-use Rattle.records.specs.declared.Event.{Event}
-use Rattle.files.proofs.ReaderLawsAnswer.{full-rooms}
-use Rattle.reader.proofs.WholeLists.{no-links, no-events, read-links, read-events, same-plan, lists-pass}
+use Rattle.record_lists.specs.Events.{inRecords}
+use Rattle.record_reading.specs.Filled.{eventRecords, filledRecords}
+use Rattle.record_lists.specs.declared.Event.{Event}
+use Rattle.plan_reading.proofs.ReaderLawsAnswer.{full-rooms}
+use Rattle.record_reading.proofs.WholeLists.{no-links, no-events, read-links, read-events, same-plan, lists-pass}
 use Rattle.record_runs.specs.Running.{fileNumber, fileAnswer}
 use Rattle.record_runs.proofs.RunLaws.{Promised, Outcome}
 

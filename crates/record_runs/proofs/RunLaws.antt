@@ -17,9 +17,9 @@ use Rattle.bounds.specs.Bounds.{lowerList, upperList, EnclosesAll}
 use Rattle.bounds.specs.Calls.{runNumber, ranAnswer, ranNumber, totalsOf, totalsIn}
 use Rattle.bounds.specs.declared.Ran.{Ran}
 use Rattle.bounds.proofs.Answers.{ran-number}
-use Rattle.records.specs.Events.{wordsOf, inRecords}
-use Rattle.records.specs.declared.Event.{Event}
-use Rattle.records.proofs.PlanLaws.{plan-same, told-all}
+use Rattle.record_lists.specs.Events.{wordsOf, inRecords}
+use Rattle.record_lists.specs.declared.Event.{Event}
+use Rattle.record_lists.proofs.PlanLaws.{plan-same, told-all}
 
 -- an answer of a run that is refused with number n, or done on plan p, with what it leaves in the lists of bounds
 abbrev pub Promised : ℕ → Plan → List ℕ → List ℕ → Ran → List ℕ → List ℕ → Type 0

@@ -5,9 +5,9 @@ mod running;
 
 use bounds::Ran;
 use plan::Header;
-use records::Event;
-use records::flatten;
-use records::used_words;
+use record_lists::Event;
+use record_lists::flatten;
+use record_lists::used_words;
 pub use running::run_plan;
 ghost use mathlib.Core.Path.{_≡_};
 ghost use Prim.Native.Nat.{_*_};
@@ -17,7 +17,7 @@ ghost use Rattle.plan.specs.Calls.{filled};
 ghost use Rattle.network.specs.Outage.{intact};
 ghost use Rattle.bounds.specs.Bounds.{lowerList, upperList, EnclosesAll};
 ghost use Rattle.bounds.specs.Calls.{runNumber, ranAnswer, ranNumber, totalsOf, totalsIn};
-ghost use Rattle.records.specs.Events.{wordsOf, wordsUsed, inRecords};
+ghost use Rattle.record_lists.specs.Events.{wordsOf, wordsUsed, inRecords};
 
 // The run on an array of words: the lent list of events has `count` of them, of which the first 128 stand in the array.
 pub fn run_words(

@@ -2,8 +2,8 @@
 use crate::run_records;
 use bounds::Ran;
 use plan::Reading;
-use reader::read_records;
-use records::Event;
+use record_lists::Event;
+use record_reading::read_records;
 ghost use mathlib.Core.Path.{_≡_};
 ghost use lib.ListN.{length};
 ghost use Rattle.plan.specs.File.{planOf};
@@ -44,7 +44,7 @@ pub fn run_plan(s: &[u8], lower: &mut [u64], upper: &mut [u64]) -> Ran
         links_high: 0,
     }; 128];
     let answer = read_records(s, &mut links, &mut events);
-    let header = files::header_in(answer);
+    let header = plan_reading::header_in(answer);
     let ran = run_records(header, &links, &events, lower, upper);
     answer_of(answer, ran)
 }

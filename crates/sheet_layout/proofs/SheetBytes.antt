@@ -13,7 +13,7 @@ use Rattle.refusals.specs.Tests.{markTest, versionTest, countsTest}
 use Rattle.refusals.proofs.TestLaws.{short-none, short-pass, mark-none, version-none, counts-none, counts-pass, Ranges}
 use Rattle.plan.specs.Layout.{value, little, Bytes}
 use Rattle.plan.specs.File.{versionIn, nodesIn, linksIn}
-use Rattle.layout.proofs.LayoutNumbers.{bytes-drop, little-again}
+use Rattle.plan_layout.proofs.LayoutNumbers.{bytes-drop, little-again}
 use Rattle.sheets.specs.Sheet.{Sheet}
 use Rattle.sheets.specs.Valid.{ValidSheet}
 use Rattle.sheets.specs.SheetLayout.{lineBytes, sheetHeader, sheetLayout}

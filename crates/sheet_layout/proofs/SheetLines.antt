@@ -11,8 +11,8 @@ use Rattle.mass.proofs.RefusalLaws.{first-none}
 use Rattle.refusals.proofs.TestLaws.{short-none, short-pass, left-none}
 use Rattle.plan.specs.Layout.{value, little, members, memberCount, Bytes}
 use Rattle.plan.specs.File.{membersRefusal}
-use Rattle.layout.proofs.LayoutNumbers.{value-little, value-lt, little-again, bytes-drop, bytes-take}
-use Rattle.layout.proofs.LayoutMembers.{members-accepted, nodes-back, links-back, length-event-members, sets-read}
+use Rattle.plan_layout.proofs.LayoutNumbers.{value-little, value-lt, little-again, bytes-drop, bytes-take}
+use Rattle.plan_layout.proofs.LayoutMembers.{members-accepted, nodes-back, links-back, length-event-members, sets-read}
 use Rattle.sheets.specs.Sheet.{Line, unavailability, eventOfLine}
 use Rattle.sheets.specs.Valid.{ValidLine, ValidLines}
 use Rattle.sheets.specs.SheetLayout.{lineBytes}

@@ -21,15 +21,15 @@ use Rattle.plan.specs.Layout.{Bytes}
 use Rattle.plan.specs.File.{nodesIn, linksIn}
 use Rattle.plan.specs.LentLists.{linkListRefusal, eventListRefusal, planRefusal, inWords, listsNumber}
 use Rattle.plan.specs.declared.Header.{Header}
-use Rattle.layout.proofs.LayoutEvents.{list-pass}
-use Rattle.layout.proofs.LayoutFile.{valid-pass}
-use Rattle.layout.proofs.ListLaws.{events-laid}
+use Rattle.plan_layout.proofs.LayoutEvents.{list-pass}
+use Rattle.plan_layout.proofs.LayoutFile.{valid-pass}
+use Rattle.plan_layout.proofs.ListLaws.{events-laid}
 use Rattle.sheets.specs.Sheet.{Line, Sheet, eventOfLine, sheetEvents}
 use Rattle.sheets.specs.Valid.{ValidLines, ValidSheet}
 use Rattle.sheets.specs.SheetLayout.{sheetLayout}
 use Rattle.sheets.specs.SheetFile.{linesIn, sheetRefusal, sheetOf}
 use Rattle.sheets.specs.SheetCalls.{sheetWords}
-use Rattle.insertion.specs.Inserted.{probability}
+use Rattle.sheet_order.specs.Inserted.{probability}
 use Rattle.sheets.proofs.ReadLaws.{length-sheet-events, length-sheet-words}
 use Rattle.sheet_layout.proofs.SheetBytes.{sheet-none, layout-accepted, layout-read, read-valid, read-layout}
 

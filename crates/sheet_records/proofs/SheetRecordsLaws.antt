@@ -14,12 +14,12 @@ use Rattle.mass.proofs.RefusalLaws.{first-none}
 use Rattle.refusals.proofs.TestLaws.{room-none}
 use Rattle.plan.specs.Plan as plan
 use Rattle.plan.specs.Calls.{filled}
-use Rattle.records.specs.Events.{wordsOf, recordsOf}
-use Rattle.records.specs.declared.Event.{Event}
-use Rattle.records.proofs.EventLaws.{length-words, words-append}
-use Rattle.reader.specs.Filled.{filledRecords}
-use Rattle.reader.proofs.ReadLaws.{words-event-records, records-filled}
-use Rattle.reader.proofs.WholeLists.{no-events, length-records-of}
+use Rattle.record_lists.specs.Events.{wordsOf, recordsOf}
+use Rattle.record_lists.specs.declared.Event.{Event}
+use Rattle.record_lists.proofs.EventLaws.{length-words, words-append}
+use Rattle.record_reading.specs.Filled.{filledRecords}
+use Rattle.record_reading.proofs.ReadLaws.{words-event-records, records-filled}
+use Rattle.record_reading.proofs.WholeLists.{no-events, length-records-of}
 use Rattle.sheets.specs.Sheet.{sheetEvents}
 use Rattle.sheets.specs.SheetFile.{linesIn, sheetOf, sheetRefusal}
 use Rattle.sheets.specs.SheetCalls.{countsOf, readSheetRefusal, readSheetAnswer, countsIn, sheetWords}

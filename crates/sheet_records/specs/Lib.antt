@@ -1,2 +1,2 @@
--- What the contracts of the crate `sheet_records` cite, beside the definitions of the crates `sheets` and `reader`.
+-- What the contracts of the crate `sheet_records` cite, beside the definitions of the crates `sheets` and `record_reading`.
 pub mod SheetRecords

@@ -5,8 +5,8 @@ use Prim.Native.Nat.{ℕ}
 use lib.ListN.{length}
 use Rattle.mass.specs.Refusal.{first}
 use Rattle.refusals.specs.Tests.{roomTest}
-use Rattle.records.specs.declared.Event.{Event}
-use Rattle.reader.specs.Filled.{eventRecords}
+use Rattle.record_lists.specs.declared.Event.{Event}
+use Rattle.record_reading.specs.Filled.{eventRecords}
 use Rattle.sheets.specs.Sheet.{sheetEvents}
 use Rattle.sheets.specs.SheetFile.{sheetOf}
 use Rattle.sheets.specs.SheetCalls.{readSheetRefusal, sheetNumber, countsIn}

@@ -2,15 +2,15 @@
 // each is thin over covered functions on arrays and numbers. Assumes nothing.
 mod words;
 
-use records::Event;
-use records::fill;
-use records::flatten;
+use record_lists::Event;
+use record_lists::fill;
+use record_lists::flatten;
 use sheets::SheetReading;
 use words::hand_over;
 use words::lines_in;
 ghost use mathlib.Core.Path.{_≡_};
 ghost use Rattle.plan.specs.Calls.{filled};
-ghost use Rattle.reader.specs.Filled.{filledRecords};
+ghost use Rattle.record_reading.specs.Filled.{filledRecords};
 ghost use Rattle.sheets.specs.SheetCalls.{countsOf, readSheetNumber, readSheetAnswer, sheetWords};
 ghost use Rattle.sheet_records.specs.SheetRecords.{sheetRecordsNumber, sheetRecords};
 

@@ -1,8 +1,8 @@
 // What the test programs of equipment sheets share. Lists hold a pattern, word 77, before the call.
 // Assumes the contract of C's `write`, with which differences are printed.
-use vectors::WORD;
-use vectors::all_words;
-use vectors::same_part;
+use trials_vectors::WORD;
+use trials_vectors::all_words;
+use trials_vectors::same_part;
 ghost use mathlib.Core.Path.{_≡_};
 ghost use Rattle.plan.specs.Calls.{filled};
 ghost use Rattle.sheets.specs.SheetCalls.{readSheetNumber, sheetWords};

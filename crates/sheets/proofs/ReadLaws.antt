@@ -13,7 +13,7 @@ use Rattle.plan.specs.Plan.{Event}
 use Rattle.plan.specs.File.{setOf}
 use Rattle.plan.specs.Calls.{filled}
 use Rattle.plan.proofs.FileLaws.{suc-sub-one}
-use Rattle.files.proofs.ReaderLawsAnswer.{copied}
+use Rattle.plan_reading.proofs.ReaderLawsAnswer.{copied}
 use Rattle.order.specs.Order.{withElement, orderedWith}
 use Rattle.order.proofs.OrderLaws.{length-ordered}
 use Rattle.sheets.specs.Sheet.{eventOfLine, sheetEvents}
@@ -22,8 +22,8 @@ use Rattle.sheets.specs.SheetCalls.{countsOf, readSheetRefusal, readShee
 use Rattle.sheets.specs.declared.Counts.{Counts}
 use Rattle.sheets.specs.declared.SheetReading.the-variants as reading
 use Rattle.sheets.proofs.CheckLaws.{accepted-counts}
-use Rattle.insertion.specs.Inserted.{probability}
-use Rattle.insertion.proofs.InsertionLaws.{length-words}
+use Rattle.sheet_order.specs.Inserted.{probability}
+use Rattle.sheet_order.proofs.InsertionLaws.{length-words}
 
 -- ---- the loop over the lines
 

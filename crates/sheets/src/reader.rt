@@ -47,8 +47,8 @@ fn fill_lines(s: &[u8], start: usize, count: u64, nodes: u64, links: u64, words:
     // The `left` lines from `at` on are accepted; the first `done` events are those of the lines before them, in order, and the words
     // after them are untouched. Each turn takes one of the `left` lines.
     while 0 < left {
-        let members = files::members_of(s, at + 13, byte_at(s, at + 12), nodes, links);
-        insertion::insert(&mut *words, done, line_probability(s, at), members);
+        let members = plan_reading::members_of(s, at + 13, byte_at(s, at + 12), nodes, links);
+        sheet_order::insert(&mut *words, done, line_probability(s, at), members);
         at += line_size(s, at);
         done += 1;
         left -= 1;
@@ -126,6 +126,6 @@ pub fn read(s: &[u8], events: &mut [u64]) -> SheetReading
     let mut words = [0u64; 512];
     let answer = read_core(s, events.len() / 4, &mut words);
     let counts = counts_in(answer);
-    lent::copy_words(&words, events, 4 * (counts.lines as usize));
+    plan_lists::copy_words(&words, events, 4 * (counts.lines as usize));
     answer
 }

@@ -9,7 +9,7 @@ use native.Mathlib.Numerals.{add-one}
 use native.Mathlib.Omega.{arith}
 use lib.Dec.{eqb}
 use lib.ListN.{length, length-append}
-use Rattle.lent.proofs.ListLaws.{less-one}
+use Rattle.plan_lists.proofs.ListLaws.{less-one}
 use Rattle.sets.specs.Sets.{joined}
 use Rattle.plan.specs.Layout.{elements, memberBytes}
 

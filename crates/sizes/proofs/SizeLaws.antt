@@ -5,8 +5,8 @@ use mathlib.Core.List.{List, [], _∷_, _++_, append-nil, append-assoc}
 use Prim.Native.Nat.{ℕ, zero, suc, _+_, _-_, _*_, _/_, _^_, _≤_, _<_}
 use native.Mathlib.Omega.{arith}
 use lib.ListN.{length, take, drop, length-append}
-use Rattle.layout.proofs.ListLaws.{length-links-of}
-use Rattle.lent.proofs.ListLaws.{eventAt, events-next}
+use Rattle.plan_layout.proofs.ListLaws.{length-links-of}
+use Rattle.plan_lists.proofs.ListLaws.{eventAt, events-next}
 use Rattle.sets.specs.Sets.{joined}
 use Rattle.plan.specs.Plan.{Plan, Link, Event}
 use Rattle.plan.specs.Lists.{linksOf, eventOf, eventsOf, linkBytes}

@@ -6,7 +6,7 @@ use Prim.Native.Nat.{ℕ, _+_, _/_, _%_, _<_, _≤_}
 use native.Mathlib.Omega.{arith}
 use lib.ListN.{length, set, length-append}
 use lib.Seq.{sets}
-use Rattle.lent.proofs.ListLaws.{sets-then}
+use Rattle.plan_lists.proofs.ListLaws.{sets-then}
 use Rattle.text.specs.Decimal.{decimal}
 use Rattle.text.proofs.DecimalLaws.{decimal-small, decimal-large}
 use Rattle.text.specs.Listing.{field, line, refusedText}

@@ -18,7 +18,7 @@ use Rattle.plan.specs.File.{headerRefusal, linksRefusal, memberRefusal, members
 use Rattle.plan.specs.File.{nodesIn, linksIn, eventsIn, versionIn, thresholdIn, capIn, probabilityIn, membersIn, eventSize}
 use Rattle.plan.specs.LentLists.{planRefusal}
 use Rattle.refusals.proofs.TestLaws.{counts-none, Ranges, or-none}
-use Rattle.layout.proofs.LayoutFile.{valid-none}
+use Rattle.plan_layout.proofs.LayoutFile.{valid-none}
 use Rattle.sets.specs.Sets.{digit}
 use Rattle.network.specs.Outage.{intact}
 use Rattle.walk.specs.Walk.{count, complete, massExamined, planEnds}

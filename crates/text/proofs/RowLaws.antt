@@ -7,7 +7,7 @@ use native.Mathlib.Numerals.{add-one}
 use native.Mathlib.Omega.{arith}
 use lib.ListN.{length, getD, length-append}
 use lib.Seq.{sets}
-use Rattle.lent.proofs.ListLaws.{sets-then}
+use Rattle.plan_lists.proofs.ListLaws.{sets-then}
 use Rattle.pairs.specs.Pairs.{row, rows, table, place, start}
 use Rattle.pairs.proofs.PairLaws.{place-is, place-lt, pairs-most}
 use Rattle.text.specs.Listing.{line, pairsText}

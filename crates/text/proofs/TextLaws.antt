@@ -16,8 +16,8 @@ use Rattle.plan.specs.LentLists.{planRefusal, planOfLists}
 use Rattle.plan.specs.Calls.{filled, headerOf, readAnswer}
 use Rattle.plan.specs.declared.Header.{Header}
 use Rattle.plan.specs.declared.Reading.the-variants as reading
-use Rattle.layout.proofs.ListLaws.{length-links-of, length-events-of}
-use Rattle.files.proofs.ReaderLawsAnswer.{take-sets}
+use Rattle.plan_layout.proofs.ListLaws.{length-links-of, length-events-of}
+use Rattle.plan_reading.proofs.ReaderLawsAnswer.{take-sets}
 use Rattle.network.specs.Outage.{intact}
 use Rattle.walk.specs.Walk.{count, complete, massExamined}
 use Rattle.pairs.specs.Pairs.{row, rows, table, place}

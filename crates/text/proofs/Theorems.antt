@@ -10,7 +10,7 @@ use lib.Seq.{take-all}
 use Rattle.plan.specs.Layout.{Bytes}
 use Rattle.refusals.specs.Tests.{roomTest}
 use Rattle.plan.specs.File.{refusal, planOf}
-use Rattle.layout.proofs.Theorems.{read-writes-again, longest, prefix-decides}
+use Rattle.plan_layout.proofs.Theorems.{read-writes-again, longest, prefix-decides}
 use Rattle.network.specs.Outage.{intact}
 use Rattle.input.proofs.LoadedLaws.{bytes-each}
 use Rattle.text.specs.Listing.{answerText, listing}

@@ -24,7 +24,7 @@ use Rattle.pairs.specs.Pairs.{place, pairCount}
 use Rattle.pairs.proofs.PairLaws.{pairs-most, place-lt, unplace}
 use Rattle.bounds.specs.Bounds.{cuts, lowerOf, upperOf, lowerList, upperList}
 use Rattle.bounds.proofs.Answers.{mass-most, raised, enclosed}
-use Rattle.threshold_sums.specs.Walked.{planWith, plansOf, PlaceNumbers}
+use Rattle.thresholds_sums.specs.Walked.{planWith, plansOf, PlaceNumbers}
 use Rattle.thresholds.specs.Thresholds.{thresholdsTest, blocks, places, answerOf, EnclosesBlocks}
 use Rattle.thresholds.specs.Steps.{BlocksWalked, Raising, Raised}
 use Rattle.thresholds.specs.declared.Answered.{Answered}

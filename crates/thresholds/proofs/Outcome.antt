@@ -18,7 +18,7 @@ use Rattle.plan.proofs.FilledLaws.{filled-none}
 use Rattle.network.specs.Outage.{intact}
 use Rattle.pairs.specs.Pairs.{pairCount}
 use Rattle.bounds.specs.Bounds.{lowerList, upperList}
-use Rattle.threshold_sums.specs.Walked.{planWith}
+use Rattle.thresholds_sums.specs.Walked.{planWith}
 use Rattle.thresholds.specs.Thresholds.{headerAt, planAt, thresholdsTest, thresholdsNumber, blocks, answerOf, refusedWith, thresholdsAnswer, EnclosesBlocks}
 use Rattle.thresholds.specs.declared.CommonHeader.{CommonHeader}
 use Rattle.thresholds.specs.declared.Answered.{Answered}

@@ -8,11 +8,11 @@ use native.Mathlib.Omega.{arith}
 use lib.ListN.{length, getD, take, drop, replicate, length-map, length-replicate}
 use lib.Seq.{sets, length-sets, length-take-le, take-length, getD-take}
 use Rattle.plan.specs.declared.Header.{Header}
-use Rattle.lent.proofs.CopyLaws.{copied}
+use Rattle.plan_lists.proofs.CopyLaws.{copied}
 use Rattle.pairs.specs.Pairs.{pairCount}
 use Rattle.pairs.proofs.PairLaws.{pairs-most}
 use Rattle.bounds.proofs.Zeros.{zeros-at}
-use Rattle.threshold_sums.specs.Walked.{planWith, plansOf, PlaceNumbers, placeNumbers, numbersAt, FallingFirst, HoldsAnswers, Fresh, AllHoldAnswers}
+use Rattle.thresholds_sums.specs.Walked.{planWith, plansOf, PlaceNumbers, placeNumbers, numbersAt, FallingFirst, HoldsAnswers, Fresh, AllHoldAnswers}
 use Rattle.thresholds.specs.Thresholds.{thresholdsTest}
 use Rattle.thresholds.specs.Steps.{BlocksWalked}
 use Rattle.thresholds.proofs.TestLaws.{test-none, in-range, in-order}

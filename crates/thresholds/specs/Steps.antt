@@ -6,7 +6,7 @@ use Prim.Native.Nat.{ℕ, _+_, _-_, _*_, _<_, _≤_}
 use lib.ListN.{length, getD}
 use Rattle.mass.specs.Split.{whole}
 use Rattle.pairs.specs.Pairs.{pairCount}
-use Rattle.threshold_sums.specs.Walked.{Plans, planFor, PlaceNumbers, numbersAt, HoldsAnswers, Places}
+use Rattle.thresholds_sums.specs.Walked.{Plans, planFor, PlaceNumbers, numbersAt, HoldsAnswers, Places}
 use Rattle.thresholds.specs.Thresholds.{thresholdsTest}
 use Rattle.thresholds.specs.declared.CommonHeader.{CommonHeader}
 

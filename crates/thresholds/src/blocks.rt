@@ -3,7 +3,7 @@ use crate::Answered;
 use pairs::copy_raised;
 use pairs::pair_count;
 use plan::Header;
-use threshold_sums::walk_thresholds;
+use thresholds_sums::walk_thresholds;
 ghost use mathlib.Core.Path.{_≡_};
 ghost use mathlib.Core.List.{map};
 ghost use Prim.Native.Nat.{_*_, _≤_, _<_};
@@ -16,7 +16,7 @@ ghost use Rattle.plan.specs.Held.{Held};
 ghost use Rattle.network.specs.Outage.{intact};
 ghost use Rattle.pairs.specs.Pairs.{pairCount};
 ghost use Rattle.bounds.specs.Bounds.{lowerList, upperList};
-ghost use Rattle.threshold_sums.specs.Walked.{planWith, plansOf, placeNumbers};
+ghost use Rattle.thresholds_sums.specs.Walked.{planWith, plansOf, placeNumbers};
 ghost use Rattle.thresholds.specs.Thresholds.{thresholdsTest, blocks, answerOf, EnclosesBlocks};
 ghost use Rattle.thresholds.specs.Steps.{BlocksWalked, Raising, Raised};
 
@@ -41,7 +41,7 @@ fn walk_blocks(
     let count = list.len();
     let n = h.nodes as usize;
     let mut falling = [0u64; 16];
-    lent::copy_words(list, &mut falling, count);
+    plan_lists::copy_words(list, &mut falling, count);
     // Zeros, raised by one more than the cap where there is a threshold.
     copy_raised(masses, &mut *rooms, 0, count, h.cap + 1);
     pairs::clear(&mut *lower, pair_count(n) * count);

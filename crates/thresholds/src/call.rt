@@ -10,7 +10,7 @@ use pairs::pair_count;
 ghost use mathlib.Core.Path.{_≡_};
 ghost use lib.ListN.{length};
 ghost use Rattle.plan.specs.Calls.{filled};
-ghost use Rattle.lent.specs.Taken.{Taken};
+ghost use Rattle.plan_lists.specs.Taken.{Taken};
 ghost use Rattle.network.specs.Outage.{intact};
 ghost use Rattle.bounds.specs.Bounds.{lowerList, upperList};
 ghost use Rattle.thresholds.specs.Thresholds.{headerAt, lentAt, planAt, thresholdsNumber, thresholdsAnswer, blocks};
@@ -34,7 +34,7 @@ fn accept_thresholds(
         → Taken (headerAt h 1) (now (links .entry)) (now (events .entry)) (now (bytes .exit)) (now (words .exit))
         × Accepted h (now (list .entry)) «lower_room» «upper_room») ⌝ }
 {
-    let lists = lent::accept(header_at(h, 1), links, events, bytes, words);
+    let lists = plan_lists::accept(header_at(h, 1), links, events, bytes, words);
     if lists != 0 {
         return lists;
     }

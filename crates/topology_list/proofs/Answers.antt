@@ -13,7 +13,7 @@ use Rattle.plan.specs.LentLists.{Lent, planOfLists, inWords, listsNumber}
 use Rattle.plan.specs.declared.Header.{Header}
 use Rattle.plan.proofs.FilledLaws.{filled-none}
 use Rattle.refusals.proofs.OrderLaws.{stop, skip}
-use Rattle.lent.specs.Taken.{Taken}
+use Rattle.plan_lists.specs.Taken.{Taken}
 use Rattle.network.specs.Outage.{intact}
 use Rattle.entries.specs.Entries.{TopologyList, entryWords}
 use Rattle.topology_list.specs.TopologyList.{topologyListOf}

@@ -1,5 +1,5 @@
--- "The list's masses sum to E, and bounds taken from it equal those of the run": document 01, section "Further readings of a plan". First of a plan's topology list,
--- then of the entries that the call writes. And when 15 is met.
+-- "The list's masses sum to E, and bounds taken from it equal those of the run": document 01, section "Further readings of a plan". First of a plan's topology
+-- list, then of the entries that the call writes. And when 15 is met.
 -- Assumes nothing.
 use mathlib.Core.Path.{_≡_, refl, ap, _∙_}
 use mathlib.Core.List.{List, [], _∷_, _++_}
@@ -12,8 +12,8 @@ use Rattle.mass.proofs.RefusalLaws.{first-none}
 use Rattle.mass.specs.Split.{whole}
 use Rattle.plan.specs.Plan.{Plan}
 use Rattle.plan.specs.LentLists.{Lent, listsNumber, planOfLists, planLent}
-use Rattle.layout.proofs.ListLaws.{length-links-of}
-use Rattle.lent.proofs.CopyLaws.{lists-fit}
+use Rattle.plan_layout.proofs.ListLaws.{length-links-of}
+use Rattle.plan_lists.proofs.CopyLaws.{lists-fit}
 use Rattle.walk.specs.Walk.{firstEnds, massExamined}
 use Rattle.bounds.specs.Bounds.{lowerOf, upperOf, topologyOf, cuts}
 use Rattle.entries.specs.Entries.{Entry, massesIn, TopologyList, topologyList, entryWords}

@@ -17,7 +17,7 @@ pub fn topologies(h: Header, links: &[u8], events: &[u64], list: &mut [u64]) -> 
 {
     let mut bytes = [0u8; 256];
     let mut words = [0u64; 512];
-    let lists = lent::accept(h, links, events, &mut bytes, &mut words);
+    let lists = plan_lists::accept(h, links, events, &mut bytes, &mut words);
     if lists != 0 {
         return Listed::Refused(lists);
     }

@@ -1,5 +1,5 @@
 // The check of a plan file's header.
-use vectors::same;
+use trials_vectors::same;
 
 // Holds the check of a file to a number.
 pub fn number(label: &[u8], plan: &[u8], want: u64) {

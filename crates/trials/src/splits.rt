@@ -1,7 +1,7 @@
 // Splits of a mass: document 01, "Units and the splitting of mass".
 use mass::Mass;
 use mass::Parts;
-use vectors::same;
+use trials_vectors::same;
 
 // Holds a split's answer to its number and its two parts; the parts of a refusal are 0.
 fn split(label: &[u8], m: u64, q: u64, number: u64, fails: u64, works: u64) {

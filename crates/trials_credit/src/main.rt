@@ -3,9 +3,9 @@
 // stored output is that line alone.
 use credits::Credited;
 use plan::Header;
-use vectors::header;
-use vectors::same;
-use vectors::same_part;
+use trials_vectors::header;
+use trials_vectors::same;
+use trials_vectors::same_part;
 
 const MOST: u64 = 1_000_000_000_000;
 

@@ -1,7 +1,7 @@
 // Holding the disconnected test of a pair to what it should be.
 use network::Failed;
-use network_vectors::held;
-use vectors::same_part;
+use trials_network_vectors::held;
+use trials_vectors::same_part;
 ghost use Prim.Native.Nat.{_<_};
 ghost use Rattle.plan.specs.Held.{LinksHeld};
 

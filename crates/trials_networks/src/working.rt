@@ -1,7 +1,7 @@
 // Holding the working nodes and links of a network to what they should be.
 use network::Failed;
-use network_vectors::held;
-use vectors::same_part;
+use trials_network_vectors::held;
+use trials_vectors::same_part;
 ghost use Rattle.plan.specs.Held.{LinksHeld};
 
 // Holds the working nodes and links to three words.

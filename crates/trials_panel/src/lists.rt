@@ -4,9 +4,9 @@ use panel_table::begun;
 use panel_table::shown;
 use panel_table::went_on;
 use panel_table::wide_at;
-use panel_vectors::FULL;
-use panel_vectors::left_after;
-use panel_vectors::less;
+use trials_panel_vectors::FULL;
+use trials_panel_vectors::left_after;
+use trials_panel_vectors::less;
 
 // Every list of calls, at caps that leave the whole walk, and below them.
 pub fn lists() {

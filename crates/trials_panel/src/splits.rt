@@ -3,9 +3,9 @@
 use panel::Quota;
 use panel_table::begun;
 use panel_table::went_on;
-use panel_vectors::FULL;
-use panel_vectors::left_after;
-use panel_vectors::less;
+use trials_panel_vectors::FULL;
+use trials_panel_vectors::left_after;
+use trials_panel_vectors::less;
 
 // Every split, at a cap above the number of ends, at it, and below it.
 pub fn all_splits() {

@@ -2,7 +2,7 @@
 use panel::Quota;
 use panel_table::begun;
 use panel_table::went_on;
-use panel_vectors::same_walk;
+use trials_panel_vectors::same_walk;
 use walk_state::Walk;
 
 // The largest number of ends that may be asked for.

@@ -4,7 +4,7 @@ use panel::GoneOn;
 use panel::Quota;
 use panel_table::begun;
 use panel_table::went_on;
-use panel_vectors::same_walk;
+use trials_panel_vectors::same_walk;
 use walk_state::Walk;
 
 // A first call, on a quota of 10.

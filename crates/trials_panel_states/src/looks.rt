@@ -5,8 +5,8 @@ use crate::states::MASS;
 use crate::states::THRESHOLD;
 use crate::states::half;
 use panel_table::shown;
-use panel_vectors::WHOLE;
-use panel_vectors::bounds;
+use trials_panel_vectors::WHOLE;
+use trials_panel_vectors::bounds;
 use walk_state::Walk;
 
 // The largest number.
@@ -22,7 +22,7 @@ fn with_sum(i: usize, sum: u64) -> Walk {
 
 fn with_nodes(nodes: u64) -> Walk {
     let mut w = half();
-    let h = vectors::header(nodes, 3, 4, THRESHOLD, 100);
+    let h = trials_vectors::header(nodes, 3, 4, THRESHOLD, 100);
     w.header = h;
     w
 }
@@ -152,7 +152,7 @@ fn damaged() -> Walk {
     w.events[0] = ALL;
     w.links[0] = 255;
     w.reached = ALL;
-    let h = vectors::header(3, 129, 129, 0, 0);
+    let h = trials_vectors::header(3, 129, 129, 0, 0);
     w.header = h;
     w
 }

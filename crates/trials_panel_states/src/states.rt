@@ -4,9 +4,9 @@
 use panel::Quota;
 use panel_table::begun;
 use panel_table::went_on;
-use panel_vectors::WHOLE;
-use panel_vectors::answered;
-use panel_vectors::same_walk;
+use trials_panel_vectors::WHOLE;
+use trials_panel_vectors::answered;
+use trials_panel_vectors::same_walk;
 use walk_state::Walk;
 ghost use Rattle.panel_table.specs.Table.{begunWith, LeftBy};
 
@@ -35,7 +35,7 @@ fn stays(label: &[u8], w: Walk) {
 // The walk with these numbers in its header.
 fn with_header(nodes: u64, links: u64, events: u64, threshold: u64, cap: u64) -> Walk {
     let mut w = half();
-    let h = vectors::header(nodes, links, events, threshold, cap);
+    let h = trials_vectors::header(nodes, links, events, threshold, cap);
     w.header = h;
     w
 }

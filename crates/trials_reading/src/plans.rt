@@ -1,19 +1,19 @@
 // Plans that are read: document 01, "Plan file".
-use vectors::BYTE;
-use vectors::WORD;
-use vectors::accepted;
-use vectors::header;
-use vectors::large_events;
-use vectors::large_file;
-use vectors::many_links;
-use vectors::same_bytes;
-use vectors::same_words;
+use trials_vectors::BYTE;
+use trials_vectors::WORD;
+use trials_vectors::accepted;
+use trials_vectors::header;
+use trials_vectors::large_events;
+use trials_vectors::large_file;
+use trials_vectors::many_links;
+use trials_vectors::same_bytes;
+use trials_vectors::same_words;
 
 // The triangle of document 01: links 0-1, 0-2, 1-2, and an event with q = 1 for each. The lists are longer by two bytes and by five words.
 pub fn triangle() {
     let mut links = [BYTE; 8];
     let mut events = [WORD; 17];
-    let answer = files::read(
+    let answer = plan_reading::read(
         b"RSG\x01\x00\x03\x03\x03\x01\x00\x00\x00\x00\x00\x00\x00\x64\x00\x00\x00\x00\x01\x00\x02\x01\x02\x01\x00\x00\x00\x01\x01\x00\x01\x00\x00\x00\x01\x01\x01\x01\x00\x00\x00\x01\x01\x02",
         &mut links,
         &mut events,
@@ -35,7 +35,7 @@ pub fn triangle() {
 pub fn one_node() {
     let mut links = [BYTE; 0];
     let mut events = [WORD; 0];
-    let answer = files::read(
+    let answer = plan_reading::read(
         b"RSG\x01\x00\x01\x00\x00\x01\x00\x00\x00\x00\x00\x00\x00\x01\x00\x00\x00",
         &mut links,
         &mut events,
@@ -48,7 +48,7 @@ pub fn one_node() {
 pub fn wide_numbers() {
     let mut links = [BYTE; 2];
     let mut events = [WORD; 8];
-    let answer = files::read(
+    let answer = plan_reading::read(
         b"RSG\x01\x00\x02\x01\x02\x08\x07\x06\x05\x04\x03\x02\x01\x0c\x0b\x0a\x00\x00\x01\x04\x03\x02\x01\x02\x00\x01\x01\x00\x00\x01\x00\x00\x00",
         &mut links,
         &mut events,
@@ -71,7 +71,7 @@ pub fn wide_numbers() {
 pub fn large() {
     let mut links = [BYTE; 258];
     let mut events = [WORD; 9];
-    let answer = files::read(&large_file(), &mut links, &mut events);
+    let answer = plan_reading::read(&large_file(), &mut links, &mut events);
     accepted(
         b"read the large plan",
         answer,

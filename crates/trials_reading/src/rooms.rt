@@ -1,13 +1,13 @@
 // The room that the reader asks for: document 01, "Refused", 12 and its place.
-use vectors::BYTE;
-use vectors::WORD;
-use vectors::all_bytes;
-use vectors::all_words;
-use vectors::refused;
+use trials_vectors::BYTE;
+use trials_vectors::WORD;
+use trials_vectors::all_bytes;
+use trials_vectors::all_words;
+use trials_vectors::refused;
 
 // The triangle with lists that it is held to: 6 bytes and 12 words are due.
 fn into(label: &[u8], links: &mut [u8], events: &mut [u64], want: u64) {
-    let answer = files::read(
+    let answer = plan_reading::read(
         b"RSG\x01\x00\x03\x03\x03\x01\x00\x00\x00\x00\x00\x00\x00\x64\x00\x00\x00\x00\x01\x00\x02\x01\x02\x01\x00\x00\x00\x01\x01\x00\x01\x00\x00\x00\x01\x01\x01\x01\x00\x00\x00\x01\x01\x02",
         links,
         events,
@@ -53,7 +53,7 @@ pub fn exact_lists() {
 pub fn byte_too_many() {
     let mut links = [BYTE; 1];
     let mut events = [WORD; 11];
-    let answer = files::read(
+    let answer = plan_reading::read(
         b"RSG\x01\x00\x02\x01\x00\x01\x00\x00\x00\x00\x00\x00\x00\x64\x00\x00\x00\x00\x01\x00",
         &mut links,
         &mut events,

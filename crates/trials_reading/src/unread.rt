@@ -1,15 +1,19 @@
 // What the reader refuses: document 01, "Plan file" and "Refused".
-use vectors::BYTE;
-use vectors::WORD;
-use vectors::all_bytes;
-use vectors::all_words;
-use vectors::refused;
+use trials_vectors::BYTE;
+use trials_vectors::WORD;
+use trials_vectors::all_bytes;
+use trials_vectors::all_words;
+use trials_vectors::refused;
 
 // A file that is refused with lists that have room for every plan: they are left as they were.
 fn kept(label: &[u8], file: &[u8], want: u64) {
     let mut links = [BYTE; 256];
     let mut events = [WORD; 512];
-    refused(label, files::read(file, &mut links, &mut events), want);
+    refused(
+        label,
+        plan_reading::read(file, &mut links, &mut events),
+        want,
+    );
     all_bytes(label, &links, BYTE);
     all_words(label, &events, WORD);
 }

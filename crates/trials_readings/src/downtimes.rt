@@ -1,7 +1,7 @@
 // The downtime: document 01, "Further readings of a plan", with the rounding of document 02, U1.
 use readings::Timed;
-use vectors::same;
-use vectors::same_part;
+use trials_vectors::same;
+use trials_vectors::same_part;
 
 const WHOLE: u64 = 1_000_000_000_000_000_000;
 

@@ -2,9 +2,9 @@
 use plan::Header;
 use readings::Figured;
 use readings::Shares;
-use vectors::header;
-use vectors::same;
-use vectors::same_part;
+use trials_vectors::header;
+use trials_vectors::same;
+use trials_vectors::same_part;
 ghost use mathlib.Core.Bool.{not};
 ghost use lib.Dec.{T};
 ghost use lib.Ieee.{isNan};

@@ -1,11 +1,11 @@
 // The members of an event, read by steps of the reader into an array of ranks. The array holds a pattern, word 77, before the call. A node
 // has its number as its rank, a link 256 more.
-use reader::MembersRead;
-use vectors::WORD;
-use vectors::large_file;
-use vectors::same;
-use vectors::same_at;
-use vectors::same_part;
+use record_reading::MembersRead;
+use trials_vectors::WORD;
+use trials_vectors::large_file;
+use trials_vectors::same;
+use trials_vectors::same_at;
+use trials_vectors::same_part;
 
 fn answer(label: &[u8], got: MembersRead, number: u64, position: u64) {
     same(label, got.number as u64, number);
@@ -16,7 +16,7 @@ fn answer(label: &[u8], got: MembersRead, number: u64, position: u64) {
 // words past their ranks stay.
 pub fn seven() {
     let mut out = [WORD; 512];
-    let got = reader::read_members(&large_file(), 281, 7, 64, 128, &mut out);
+    let got = record_reading::read_members(&large_file(), 281, 7, 64, 128, &mut out);
     let label = b"seven members";
     answer(label, got, 0, 295);
     same_at(label, 0, out[0], 0);
@@ -34,7 +34,7 @@ pub fn seven() {
 pub fn up_to_a_refusal() {
     let mut out = [WORD; 512];
     let bytes = b"\x00\x01\x01\x02\x01\x02\x01\x03";
-    let got = reader::read_members(bytes, 0, 4, 3, 4, &mut out);
+    let got = record_reading::read_members(bytes, 0, 4, 3, 4, &mut out);
     let label = b"a third member that does not rise";
     answer(label, got, 10, 4);
     same_at(label, 0, out[0], 1);
@@ -45,7 +45,7 @@ pub fn up_to_a_refusal() {
 // Node 1 is given; then one byte is left.
 pub fn bytes_end() {
     let mut out = [WORD; 512];
-    let got = reader::read_members(b"\xff\x00\x01\x00", 1, 2, 3, 3, &mut out);
+    let got = record_reading::read_members(b"\xff\x00\x01\x00", 1, 2, 3, 3, &mut out);
     let label = b"bytes that end";
     answer(label, got, 1, 3);
     same_at(label, 0, out[0], 1);
@@ -55,7 +55,7 @@ pub fn bytes_end() {
 // No member: nothing is read, also past the end.
 pub fn no_member() {
     let mut out = [WORD; 512];
-    let got = reader::read_members(b"\x02\x09", 5, 0, 3, 3, &mut out);
+    let got = record_reading::read_members(b"\x02\x09", 5, 0, 3, 3, &mut out);
     let label = b"no member";
     answer(label, got, 0, 5);
     same_at(label, 0, out[0], WORD);

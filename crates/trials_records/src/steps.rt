@@ -1,10 +1,10 @@
 // The reader's steps: the member that stands at a position, by the kind and the number of its element, and where the reader stands after it.
 use plan::Element;
 use plan::Step;
-use reader::MemberRead;
-use vectors::large_file;
-use vectors::same;
-use vectors::same_part;
+use record_reading::MemberRead;
+use trials_vectors::large_file;
+use trials_vectors::same;
+use trials_vectors::same_part;
 
 // The kind of a member (0 node, 1 link), 2 where it is refused.
 fn kind_of(step: Step) -> u64 {
@@ -41,21 +41,21 @@ pub fn links() {
         b"RSG\x01\x00\x03\x03\x03\x01\x00\x00\x00\x00\x00\x00\x00\x64\x00\x00\x00\x00\x01\x00\x02\x01\x02\x01\x00\x00\x00\x01\x01\x00\x01\x00\x00\x00\x01\x01\x01\x01\x00\x00\x00\x01\x01\x02";
     step(
         b"the triangle's first member",
-        reader::read_member(plan, 31, 3, 3, 0),
+        record_reading::read_member(plan, 31, 3, 3, 0),
         1,
         0,
         33,
     );
     step(
         b"the triangle's second member",
-        reader::read_member(plan, 38, 3, 3, 0),
+        record_reading::read_member(plan, 38, 3, 3, 0),
         1,
         1,
         40,
     );
     step(
         b"the triangle's third member",
-        reader::read_member(plan, 45, 3, 3, 0),
+        record_reading::read_member(plan, 45, 3, 3, 0),
         1,
         2,
         47,
@@ -70,23 +70,23 @@ pub fn moved() {
 
 // Each step is made where the reader stands after the one before, and `least` is the rank before and 1.
 fn from_member_to_member(file: &[u8]) {
-    let first = reader::read_member(file, 281, 64, 128, 0);
+    let first = record_reading::read_member(file, 281, 64, 128, 0);
     step(b"node 0", first, 0, 0, 283);
-    let second = reader::read_member(file, first.at, 64, 128, 1);
+    let second = record_reading::read_member(file, first.at, 64, 128, 1);
     step(b"node 63", second, 0, 63, 285);
-    let third = reader::read_member(file, second.at, 64, 128, 64);
+    let third = record_reading::read_member(file, second.at, 64, 128, 64);
     step(b"link 0", third, 1, 0, 287);
-    let fourth = reader::read_member(file, third.at, 64, 128, 257);
+    let fourth = record_reading::read_member(file, third.at, 64, 128, 257);
     step(b"link 63", fourth, 1, 63, 289);
 }
 
 // A step that is refused leaves the reader where it was, and the next step reads the same member: node 2 has rank 2.
 pub fn stays() {
-    let refused = reader::read_member(b"\x00\x02", 0, 3, 3, 3);
+    let refused = record_reading::read_member(b"\x00\x02", 0, 3, 3, 3);
     step(b"a member that does not rise", refused, 2, 10, 0);
-    let again = reader::read_member(b"\x00\x02", refused.at, 3, 3, 2);
+    let again = record_reading::read_member(b"\x00\x02", refused.at, 3, 3, 2);
     step(b"the same member", again, 0, 2, 2);
-    let ended = reader::read_member(b"\x00\x02", again.at, 3, 3, 3);
+    let ended = record_reading::read_member(b"\x00\x02", again.at, 3, 3, 3);
     step(b"at the end", ended, 2, 1, 2);
 }
 
@@ -94,35 +94,35 @@ pub fn stays() {
 pub fn refused() {
     step(
         b"one byte",
-        reader::read_member(b"\x00\x02\x00", 2, 3, 3, 0),
+        record_reading::read_member(b"\x00\x02\x00", 2, 3, 3, 0),
         2,
         1,
         2,
     );
     step(
         b"past the end",
-        reader::read_member(b"\x00\x02", 18_446_744_073_709_551_615, 3, 3, 0),
+        record_reading::read_member(b"\x00\x02", 18_446_744_073_709_551_615, 3, 3, 0),
         2,
         1,
         18_446_744_073_709_551_615,
     );
     step(
         b"node 3 of 3",
-        reader::read_member(b"\x00\x03", 0, 3, 3, 0),
+        record_reading::read_member(b"\x00\x03", 0, 3, 3, 0),
         2,
         10,
         0,
     );
     step(
         b"link 3 of 3",
-        reader::read_member(b"\x01\x03", 0, 64, 3, 0),
+        record_reading::read_member(b"\x01\x03", 0, 64, 3, 0),
         2,
         10,
         0,
     );
     step(
         b"kind 2",
-        reader::read_member(b"\x02\x00", 0, 3, 3, 0),
+        record_reading::read_member(b"\x02\x00", 0, 3, 3, 0),
         2,
         10,
         0,

@@ -1,17 +1,17 @@
 // The test program of plans that are written and read: document 01, "Plan file". Lists and outputs hold a pattern, byte 170 and word 77,
 // before the call. Each expected value stands beside its vector, taken from document 01 or worked out by hand; a difference is printed,
 // and `trials ended` is the last line. The stored output is that line alone.
-use vectors::BYTE;
-use vectors::WORD;
-use vectors::accepted;
-use vectors::full_events;
-use vectors::header;
-use vectors::large_file;
-use vectors::many_links;
-use vectors::same;
-use vectors::same_bytes;
-use vectors::same_words;
-use vectors::written;
+use trials_vectors::BYTE;
+use trials_vectors::WORD;
+use trials_vectors::accepted;
+use trials_vectors::full_events;
+use trials_vectors::header;
+use trials_vectors::large_file;
+use trials_vectors::many_links;
+use trials_vectors::same;
+use trials_vectors::same_bytes;
+use trials_vectors::same_words;
+use trials_vectors::written;
 
 fn main() {
     read_then_written();
@@ -27,12 +27,12 @@ fn read_then_written() {
     let h = header(64, 128, 2, 1_000_000_000_000_000_000, 1_000_000);
     accepted(
         b"read and write again",
-        files::read(&large_file(), &mut links, &mut events),
+        plan_reading::read(&large_file(), &mut links, &mut events),
         h,
     );
     written(
         b"write again what was read",
-        writer::write(h, &links, &events, &mut out),
+        plan_writing::write(h, &links, &events, &mut out),
         302,
     );
     same_bytes(b"what was read and written again", &out, &large_file());
@@ -42,7 +42,7 @@ fn read_then_written() {
 // back equal.
 fn longest() {
     let mut out = [BYTE; 50069];
-    let answer = writer::write(
+    let answer = plan_writing::write(
         header(64, 128, 128, 1, 1),
         &many_links(),
         &full_events(),
@@ -56,7 +56,7 @@ fn longest() {
 fn longest_read(file: &[u8]) {
     let mut links = [BYTE; 256];
     let mut events = [WORD; 512];
-    let answer = files::read(file, &mut links, &mut events);
+    let answer = plan_reading::read(file, &mut links, &mut events);
     accepted(b"read the longest plan", answer, header(64, 128, 128, 1, 1));
     same_bytes(b"the longest plan: links", &links, &many_links());
     same_words(b"the longest plan: events", &events, &full_events());

@@ -1,11 +1,11 @@
-// The test program of the run. Each expected value stands beside its vector, taken from document 01 or worked out by hand; a difference is
-// printed, and `trials ended` is the last line. The stored output is that line alone.
+// The test program of the run, and of the run with windows (`windows`). Each expected value stands beside its vector, taken from document
+// 01 or worked out by hand; a difference is printed, and `trials ended` is the last line. The stored output is that line alone.
 use bounds::Ran;
-use vectors::all_words;
-use vectors::header;
-use vectors::many_links;
-use vectors::same;
-use vectors::same_part;
+use trials_vectors::all_words;
+use trials_vectors::header;
+use trials_vectors::many_links;
+use trials_vectors::same;
+use trials_vectors::same_part;
 
 fn main() {
     halves(b"128 events of 1/2 at cap 1", 1);

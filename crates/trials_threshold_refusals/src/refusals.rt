@@ -1,7 +1,7 @@
 // What the call refuses.
-use threshold_vectors::refused;
 use thresholds::CommonHeader;
-use vectors::WORD;
+use trials_threshold_vectors::refused;
+use trials_vectors::WORD;
 
 // Where the lists of bounds have room for 17 blocks of three pairs.
 fn with_room(

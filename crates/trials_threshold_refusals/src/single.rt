@@ -1,11 +1,11 @@
 // Plans without a pair or an event. Masses are in units of 10^-18.
-use threshold_vectors::answered;
-use threshold_vectors::untouched;
 use thresholds::Answered;
 use thresholds::CommonHeader;
-use vectors::WORD;
-use vectors::same_part;
-use vectors::same_words;
+use trials_threshold_vectors::answered;
+use trials_threshold_vectors::untouched;
+use trials_vectors::WORD;
+use trials_vectors::same_part;
+use trials_vectors::same_words;
 ghost use Prim.Native.Nat.{_<_};
 
 const WHOLE: u64 = 1_000_000_000_000_000_000;

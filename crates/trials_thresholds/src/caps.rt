@@ -8,7 +8,7 @@
 //   t = 1 unit:     the 16 of the plan
 use crate::held::rows;
 use thresholds::CommonHeader;
-use vectors::WORD;
+use trials_vectors::WORD;
 
 fn asked(label: &[u8], cap: u64, text: &[u8]) {
     let links = [0u8, 1, 1, 2];

@@ -21,10 +21,10 @@
 //    6 WFWF    45  0-2, 1-2     14 FFWF    45  all
 //    7 WFFW    45  0-2, 1-2     15 FFFW    45  all
 //    8 WFFF     5  0-2, 1-2     16 FFFF     5  all
-use threshold_vectors::answered;
-use threshold_vectors::untouched;
 use thresholds::Answered;
-use vectors::same_at;
+use trials_threshold_vectors::answered;
+use trials_threshold_vectors::untouched;
+use trials_vectors::same_at;
 ghost use Prim.Native.Nat.{_<_};
 
 const UNIT: u64 = 100_000_000_000_000;

@@ -10,7 +10,7 @@
 //   t up to 10:                 all four    WW WF FW FF
 use crate::held::rows;
 use thresholds::CommonHeader;
-use vectors::WORD;
+use trials_vectors::WORD;
 
 fn asked(label: &[u8], cap: u64, list: &[u64], text: &[u8]) {
     let links = [0u8, 1, 1, 2];

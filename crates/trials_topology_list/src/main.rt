@@ -2,11 +2,11 @@
 // by hand; a difference is printed, and `trials ended` is the last line. The stored output is that line alone.
 use plan::Header;
 use topology_list::Listed;
-use vectors::header;
-use vectors::many_links;
-use vectors::same;
-use vectors::same_part;
-use vectors::same_words;
+use trials_vectors::header;
+use trials_vectors::many_links;
+use trials_vectors::same;
+use trials_vectors::same_part;
+use trials_vectors::same_words;
 
 fn main() {
     equal();

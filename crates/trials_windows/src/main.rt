@@ -2,10 +2,10 @@
 // 127. Each expected value stands beside its vector, worked out by hand; a difference is printed, and `trials ended` is the last line. The
 // stored output is that line alone.
 use bounds::Ran;
-use vectors::header;
-use vectors::same;
-use vectors::same_part;
-use vectors::same_words;
+use trials_vectors::header;
+use trials_vectors::same;
+use trials_vectors::same_part;
+use trials_vectors::same_words;
 
 const WHOLE: u64 = 1_000_000_000_000_000_000;
 

@@ -3,9 +3,9 @@
 // is that line alone.
 use plan::Header;
 use readings::Witnessed;
-use vectors::header;
-use vectors::same;
-use vectors::same_part;
+use trials_vectors::header;
+use trials_vectors::same;
+use trials_vectors::same_part;
 
 const TENTH: u64 = 100_000_000_000_000_000;
 

@@ -1,16 +1,16 @@
 // Plans that are written: document 01, "Plan file".
-use vectors::BYTE;
-use vectors::header;
-use vectors::large_events;
-use vectors::large_file;
-use vectors::many_links;
-use vectors::same_bytes;
-use vectors::written;
+use trials_vectors::BYTE;
+use trials_vectors::header;
+use trials_vectors::large_events;
+use trials_vectors::large_file;
+use trials_vectors::many_links;
+use trials_vectors::same_bytes;
+use trials_vectors::written;
 
 // The triangle of document 01: 20 bytes, 6 for the links and 7 for each event. Three bytes are left over.
 pub fn triangle() {
     let mut out = [BYTE; 50];
-    let answer = writer::write(
+    let answer = plan_writing::write(
         header(3, 3, 3, 1, 100),
         b"\x00\x01\x00\x02\x01\x02",
         &[1, 0, 1, 0, 1, 0, 2, 0, 1, 0, 4, 0],
@@ -27,7 +27,7 @@ pub fn triangle() {
 // Node 63, link 127 and both words of the links. Two bytes are left over.
 pub fn large() {
     let mut out = [BYTE; 304];
-    let answer = writer::write(
+    let answer = plan_writing::write(
         header(64, 128, 2, 1_000_000_000_000_000_000, 1_000_000),
         &many_links(),
         &large_events(),
@@ -41,7 +41,7 @@ pub fn large() {
 // What stands past a count is not used: links that 7 would refuse, an event that 8 and 10 would refuse, and three words that make no event.
 pub fn past_the_counts() {
     let mut out = [BYTE; 32];
-    let answer = writer::write(
+    let answer = plan_writing::write(
         header(2, 1, 1, 1, 100),
         b"\x00\x01\xff\xff\x01",
         &[
@@ -71,7 +71,7 @@ pub fn past_the_counts() {
 // No link and no event, whatever the lists hold, into an output of exactly 20 bytes: t = 0x0102030405060708 and cap = 658,188 = 0x000a0b0c.
 pub fn header_alone() {
     let mut out = [BYTE; 20];
-    let answer = writer::write(
+    let answer = plan_writing::write(
         header(64, 0, 0, 72_623_859_790_382_856, 658_188),
         b"\xff\xff",
         &[18_446_744_073_709_551_615, 1, 1, 1],

@@ -128,7 +128,7 @@ pub fn is_sound(
       mass = «mass»;
     }) ⌝ }
 {
-    if lent::lists_refusal(h, links, events) != 0 {
+    if plan_lists::lists_refusal(h, links, events) != 0 {
         return false;
     }
     if !numbers_sound(h.cap, at, reached, count) {

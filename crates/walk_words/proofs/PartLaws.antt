@@ -6,7 +6,7 @@ use Prim.Native.Nat.{ℕ, _+_, _-_, _≤_}
 use native.Mathlib.Omega.{arith}
 use lib.ListN.{length, take, drop, length-append, length-drop, drop-of-length-le}
 use lib.Seq.{sets, sets-eq, drop-drop, length-take-le}
-use Rattle.lent.proofs.ListLaws.{sets-then}
+use Rattle.plan_lists.proofs.ListLaws.{sets-then}
 
 -- a list laid down over one as long
 pub sets-all : (l vs : List ℕ) → length vs ≡ length l → sets l 0 vs ≡ vs

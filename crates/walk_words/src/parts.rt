@@ -1,6 +1,6 @@
 // Parts of a list of words: laying them down, and taking them, from a position on.
 // Assumes nothing.
-use lent::copy_words;
+use plan_lists::copy_words;
 ghost use mathlib.Core.Path.{_≡_};
 ghost use mathlib.Core.List.{map};
 ghost use Prim.Native.Nat.{ℕ, _+_, _≤_, _%_};

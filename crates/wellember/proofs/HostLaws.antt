@@ -18,8 +18,8 @@ use Rattle.plan.specs.declared.Header.{Header}
 use Rattle.plan.specs.declared.Reading.the-variants as reading
 use Rattle.refusals.proofs.OrderLaws.{stop}
 use Rattle.refusals.proofs.TestLaws.{room-none}
-use Rattle.lent.proofs.ListLaws.{sets-then}
-use Rattle.layout.proofs.LayoutNumbers.{length-little, value-little}
+use Rattle.plan_lists.proofs.ListLaws.{sets-then}
+use Rattle.plan_layout.proofs.LayoutNumbers.{length-little, value-little}
 use Rattle.walk.specs.Walk.{count}
 use Rattle.pairs.specs.Pairs.{pairTest}
 use Rattle.bounds.specs.Bounds.{lowerOf, upperOf, Encloses}

@@ -65,8 +65,8 @@ fn put_bounds(out: &mut [u8], found: PairBounds)
     requires { ⌜ 16 ≤ length (now out) ⌝ }
     ensures { λ r. ⌜ now (out .exit) ≡ sets (now (out .entry)) 0 (sixteen (found .lower) (found .upper)) ⌝ }
 {
-    writer::put_number(out, 0, 8, found.lower);
-    writer::put_number(out, 8, 8, found.upper);
+    plan_writing::put_number(out, 0, 8, found.lower);
+    plan_writing::put_number(out, 8, 8, found.upper);
 }
 
 // The number with which a plan file is refused, or 0.

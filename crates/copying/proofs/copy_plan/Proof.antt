@@ -61,27 +61,27 @@ use Rattle.plan.proofs.Reading as R
 use Rattle.plan.proofs.Reading.Laws as R′
 use Rattle.plan.proofs.Writing as O
 use Rattle.plan.proofs.Writing.Laws as O′
-use Rattle.files.proofs.header_in as head
-use Rattle.files.proofs.header_in.Symbol as head-def
-use Rattle.files.proofs.header_in.Symbol.{name as #head}
-use Rattle.files.proofs.header_in.Met as head-thm
-use Rattle.records.specs.Events.{wordsOf, inRecords}
-use Rattle.reader.specs.Filled.{eventRecords, filledRecords}
+use Rattle.plan_reading.proofs.header_in as head
+use Rattle.plan_reading.proofs.header_in.Symbol as head-def
+use Rattle.plan_reading.proofs.header_in.Symbol.{name as #head}
+use Rattle.plan_reading.proofs.header_in.Met as head-thm
+use Rattle.record_lists.specs.Events.{wordsOf, inRecords}
+use Rattle.record_reading.specs.Filled.{eventRecords, filledRecords}
 use Rattle.copying.specs.Copying.{copyAnswer}
-use Rattle.records.specs.declared.Event.{Event}
-use Rattle.records.proofs.EventRow.{E, event, event-vals, event-tells, event-lawful}
-use Rattle.records.proofs.Lending.{array-lies, lends-mut, back-mut, Kept, lends-imm, back-imm, says2}
-use Rattle.reader.proofs.WholeLists.{no-links, no-events}
+use Rattle.record_lists.specs.declared.Event.{Event}
+use Rattle.record_lists.proofs.EventRow.{E, event, event-vals, event-tells, event-lawful}
+use Rattle.record_lists.proofs.Lending.{array-lies, lends-mut, back-mut, Kept, lends-imm, back-imm, says2}
+use Rattle.record_reading.proofs.WholeLists.{no-links, no-events}
 use Rattle.copying.proofs.CopyLaws.{Copied, copied-plan}
-use Rattle.reader.proofs.Arrays.{Bytes′, Events′, links-val, events-val, links-room, events-room, links-own, events-own, row-bytes}
-use Rattle.reader.proofs.read_records as reads
-use Rattle.reader.proofs.read_records.Symbol as reads-def
-use Rattle.reader.proofs.read_records.Symbol.{name as #read-records}
-use Rattle.reader.proofs.read_records.Met as reads-thm
-use Rattle.records.proofs.write_records as writes
-use Rattle.records.proofs.write_records.Symbol as writes-def
-use Rattle.records.proofs.write_records.Symbol.{name as #write-records}
-use Rattle.records.proofs.write_records.Met as writes-thm
+use Rattle.record_reading.proofs.Arrays.{Bytes′, Events′, links-val, events-val, links-room, events-room, links-own, events-own, row-bytes}
+use Rattle.record_reading.proofs.read_records as reads
+use Rattle.record_reading.proofs.read_records.Symbol as reads-def
+use Rattle.record_reading.proofs.read_records.Symbol.{name as #read-records}
+use Rattle.record_reading.proofs.read_records.Met as reads-thm
+use Rattle.record_lists.proofs.write_records as writes
+use Rattle.record_lists.proofs.write_records.Symbol as writes-def
+use Rattle.record_lists.proofs.write_records.Symbol.{name as #write-records}
+use Rattle.record_lists.proofs.write_records.Met as writes-thm
 use Rattle.copying.proofs.answer_of as answer-of
 use Rattle.copying.proofs.answer_of.Symbol as answer-of-def
 use Rattle.copying.proofs.answer_of.Symbol.{name as #answer-of}
@@ -333,7 +333,7 @@ copy-plan-spec 𝓤 H 𝓜 𝓖 𝓡 =
     entered 𝓤 H (tripleOf 𝓤 H (𝓖 .A) copies.signature (copies.spec 𝓤 H (𝓖 .A) (𝓜 .mem) (𝓡 .run)))
     (tables 𝓤 H 𝓜 𝓡 code.env .C) (tables 𝓤 H 𝓜 𝓡 code.env .Λ) #copy-plan code.function (code.unfolded 𝓤 H 𝓜 𝓡)
     (copy-meets 𝓤 H (𝓖 .A) (givenOf 𝓤 H 𝓜 𝓖) (𝓜 .mem) (𝓡 .run) (tablesOf 𝓤 H 𝓜 (tables 𝓤 H 𝓜 𝓡 code.env))
-    (cited 𝓤 H (Reads 𝓤 H (𝓖 .A) (𝓜 .mem) (𝓡 .run)) 𝓜 𝓡 code.env #read-records reads-def.routine code.calls-reader·read-records (reads-thm.met 𝓤 H 𝓜 𝓖 𝓡))
-    (cited 𝓤 H (HeaderIn 𝓤 H (𝓖 .A) (𝓜 .mem) (𝓡 .run)) 𝓜 𝓡 code.env #head head-def.routine code.calls-files·header-in (head-thm.met 𝓤 H 𝓜 𝓖 𝓡))
-    (cited 𝓤 H (Writes 𝓤 H (𝓖 .A) (𝓜 .mem) (𝓡 .run)) 𝓜 𝓡 code.env #write-records writes-def.routine code.calls-records·write-records (writes-thm.met 𝓤 H 𝓜 𝓖 𝓡))
+    (cited 𝓤 H (Reads 𝓤 H (𝓖 .A) (𝓜 .mem) (𝓡 .run)) 𝓜 𝓡 code.env #read-records reads-def.routine code.calls-record-reading·read-records (reads-thm.met 𝓤 H 𝓜 𝓖 𝓡))
+    (cited 𝓤 H (HeaderIn 𝓤 H (𝓖 .A) (𝓜 .mem) (𝓡 .run)) 𝓜 𝓡 code.env #head head-def.routine code.calls-plan-reading·header-in (head-thm.met 𝓤 H 𝓜 𝓖 𝓡))
+    (cited 𝓤 H (Writes 𝓤 H (𝓖 .A) (𝓜 .mem) (𝓡 .run)) 𝓜 𝓡 code.env #write-records writes-def.routine code.calls-record-lists·write-records (writes-thm.met 𝓤 H 𝓜 𝓖 𝓡))
     (cited 𝓤 H (AnswerOf 𝓤 H (𝓖 .A) (𝓜 .mem) (𝓡 .run)) 𝓜 𝓡 code.env #answer-of answer-of-def.routine code.calls-copying·answer-of (answer-of-thm.met 𝓤 H 𝓜 𝓖 𝓡)))

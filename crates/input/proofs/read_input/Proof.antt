@@ -4,7 +4,7 @@ use Prim.Native.Nat.{ℕ}
 use native.Mathlib.Omega.{arith}
 use borrow.Author.Needs.{needs}
 use Rattle.plan.specs.Calls.{headerOf, readAnswer}
-use Rattle.files.proofs.ReaderLawsAnswer.{full-rooms}
+use Rattle.plan_reading.proofs.ReaderLawsAnswer.{full-rooms}
 use Rattle.input.proofs.LoadedLaws.{bytes-each, left-same, left-loaded}
 use Rattle.input.proofs.read_input.Statement.{statement}
 use Rattle.input.proofs.read_input.Tie as tie

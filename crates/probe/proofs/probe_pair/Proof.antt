@@ -1,4 +1,4 @@
--- `probe::probe_pair` meets its contract: the call of `run_answers` is handed on. Assumes nothing.
+-- `probe::probe_pair` meets its contract: the call of `host_runs` is handed on. Assumes nothing.
 use borrow.Author.Needs.{needs}
 use Rattle.probe.proofs.probe_pair.Statement.{statement}
 use Rattle.probe.proofs.probe_pair.Tie as tie

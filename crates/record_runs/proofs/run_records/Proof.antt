@@ -59,15 +59,15 @@ use Rattle.bounds.specs.Calls.{runNumber, ranAnswer, ranNumber, totalsOf, total
 use Rattle.bounds.specs.declared.Ran.{Ran}
 use Rattle.bounds.proofs.Ran as R
 use Rattle.bounds.proofs.Ran.Laws as R′
-use Rattle.records.specs.Events.{wordsOf, inRecords}
-use Rattle.records.specs.declared.Event.{Event}
-use Rattle.records.proofs.EventRow.{E, words-ty, Words}
-use Rattle.records.proofs.Lending.{zeros, zeros-val, zeros-own, words-lawful, array-lies, words-gone, says4}
-use Rattle.records.proofs.flatten as flatten
-use Rattle.records.proofs.flatten.Symbol as flatten-def
-use Rattle.records.proofs.flatten.Symbol.{name as #flatten}
-use Rattle.records.proofs.flatten.Met as flatten-thm
-use Rattle.records.proofs.PlanLaws.{used-words}
+use Rattle.record_lists.specs.Events.{wordsOf, inRecords}
+use Rattle.record_lists.specs.declared.Event.{Event}
+use Rattle.record_lists.proofs.EventRow.{E, words-ty, Words}
+use Rattle.record_lists.proofs.Lending.{zeros, zeros-val, zeros-own, words-lawful, array-lies, words-gone, says4}
+use Rattle.record_lists.proofs.flatten as flatten
+use Rattle.record_lists.proofs.flatten.Symbol as flatten-def
+use Rattle.record_lists.proofs.flatten.Symbol.{name as #flatten}
+use Rattle.record_lists.proofs.flatten.Met as flatten-thm
+use Rattle.record_lists.proofs.PlanLaws.{used-words}
 use Rattle.record_runs.proofs.RunLaws.{Outcome, run-concluded}
 use Rattle.record_runs.proofs.run_words as run-words
 use Rattle.record_runs.proofs.run_words.Symbol as run-words-def
@@ -275,5 +275,5 @@ run-records-spec 𝓤 H 𝓜 𝓖 𝓡 =
     entered 𝓤 H (tripleOf 𝓤 H (𝓖 .A) runs.signature (runs.spec 𝓤 H (𝓖 .A) (𝓜 .mem) (𝓡 .run)))
     (tables 𝓤 H 𝓜 𝓡 code.env .C) (tables 𝓤 H 𝓜 𝓡 code.env .Λ) #run-records code.function (code.unfolded 𝓤 H 𝓜 𝓡)
     (run-meets 𝓤 H (𝓖 .A) (givenOf 𝓤 H 𝓜 𝓖) (𝓜 .mem) (𝓡 .run) (tablesOf 𝓤 H 𝓜 (tables 𝓤 H 𝓜 𝓡 code.env))
-    (cited 𝓤 H (Flatten 𝓤 H (𝓖 .A) (𝓜 .mem) (𝓡 .run)) 𝓜 𝓡 code.env #flatten flatten-def.routine code.calls-records·flatten (flatten-thm.met 𝓤 H 𝓜 𝓖 𝓡))
+    (cited 𝓤 H (Flatten 𝓤 H (𝓖 .A) (𝓜 .mem) (𝓡 .run)) 𝓜 𝓡 code.env #flatten flatten-def.routine code.calls-record-lists·flatten (flatten-thm.met 𝓤 H 𝓜 𝓖 𝓡))
     (cited 𝓤 H (RunWords 𝓤 H (𝓖 .A) (𝓜 .mem) (𝓡 .run)) 𝓜 𝓡 code.env #run-words run-words-def.routine code.calls-record-runs·run-words (run-words-thm.met 𝓤 H 𝓜 𝓖 𝓡)))

@@ -53,23 +53,23 @@ use Rattle.sheets.specs.SheetCalls.{countsOf, readSheetRefusal, readSheetAnswer
 use Rattle.sheets.specs.declared.SheetReading.{SheetReading}
 use Rattle.sheets.proofs.SheetReading as R
 use Rattle.sheets.proofs.SheetReading.Laws as R′
-use Rattle.records.specs.Events.{wordsOf}
-use Rattle.records.specs.declared.Event.{Event}
-use Rattle.records.proofs.EventRow.{E, event, event-vals, event-tells, event-lawful, words-ty, Words}
-use Rattle.records.proofs.Lending.{zeros, zeros-val, zeros-own, words-lawful, words-gone, array-lies, lends-mut, back-mut, Kept, lends-imm, back-imm, says2}
-use Rattle.reader.specs.Filled.{filledRecords}
-use Rattle.reader.proofs.WholeLists.{no-events}
-use Rattle.reader.proofs.Arrays.{Events′, events-val, events-room, events-own}
+use Rattle.record_lists.specs.Events.{wordsOf}
+use Rattle.record_lists.specs.declared.Event.{Event}
+use Rattle.record_lists.proofs.EventRow.{E, event, event-vals, event-tells, event-lawful, words-ty, Words}
+use Rattle.record_lists.proofs.Lending.{zeros, zeros-val, zeros-own, words-lawful, words-gone, array-lies, lends-mut, back-mut, Kept, lends-imm, back-imm, says2}
+use Rattle.record_reading.specs.Filled.{filledRecords}
+use Rattle.record_reading.proofs.WholeLists.{no-events}
+use Rattle.record_reading.proofs.Arrays.{Events′, events-val, events-room, events-own}
 use Rattle.sheet_records.specs.SheetRecords.{sheetRecords, handedNumber}
 use Rattle.sheet_records.proofs.SheetRecordsLaws.{count-bounds, handed-sheet}
 use Rattle.sheet_records.proofs.read_records as reads
 use Rattle.sheet_records.proofs.read_records.Symbol as reads-def
 use Rattle.sheet_records.proofs.read_records.Symbol.{name as #read-records}
 use Rattle.sheet_records.proofs.read_records.Met as reads-thm
-use Rattle.records.proofs.flatten as flatten
-use Rattle.records.proofs.flatten.Symbol as flatten-def
-use Rattle.records.proofs.flatten.Symbol.{name as #flatten}
-use Rattle.records.proofs.flatten.Met as flatten-thm
+use Rattle.record_lists.proofs.flatten as flatten
+use Rattle.record_lists.proofs.flatten.Symbol as flatten-def
+use Rattle.record_lists.proofs.flatten.Symbol.{name as #flatten}
+use Rattle.record_lists.proofs.flatten.Met as flatten-thm
 use Rattle.sheet_records.proofs.words.hand_over as hand-over
 use Rattle.sheet_records.proofs.words.hand_over.Symbol as hand-over-def
 use Rattle.sheet_records.proofs.words.hand_over.Symbol.{name as #hand-over}
@@ -267,5 +267,5 @@ read-by-records-spec 𝓤 H 𝓜 𝓖 𝓡 =
     (tables 𝓤 H 𝓜 𝓡 code.env .C) (tables 𝓤 H 𝓜 𝓡 code.env .Λ) #read-by-records code.function (code.unfolded 𝓤 H 𝓜 𝓡)
     (hand-meets 𝓤 H (𝓖 .A) (givenOf 𝓤 H 𝓜 𝓖) (𝓜 .mem) (𝓡 .run) (tablesOf 𝓤 H 𝓜 (tables 𝓤 H 𝓜 𝓡 code.env))
     (cited 𝓤 H (Reads 𝓤 H (𝓖 .A) (𝓜 .mem) (𝓡 .run)) 𝓜 𝓡 code.env #read-records reads-def.routine code.calls-sheet-records·read-records (reads-thm.met 𝓤 H 𝓜 𝓖 𝓡))
-    (cited 𝓤 H (Flatten 𝓤 H (𝓖 .A) (𝓜 .mem) (𝓡 .run)) 𝓜 𝓡 code.env #flatten flatten-def.routine code.calls-records·flatten (flatten-thm.met 𝓤 H 𝓜 𝓖 𝓡))
+    (cited 𝓤 H (Flatten 𝓤 H (𝓖 .A) (𝓜 .mem) (𝓡 .run)) 𝓜 𝓡 code.env #flatten flatten-def.routine code.calls-record-lists·flatten (flatten-thm.met 𝓤 H 𝓜 𝓖 𝓡))
     (cited 𝓤 H (HandOver 𝓤 H (𝓖 .A) (𝓜 .mem) (𝓡 .run)) 𝓜 𝓡 code.env #hand-over hand-over-def.routine code.calls-sheet-records·words·hand-over (hand-over-thm.met 𝓤 H 𝓜 𝓖 𝓡)))

@@ -51,11 +51,11 @@ use Rattle.sheets.specs.SheetCalls.{countsOf, readSheetRefusal, readSheetAnswer
 use Rattle.sheets.specs.declared.SheetReading.{SheetReading}
 use Rattle.sheets.proofs.SheetReading as R
 use Rattle.sheets.proofs.SheetReading.Laws as R′
-use Rattle.records.specs.Events.{recordsOf}
-use Rattle.records.specs.declared.Event.{Event}
-use Rattle.records.proofs.EventRow.{E, word, words-ty, Words}
-use Rattle.records.proofs.Lending.{zeros, zeros-val, zeros-own, words-lawful, array-lies, words-gone, says2}
-use Rattle.reader.specs.Filled.{filledRecords}
+use Rattle.record_lists.specs.Events.{recordsOf}
+use Rattle.record_lists.specs.declared.Event.{Event}
+use Rattle.record_lists.proofs.EventRow.{E, word, words-ty, Words}
+use Rattle.record_lists.proofs.Lending.{zeros, zeros-val, zeros-own, words-lawful, array-lies, words-gone, says2}
+use Rattle.record_reading.specs.Filled.{filledRecords}
 use Rattle.sheet_records.specs.SheetRecords.{sheetRecords}
 use Rattle.sheet_records.proofs.SheetRecordsLaws.{count-bounds, read-list}
 use Rattle.sheets.proofs.read_core as read-core
@@ -66,10 +66,10 @@ use Rattle.sheet_records.proofs.words.lines_in as lines-in
 use Rattle.sheet_records.proofs.words.lines_in.Symbol as lines-in-def
 use Rattle.sheet_records.proofs.words.lines_in.Symbol.{name as #lines-in}
 use Rattle.sheet_records.proofs.words.lines_in.Met as lines-in-thm
-use Rattle.records.proofs.fill as fill
-use Rattle.records.proofs.fill.Symbol as fill-def
-use Rattle.records.proofs.fill.Symbol.{name as #fill}
-use Rattle.records.proofs.fill.Met as fill-thm
+use Rattle.record_lists.proofs.fill as fill
+use Rattle.record_lists.proofs.fill.Symbol as fill-def
+use Rattle.record_lists.proofs.fill.Symbol.{name as #fill}
+use Rattle.record_lists.proofs.fill.Met as fill-thm
 use Rattle.sheet_records.proofs.read_records.Key.{name as #read-records}
 use Rattle.sheet_records.proofs.read_records as reads
 use Rattle.sheet_records.proofs.read_records.Statement as stated
@@ -258,4 +258,4 @@ read-records-spec 𝓤 H 𝓜 𝓖 𝓡 =
     (read-meets 𝓤 H (𝓖 .A) (givenOf 𝓤 H 𝓜 𝓖) (𝓜 .mem) (𝓡 .run) (tablesOf 𝓤 H 𝓜 (tables 𝓤 H 𝓜 𝓡 code.env))
     (cited 𝓤 H (ReadCore 𝓤 H (𝓖 .A) (𝓜 .mem) (𝓡 .run)) 𝓜 𝓡 code.env #read-core read-core-def.routine code.calls-sheets·read-core (read-core-thm.met 𝓤 H 𝓜 𝓖 𝓡))
     (cited 𝓤 H (LinesIn 𝓤 H (𝓖 .A) (𝓜 .mem) (𝓡 .run)) 𝓜 𝓡 code.env #lines-in lines-in-def.routine code.calls-sheet-records·words·lines-in (lines-in-thm.met 𝓤 H 𝓜 𝓖 𝓡))
-    (cited 𝓤 H (Fill 𝓤 H (𝓖 .A) (𝓜 .mem) (𝓡 .run)) 𝓜 𝓡 code.env #fill fill-def.routine code.calls-records·fill (fill-thm.met 𝓤 H 𝓜 𝓖 𝓡)))
+    (cited 𝓤 H (Fill 𝓤 H (𝓖 .A) (𝓜 .mem) (𝓡 .run)) 𝓜 𝓡 code.env #fill fill-def.routine code.calls-record-lists·fill (fill-thm.met 𝓤 H 𝓜 𝓖 𝓡)))

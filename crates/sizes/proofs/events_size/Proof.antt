@@ -5,7 +5,7 @@ use native.Mathlib.Omega.{arith}
 use lib.ListN.{length, drop}
 use Rattle.plan.specs.Lists.{eventsOf}
 use Rattle.plan.specs.Layout.{memberCount, eventBytes}
-use Rattle.layout.proofs.ListLaws.{length-events-of}
+use Rattle.plan_layout.proofs.ListLaws.{length-events-of}
 use Rattle.sizes.proofs.SizeLaws.{size-next, events-most, bytes-end}
 use Rattle.sizes.proofs.events_size.Statement.{statement}
 use Rattle.sizes.proofs.events_size.Tie as tie

@@ -1,7 +1,7 @@
 -- `bounds::full_walk::walk_all` meets its contract. Assumes nothing.
 use borrow.Author.Needs.{needs}
 use mathlib.Core.Path.{refl}
-use Rattle.lent.proofs.Accepted.{plan-held, plan-cap-small}
+use Rattle.plan_lists.proofs.Accepted.{plan-held, plan-cap-small}
 use Rattle.walk.proofs.Resume.{begun-alone}
 use Rattle.bounds.proofs.Root.{ready-whole, whole-totals, whole-sums}
 use Rattle.bounds.proofs.full_walk.walk_all.Statement.{statement}

@@ -1,6 +1,6 @@
 -- `bounds::runs::fill_bounds` meets its contract. Assumes nothing.
 use borrow.Author.Needs.{needs}
-use Rattle.lent.proofs.Accepted.{plan-held}
+use Rattle.plan_lists.proofs.Accepted.{plan-held}
 use Rattle.network.specs.Code.{outage}
 use Rattle.bounds.proofs.Zeros.{cleared}
 use Rattle.bounds.proofs.Outcome.{may-give, lower-filled, upper-filled}

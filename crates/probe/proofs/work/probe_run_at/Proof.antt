@@ -1,4 +1,4 @@
--- `probe::work::probe_run_at` meets its contract: the call of `run_answers` is handed on. Assumes nothing.
+-- `probe::work::probe_run_at` meets its contract: the call of `host_runs` is handed on. Assumes nothing.
 use borrow.Author.Needs.{needs}
 use Rattle.probe.proofs.work.probe_run_at.Statement.{statement}
 use Rattle.probe.proofs.work.probe_run_at.Tie as tie

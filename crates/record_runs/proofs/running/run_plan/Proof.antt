@@ -59,27 +59,27 @@ use Rattle.plan.proofs.Header as T
 use Rattle.plan.proofs.Header.Laws as T′
 use Rattle.plan.proofs.Reading as R
 use Rattle.plan.proofs.Reading.Laws as R′
-use Rattle.files.proofs.header_in as head
-use Rattle.files.proofs.header_in.Symbol as head-def
-use Rattle.files.proofs.header_in.Symbol.{name as #head}
-use Rattle.files.proofs.header_in.Met as head-thm
+use Rattle.plan_reading.proofs.header_in as head
+use Rattle.plan_reading.proofs.header_in.Symbol as head-def
+use Rattle.plan_reading.proofs.header_in.Symbol.{name as #head}
+use Rattle.plan_reading.proofs.header_in.Met as head-thm
 use Rattle.network.specs.Outage.{intact}
 use Rattle.bounds.specs.Bounds.{lowerList, upperList, EnclosesAll}
 use Rattle.bounds.specs.Calls.{runNumber, ranAnswer, ranNumber, totalsOf, totalsIn}
 use Rattle.bounds.specs.declared.Ran.{Ran}
 use Rattle.bounds.proofs.Ran as O
 use Rattle.bounds.proofs.Ran.Laws as O′
-use Rattle.records.specs.Events.{wordsOf, inRecords}
-use Rattle.reader.specs.Filled.{eventRecords, filledRecords}
-use Rattle.records.specs.declared.Event.{Event}
-use Rattle.records.proofs.EventRow.{E, event, event-vals, event-tells, event-lawful}
-use Rattle.records.proofs.Lending.{array-lies, lends-mut, back-mut, Kept, lends-imm, back-imm, says4}
-use Rattle.reader.proofs.WholeLists.{no-links, no-events}
-use Rattle.reader.proofs.Arrays.{Bytes′, Events′, links-val, events-val, links-room, events-room, links-own, events-own, row-bytes}
-use Rattle.reader.proofs.read_records as reads
-use Rattle.reader.proofs.read_records.Symbol as reads-def
-use Rattle.reader.proofs.read_records.Symbol.{name as #read-records}
-use Rattle.reader.proofs.read_records.Met as reads-thm
+use Rattle.record_lists.specs.Events.{wordsOf, inRecords}
+use Rattle.record_reading.specs.Filled.{eventRecords, filledRecords}
+use Rattle.record_lists.specs.declared.Event.{Event}
+use Rattle.record_lists.proofs.EventRow.{E, event, event-vals, event-tells, event-lawful}
+use Rattle.record_lists.proofs.Lending.{array-lies, lends-mut, back-mut, Kept, lends-imm, back-imm, says4}
+use Rattle.record_reading.proofs.WholeLists.{no-links, no-events}
+use Rattle.record_reading.proofs.Arrays.{Bytes′, Events′, links-val, events-val, links-room, events-room, links-own, events-own, row-bytes}
+use Rattle.record_reading.proofs.read_records as reads
+use Rattle.record_reading.proofs.read_records.Symbol as reads-def
+use Rattle.record_reading.proofs.read_records.Symbol.{name as #read-records}
+use Rattle.record_reading.proofs.read_records.Met as reads-thm
 use Rattle.record_runs.specs.Running.{fileNumber, fileAnswer}
 use Rattle.record_runs.proofs.FileLaws.{ran-plan}
 use Rattle.record_runs.proofs.RunLaws.{Promised}
@@ -363,7 +363,7 @@ run-plan-spec 𝓤 H 𝓜 𝓖 𝓡 =
     entered 𝓤 H (tripleOf 𝓤 H (𝓖 .A) plans.signature (plans.spec 𝓤 H (𝓖 .A) (𝓜 .mem) (𝓡 .run)))
     (tables 𝓤 H 𝓜 𝓡 code.env .C) (tables 𝓤 H 𝓜 𝓡 code.env .Λ) #run-plan code.function (code.unfolded 𝓤 H 𝓜 𝓡)
     (plan-meets 𝓤 H (𝓖 .A) (givenOf 𝓤 H 𝓜 𝓖) (𝓜 .mem) (𝓡 .run) (tablesOf 𝓤 H 𝓜 (tables 𝓤 H 𝓜 𝓡 code.env))
-    (cited 𝓤 H (Reads 𝓤 H (𝓖 .A) (𝓜 .mem) (𝓡 .run)) 𝓜 𝓡 code.env #read-records reads-def.routine code.calls-reader·read-records (reads-thm.met 𝓤 H 𝓜 𝓖 𝓡))
-    (cited 𝓤 H (HeaderIn 𝓤 H (𝓖 .A) (𝓜 .mem) (𝓡 .run)) 𝓜 𝓡 code.env #head head-def.routine code.calls-files·header-in (head-thm.met 𝓤 H 𝓜 𝓖 𝓡))
+    (cited 𝓤 H (Reads 𝓤 H (𝓖 .A) (𝓜 .mem) (𝓡 .run)) 𝓜 𝓡 code.env #read-records reads-def.routine code.calls-record-reading·read-records (reads-thm.met 𝓤 H 𝓜 𝓖 𝓡))
+    (cited 𝓤 H (HeaderIn 𝓤 H (𝓖 .A) (𝓜 .mem) (𝓡 .run)) 𝓜 𝓡 code.env #head head-def.routine code.calls-plan-reading·header-in (head-thm.met 𝓤 H 𝓜 𝓖 𝓡))
     (cited 𝓤 H (RunRecords 𝓤 H (𝓖 .A) (𝓜 .mem) (𝓡 .run)) 𝓜 𝓡 code.env #run-records runs-def.routine code.calls-record-runs·run-records (runs-thm.met 𝓤 H 𝓜 𝓖 𝓡))
     (cited 𝓤 H (AnswerOf 𝓤 H (𝓖 .A) (𝓜 .mem) (𝓡 .run)) 𝓜 𝓡 code.env #answer-of answer-of-def.routine code.calls-record-runs·running·answer-of (answer-of-thm.met 𝓤 H 𝓜 𝓖 𝓡)))

@@ -16,8 +16,8 @@ use Rattle.order.proofs.OrderLaws.{length-with}
 use Rattle.sheets.specs.Sheet.{unavailability, eventOfLine}
 use Rattle.sheets.specs.SheetFile.{lineRefusal, linesRefusal, lineSize, lineIn, linesAt}
 use Rattle.sheets.proofs.CheckLaws.{line-head, line-members, line-probable, line-fits, lines-accepted}
-use Rattle.insertion.specs.Inserted.{probability}
-use Rattle.insertion.proofs.InsertionLaws.{inserted-in}
+use Rattle.sheet_order.specs.Inserted.{probability}
+use Rattle.sheet_order.proofs.InsertionLaws.{inserted-in}
 use Rattle.sheets.proofs.ReadLaws.{lines-next, lines-last, members-in}
 use Rattle.sheets.proofs.reader.fill_lines.Statement.{statement}
 use Rattle.sheets.proofs.reader.fill_lines.Tie as tie

@@ -13,7 +13,7 @@ use Rattle.sheets.specs.SheetCalls.{countsOf, readSheetRefusal}
 use Rattle.sheets.specs.declared.Counts.{Counts}
 use Rattle.sheets.specs.declared.SheetReading.the-variants as reading
 use Rattle.sheets.proofs.CheckLaws.{sheet-fits, accepted-lines, accepted-counts}
-use Rattle.insertion.specs.Inserted.{probability}
+use Rattle.sheet_order.specs.Inserted.{probability}
 use Rattle.sheets.proofs.ReadLaws.{read-accepted}
 use Rattle.sheets.proofs.reader.read_core.Statement.{statement}
 use Rattle.sheets.proofs.reader.read_core.Tie as tie

@@ -3,7 +3,7 @@ use mathlib.Core.Path.{ap}
 use native.Mathlib.Omega.{arith}
 use Rattle.pairs.proofs.PairLaws.{pairs-most}
 use Rattle.bounds.specs.declared.Totals.{Totals}
-use Rattle.lent.proofs.Accepted.{plan-held}
+use Rattle.plan_lists.proofs.Accepted.{plan-held}
 use Rattle.bounds.proofs.Zeros.{cleared}
 use Rattle.bounds.proofs.Answers.{giving}
 use Rattle.text.proofs.TextLaws.{sums-text, fits-as, laid-as}

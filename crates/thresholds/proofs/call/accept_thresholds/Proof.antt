@@ -4,7 +4,7 @@ use mathlib.Core.Path.{_≡_, sym, ap, subst, _∙_}
 use native.Mathlib.Omega.{arith}
 use Rattle.plan.specs.LentLists.{Lent, inWords, listsNumber}
 use Rattle.plan.specs.declared.Header.{Header}
-use Rattle.lent.specs.Taken.{Taken}
+use Rattle.plan_lists.specs.Taken.{Taken}
 use Rattle.thresholds.specs.Thresholds.{headerAt, lentAt}
 use Rattle.thresholds.proofs.WalkLaws.{size-most}
 use Rattle.thresholds.proofs.Outcome.{lists-refuse, thresholds-refuse, rooms-decide, rooms-fit}

@@ -2,7 +2,7 @@
 use mathlib.Core.List.{List}
 use Prim.Native.Nat.{ℕ}
 use borrow.Author.Needs.{needs}
-use Rattle.lent.specs.Taken.{Taken}
+use Rattle.plan_lists.specs.Taken.{Taken}
 use Rattle.topology_list.proofs.Answers.{lists-refused, list-full, list-done}
 use Rattle.topology_list.proofs.calls.topologies.Statement.{statement}
 use Rattle.topology_list.proofs.calls.topologies.Tie as tie

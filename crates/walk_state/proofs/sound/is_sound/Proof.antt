@@ -6,7 +6,7 @@ use Prim.Native.Nat.{_/_, _≤_}
 use native.Mathlib.Omega.{arith}
 use lib.ListN.{length}
 use Rattle.plan.specs.LentLists.{planRefusal, planOfLists}
-use Rattle.layout.proofs.Theorems.{lists-denote, lists-accepted}
+use Rattle.plan_layout.proofs.Theorems.{lists-denote, lists-accepted}
 use Rattle.walk_state.proofs.SoundLaws.{lists-fail, numbers-fail, mass-fails, entries-fail, sums-decide, numbers-are}
 use Rattle.walk_state.proofs.sound.is_sound.Statement.{statement}
 use Rattle.walk_state.proofs.sound.is_sound.Tie as tie

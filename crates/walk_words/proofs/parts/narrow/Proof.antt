@@ -7,7 +7,7 @@ use native.Mathlib.Numerals.{add-one}
 use native.Mathlib.Omega.{arith}
 use lib.ListN.{length, take, drop, getD, set, length-map, length-drop}
 use lib.Seq.{sets, length-sets, take-suc, length-take-le, getD-drop}
-use Rattle.lent.proofs.ListLaws.{sets-append}
+use Rattle.plan_lists.proofs.ListLaws.{sets-append}
 use Rattle.walk_words.proofs.PartLaws.{sets-all}
 use Rattle.walk_words.proofs.parts.narrow.Statement.{statement}
 use Rattle.walk_words.proofs.parts.narrow.Tie as tie

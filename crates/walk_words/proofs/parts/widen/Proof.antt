@@ -4,7 +4,7 @@ use Prim.Native.Nat.{_≤_, _<_, _-_}
 use native.Mathlib.Omega.{arith}
 use lib.ListN.{length, take}
 use lib.Seq.{sets, length-sets, take-all}
-use Rattle.lent.proofs.ListLaws.{copy-next}
+use Rattle.plan_lists.proofs.ListLaws.{copy-next}
 use Rattle.walk_words.proofs.parts.widen.Statement.{statement}
 use Rattle.walk_words.proofs.parts.widen.Tie as tie
 

@@ -1,0 +1,2 @@
+-- What the contracts of the crate `host_reach` cite.
+pub mod NodeReach

@@ -1,0 +1,2 @@
+-- What the contracts of the crate `host_readings` cite, beside the definitions of the crates below it.
+pub mod FurtherAnswers

@@ -1,0 +1,2 @@
+-- What the contracts of the crate `host_thresholds` cite, beside the definitions of the crates below it.
+pub mod ThresholdAnswers

@@ -1,2 +1,0 @@
--- Laws that the proofs of the crate `insertion` share.
-pub mod InsertionLaws

@@ -1,2 +1,0 @@
--- What the contracts of the crate `lent` cite.
-pub mod Taken

@@ -1,2 +1,0 @@
--- What the contracts of the crate `node_reach` cite.
-pub mod NodeReach

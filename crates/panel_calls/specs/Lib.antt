@@ -1,2 +1,0 @@
--- What the contracts of the crate `panel_calls` cite.
-pub mod WordCalls

@@ -1,0 +1,2 @@
+-- What the contracts of the crate `plan_lists` cite.
+pub mod Taken

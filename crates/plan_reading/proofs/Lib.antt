@@ -1,0 +1,3 @@
+-- Laws that the proofs of the crate `plan_reading` share.
+pub mod ReaderLaws
+pub mod ReaderLawsAnswer

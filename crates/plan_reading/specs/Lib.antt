@@ -1,0 +1,2 @@
+-- What the contracts of the crate `plan_reading` cite, beside the definitions of the crate `plan`.
+pub mod Members

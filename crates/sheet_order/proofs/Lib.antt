@@ -1,0 +1,2 @@
+-- Laws that the proofs of the crate `sheet_order` share.
+pub mod InsertionLaws

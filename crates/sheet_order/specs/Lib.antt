@@ -1,0 +1,2 @@
+-- What the contracts of the crate `sheet_order` cite, beside the definitions of the crates below it.
+pub mod Inserted

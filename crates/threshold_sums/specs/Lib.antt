@@ -1,2 +1,0 @@
--- What the contracts of the crate `threshold_sums` cite.
-pub mod Walked

@@ -1,0 +1,2 @@
+-- Laws of the crate `trials_vectors`.
+pub mod DataLaws

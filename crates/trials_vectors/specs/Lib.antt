@@ -1,0 +1,2 @@
+-- What the contracts of the crate `trials_vectors` cite.
+pub mod Data

@@ -1,2 +1,0 @@
--- Laws of the crate `vectors`.
-pub mod DataLaws

@@ -1,2 +1,0 @@
--- What the contracts of the crate `vectors` cite.
-pub mod Data

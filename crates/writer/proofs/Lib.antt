@@ -1,3 +1,0 @@
--- Laws that the proofs of the crate `writer` share.
-pub mod WriterLaws
-pub mod WriterAnswer
