@@ -1,2 +1,3 @@
 -- What the contracts of the crate `host_readings` cite, beside the definitions of the crates below it.
 pub mod FurtherAnswers
+pub mod CreditAnswers

@@ -1,7 +1,11 @@
 // The answers of the topology list, the figure, the witness and the downtime as numbers, for the exports of crate `probe`, as crate
 // `host_answers` has those of the other calls: the number of the refusal, or 0, is returned, and the values are laid down in a lent list, as far
 // as it has room. The downtime, which needs no plan, is called here too.
+// The credit of a pair stands in a module of its own.
 // Assumes nothing.
+mod credit_words;
+
+pub use credit_words::credit;
 use host_answers::give_three;
 use host_answers::give_two;
 use host_answers::put;

@@ -14,8 +14,8 @@ use Rattle.plan.specs.Lists.{eventOf, eventsOf}
 use Rattle.plan.specs.LentLists.{planOfLists}
 use Rattle.plan.specs.declared.Header.{Header}
 use Rattle.plan.specs.Layout.{little, elements, memberBytes, eventBytes, headerBytes, layout}
-use Rattle.sizes.proofs.ElementLaws.{elements-left, elements-end, one-none, one-some, memberBytes-append, length-memberBytes}
-use Rattle.sizes.proofs.SizeLaws.{length-little, one-event, length-one-event, bytes-next, bytes-end, linkBytes-take}
+use Rattle.plan_writing.proofs.ElementLaws.{elements-left, elements-end, one-none, one-some, memberBytes-append, length-memberBytes}
+use Rattle.plan_writing.proofs.SizeLaws.{length-little, one-event, length-one-event, bytes-next, bytes-end, linkBytes-take}
 
 -- one more byte of a number laid down
 pub number-next : (out : List ℕ) (i left x : ℕ) → 0 < left

@@ -6,7 +6,7 @@ ghost use Rattle.plan.specs.Calls.{filled, writeAnswer};
 ghost use Rattle.network.specs.Outage.{intact};
 ghost use Rattle.bounds.specs.Bounds.{lowerList, upperList};
 ghost use Rattle.bounds.specs.Calls.{totalsOf, ranAnswer};
-ghost use Rattle.copying.specs.Copying.{copyNumber};
+ghost use Rattle.record_runs.specs.Copying.{copyNumber};
 ghost use Rattle.record_runs.specs.Running.{fileNumber};
 ghost use Rattle.host_answers.specs.Laid.{laid};
 ghost use Rattle.host_answers.specs.Answers.{sizeValues, totalsValues};
@@ -33,5 +33,5 @@ pub extern "C" fn probe_copy_plan(plan: &[u8], out: &mut [u8], size: &mut [u64])
     ensures out { λ r. ⌜ now (out .exit) ≡ filled r (now (plan .entry)) (now (out .entry)) ⌝ }
     ensures size { λ r. ⌜ now (size .exit) ≡ laid (sizeValues (writeAnswer r (length (now (plan .entry))))) (now (size .entry)) ⌝ }
 {
-    host_answers::give_size(copying::copy_plan(plan, out), size)
+    host_answers::give_size(record_runs::copy_plan(plan, out), size)
 }

@@ -11,7 +11,7 @@ ghost use Rattle.credits.specs.Credit.{creditNumber, creditOf};
 ghost use Rattle.host_answers.specs.Laid.{laid};
 ghost use Rattle.host_answers.specs.Answers.{headerWith};
 ghost use Rattle.host_readings.specs.FurtherAnswers.{figureValues, secondsValues, failingValues};
-ghost use Rattle.credit_answers.specs.CreditAnswers.{creditsValues};
+ghost use Rattle.host_readings.specs.CreditAnswers.{creditsValues};
 
 #[no_mangle]
 pub extern "C" fn probe_figure(
@@ -91,5 +91,5 @@ pub extern "C" fn probe_credit(
         fee «limit_seconds» rate)) (now (result .entry)) ⌝ }
 {
     let h = header(nodes, links_count, events_count, threshold, cap);
-    credit_answers::credit(h, links, events, v, w, fee, limit_seconds, rate, result)
+    host_readings::credit(h, links, events, v, w, fee, limit_seconds, rate, result)
 }

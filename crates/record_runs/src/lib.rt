@@ -1,9 +1,12 @@
 // The run over all pairs with the events in a lent list of records: document 01, sections "Plan file" and "Bounds of a pair".
 // `run_records` is proved by hand, and is thin over `run_words`; `run_plan` takes a plan file in their place.
+// `copy_plan` reads a plan file into records and writes it again.
 // Assumes nothing.
+mod copying;
 mod running;
 
 use bounds::Ran;
+pub use copying::copy_plan;
 use plan::Header;
 use record_lists::Event;
 use record_lists::flatten;

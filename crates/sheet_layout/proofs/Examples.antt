@@ -5,7 +5,7 @@ use mathlib.Core.List.{List, [], _∷_, _++_}
 use Prim.Native.Nat.{ℕ, _+_, _-_, _*_, _^_}
 use lib.ListN.{replicate}
 use Rattle.mass.specs.Refusal.{first}
-use Rattle.order.specs.Order.{placeOf, withElement, orderedWith}
+use Rattle.sheet_order.specs.Order.{placeOf, withElement, orderedWith}
 use Rattle.plan.specs.Lists.{eventWords}
 use Rattle.plan.specs.Layout.{value, little, elements, memberBytes, members, memberCount}
 use Rattle.plan.specs.File.{memberRefusal, membersRefusal, setOf}

@@ -12,9 +12,9 @@ use Rattle.mass.specs.Refusal.{first}
 use Rattle.mass.specs.Split.{certain}
 use Rattle.refusals.specs.Tests.{countsTest, thresholdTest, capTest}
 use Rattle.refusals.proofs.TestLaws.{counts-pass, room-pass}
-use Rattle.order.specs.Falling.{FallingFrom, AtMost, having}
-use Rattle.order.proofs.OrderLaws.{Every, every-ordered, length-ordered}
-use Rattle.order.proofs.Theorems.{ordered-falling, ordered-rearranged, ordered-stable}
+use Rattle.sheet_order.specs.Falling.{FallingFrom, AtMost, having}
+use Rattle.sheet_order.proofs.OrderLaws.{Every, every-ordered, length-ordered}
+use Rattle.sheet_order.proofs.Theorems.{ordered-falling, ordered-rearranged, ordered-stable}
 use Rattle.plan.specs.Plan.{Link, Event}
 use Rattle.plan.specs.Lists.{linksOf, eventsOf}
 use Rattle.plan.specs.Layout.{Bytes}

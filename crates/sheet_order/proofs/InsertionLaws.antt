@@ -14,7 +14,7 @@ use lib.Seq.{sets, sets-eq, set-comm, set-set, set-out, take-nil, getD-set-other
 use Rattle.plan.specs.Plan.{Event}
 use Rattle.plan.specs.Lists.{eventsOf, eventWords}
 use Rattle.plan_layout.proofs.ListLaws.{events-laid}
-use Rattle.order.specs.Order.{placeOf, withElement}
+use Rattle.sheet_order.specs.Order.{placeOf, withElement}
 use Rattle.sheet_order.specs.Inserted.{probability, insertedWords}
 
 -- ---- runs of stores

@@ -6,7 +6,7 @@ use lib.ListN.{take, drop}
 use lib.Seq.{sets}
 use Rattle.plan.specs.Plan.{Event}
 use Rattle.plan.specs.Lists.{eventsOf}
-use Rattle.order.specs.Order.{placeOf}
+use Rattle.sheet_order.specs.Order.{placeOf}
 
 -- events stand in the order of their probability
 abbrev pub probability : Event → ℕ

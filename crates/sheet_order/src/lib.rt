@@ -1,4 +1,5 @@
 // Events put in order as they come (document 02, request U2): each is laid down before the first one whose probability is below its own.
+// The order itself, by falling key over any element, is a definition (specs/Order.antt) with its laws in proofs/.
 // Assumes nothing.
 use plan_reading::Members;
 ghost use mathlib.Core.Path.{_≡_};
@@ -6,7 +7,7 @@ ghost use Prim.Native.Nat.{_+_, _-_, _*_, _≤_, _<_};
 ghost use lib.ListN.{length, take, drop};
 ghost use lib.Seq.{sets};
 ghost use Rattle.plan.specs.Lists.{eventsOf};
-ghost use Rattle.order.specs.Order.{placeOf};
+ghost use Rattle.sheet_order.specs.Order.{placeOf};
 ghost use Rattle.sheet_order.specs.Inserted.{probability, insertedWords};
 
 // How many of the first `count` events stand before the first one whose probability is below q.

@@ -14,8 +14,8 @@ use Rattle.plan.specs.File.{setOf}
 use Rattle.plan.specs.Calls.{filled}
 use Rattle.plan.proofs.FileLaws.{suc-sub-one}
 use Rattle.plan_reading.proofs.ReaderLawsAnswer.{copied}
-use Rattle.order.specs.Order.{withElement, orderedWith}
-use Rattle.order.proofs.OrderLaws.{length-ordered}
+use Rattle.sheet_order.specs.Order.{withElement, orderedWith}
+use Rattle.sheet_order.proofs.OrderLaws.{length-ordered}
 use Rattle.sheets.specs.Sheet.{eventOfLine, sheetEvents}
 use Rattle.sheets.specs.SheetFile.{linesIn, lineMembersIn, lineSize, sheetRefusal, lineIn, linesAt, sheetOf}
 use Rattle.sheets.specs.SheetCalls.{countsOf, readSheetRefusal, readSheetAnswer, sheetNumber, countsIn, sheetWords}

@@ -3,7 +3,7 @@
 use mathlib.Core.List.{List, map}
 use Prim.Native.Nat.{ℕ, _*_}
 use Rattle.plan.specs.Plan.{Event}
-use Rattle.order.specs.Order.{ordered}
+use Rattle.sheet_order.specs.Order.{ordered}
 
 -- a line of equipment: failures in 10^9 hours (FIT), hours of repair, length (1 for a box, kilometres for cable), its set of nodes and its
 -- set of links

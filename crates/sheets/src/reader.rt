@@ -16,7 +16,7 @@ ghost use Rattle.mass.specs.Split.{certain};
 ghost use Rattle.plan.specs.Plan.{Event};
 ghost use Rattle.plan.specs.Lists.{eventWords};
 ghost use Rattle.plan.specs.Calls.{filled};
-ghost use Rattle.order.specs.Order.{ordered};
+ghost use Rattle.sheet_order.specs.Order.{ordered};
 ghost use Rattle.sheets.specs.Sheet.{unavailability, eventOfLine};
 ghost use Rattle.sheets.specs.SheetFile.{linesRefusal, lineIn, linesAt};
 ghost use Rattle.sheets.specs.SheetCalls.{countsOf, readSheetRefusal, readSheetNumber, readSheetAnswer, sheetNumber, countsIn};

@@ -27,8 +27,8 @@ use Rattle.bounds.specs.Calls.{totalsOf}
 use Rattle.bounds.specs.Summed.{Summed}
 use Rattle.bounds.specs.declared.Totals.{Totals}
 use Rattle.bounds.proofs.Answers.{raised}
-use Rattle.input.specs.Loaded.{Loaded}
-use Rattle.input.proofs.LoadedLaws.{reading-refused, reading-accepted}
+use Rattle.plan_reading.specs.Loaded.{Loaded}
+use Rattle.plan_reading.proofs.LoadedLaws.{reading-refused, reading-accepted}
 use Rattle.text.specs.Listing.{line, pairsText, pairLine, planText, refusedText, answerText, listing}
 use Rattle.text.specs.Sums.{Listable, sumLine, headLine, sumsText}
 use Rattle.text.specs.Calls.{formattedAnswer}

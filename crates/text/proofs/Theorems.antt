@@ -12,7 +12,7 @@ use Rattle.refusals.specs.Tests.{roomTest}
 use Rattle.plan.specs.File.{refusal, planOf}
 use Rattle.plan_layout.proofs.Theorems.{read-writes-again, longest, prefix-decides}
 use Rattle.network.specs.Outage.{intact}
-use Rattle.input.proofs.LoadedLaws.{bytes-each}
+use Rattle.plan_reading.proofs.LoadedLaws.{bytes-each}
 use Rattle.text.specs.Listing.{answerText, listing}
 use Rattle.text.specs.Calls.{formattedAnswer}
 use Rattle.text.specs.declared.Formatted.the-variants as formatted

@@ -34,7 +34,7 @@ fn put_listing(s: &[u8], out: &mut [u8]) -> usize
 {
     let mut links = [0u8; 256];
     let mut words = [0u64; 512];
-    let answer = input::read_input(s, &mut links, &mut words);
+    let answer = plan_reading::read_input(s, &mut links, &mut words);
     match answer {
         Reading::Refused(number) => put_refused(out, number),
         Reading::Accepted(h) => put_accepted(out, h, &links, &words),

@@ -15,14 +15,14 @@ use Rattle.plan.proofs.FilledLaws.{filled-none}
 use Rattle.refusals.proofs.OrderLaws.{stop, skip}
 use Rattle.plan_lists.specs.Taken.{Taken}
 use Rattle.network.specs.Outage.{intact}
-use Rattle.entries.specs.Entries.{TopologyList, entryWords}
+use Rattle.topology_list.specs.Entries.{TopologyList, entryWords}
 use Rattle.topology_list.specs.TopologyList.{topologyListOf}
-use Rattle.entries.specs.Words.{HoldsList}
+use Rattle.topology_list.specs.Words.{HoldsList}
 use Rattle.topology_list.specs.Calls.{topologyListIn, topologiesNumber, listedAnswer, listedNumber, listAfter}
-use Rattle.entries.specs.declared.Placed.{Placed}
+use Rattle.topology_list.specs.declared.Placed.{Placed}
 use Rattle.topology_list.specs.declared.Listed.{Listed}
 use Rattle.topology_list.specs.declared.Listed.the-variants as listed
-use Rattle.entries.proofs.EntryLaws.{entries-length, words-of}
+use Rattle.topology_list.proofs.EntryLaws.{entries-length, words-of}
 
 -- the words hold the entries from the start, and stay as they were past the last one
 laid-down : (out : TopologyList) (words words′ : List ℕ) (q : Placed) → HoldsList out 0 words words′ q → words′ ≡ sets words 0 (entryWords (out .entries))

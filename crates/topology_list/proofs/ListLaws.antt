@@ -11,9 +11,9 @@ use lib.ListN.{length}
 use Rattle.sets.proofs.Bools.{and-left, and-right, and-both, clash}
 use Rattle.walk.specs.Scenario.{Scenario}
 use Rattle.walk.specs.Ends.{End, dropped, relevant, sumEnds}
-use Rattle.entries.specs.Entries.{Entry, entry, massesIn, sameTopology, added, TopologyList, topologyList}
+use Rattle.topology_list.specs.Entries.{Entry, entry, massesIn, sameTopology, added, TopologyList, topologyList}
 use Rattle.topology_list.specs.TopologyList.{placed, placedAll}
-use Rattle.entries.specs.declared.Topology.{Topology}
+use Rattle.topology_list.specs.declared.Topology.{Topology}
 use Rattle.topology_list.specs.ListBounds.{sumEntries}
 use Rattle.topology_list.specs.Different.{Absent, Different}
 

@@ -10,10 +10,10 @@ use lib.Dec.{ltb}
 use lib.ListN.{length}
 use Rattle.walk.specs.Scenario.{Scenario}
 use Rattle.walk.specs.Ends.{End, dropped, relevant}
-use Rattle.entries.specs.Entries.{Entry, entry, sameTopology, added, TopologyList, topologyList}
+use Rattle.topology_list.specs.Entries.{Entry, entry, sameTopology, added, TopologyList, topologyList}
 use Rattle.topology_list.specs.TopologyList.{placedAll}
 use Rattle.topology_list.proofs.ListLaws.{full-stays}
-use Rattle.entries.specs.declared.Topology.{Topology}
+use Rattle.topology_list.specs.declared.Topology.{Topology}
 use Rattle.topology_list.specs.Different.{addedAll}
 
 added-grows : (t : Topology) (m : ℕ) (entries : List Entry) → length entries ≤ length (added t m entries)

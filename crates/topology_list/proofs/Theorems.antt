@@ -16,14 +16,14 @@ use Rattle.plan_layout.proofs.ListLaws.{length-links-of}
 use Rattle.plan_lists.proofs.CopyLaws.{lists-fit}
 use Rattle.walk.specs.Walk.{firstEnds, massExamined}
 use Rattle.bounds.specs.Bounds.{lowerOf, upperOf, topologyOf, cuts}
-use Rattle.entries.specs.Entries.{Entry, massesIn, TopologyList, topologyList, entryWords}
+use Rattle.topology_list.specs.Entries.{Entry, massesIn, TopologyList, topologyList, entryWords}
 use Rattle.topology_list.specs.TopologyList.{topologyAfter, topologyListOf}
 use Rattle.topology_list.specs.Different.{Different, differentOf}
 use Rattle.topology_list.proofs.ListLaws.{different-placed, never-over, sum-placed, masses-are}
 use Rattle.topology_list.specs.ListBounds.{lowerFrom, upperFrom, sumEntries, cutIn}
-use Rattle.entries.specs.Words.{entriesOf}
+use Rattle.topology_list.specs.Words.{entriesOf}
 use Rattle.topology_list.specs.Calls.{topologyListIn, topologiesNumber, listedAnswer, countIn, listAfter}
-use Rattle.entries.proofs.EntryLaws.{entry-words-length}
+use Rattle.topology_list.proofs.EntryLaws.{entry-words-length}
 use mathlib.Core.Logic.{_↔_}
 use native.Mathlib.Decide.{decLe}
 use Rattle.topology_list.proofs.RoomLaws.{room-for-all, no-room-for-all}
@@ -31,7 +31,7 @@ use mathlib.Core.Bool.{Bool, not}
 use Rattle.sets.specs.Sets.{digit}
 use Rattle.network.specs.Outage.{intact}
 use Rattle.walk.specs.Ends.{sumEnds, weighed}
-use Rattle.entries.specs.declared.Topology.{Topology}
+use Rattle.topology_list.specs.declared.Topology.{Topology}
 use Rattle.topology_list.proofs.ListBounds.{same-cut, same-sum}
 
 module _ (p : Plan) (room : ℕ) (placed-all : topologyListOf intact room p .number ≡ 0) where

@@ -22,13 +22,13 @@ use Rattle.walk.specs.Steps.{StepTaken}
 use Rattle.walk.proofs.Valid.{held-probable}
 use Rattle.walk.specs.declared.WalkStep.{WalkStep}
 use Rattle.walk.proofs.Resume.{Alone, begun-stack, begun-whole, root-entry, value-found, value-none, sum-found}
-use Rattle.entries.specs.Entries.{massesIn, added, TopologyList, topologyList, fitted}
+use Rattle.topology_list.specs.Entries.{massesIn, added, TopologyList, topologyList, fitted}
 use Rattle.topology_list.specs.TopologyList.{placed, placedAll, topologyAfter, topologyListOf}
 use Rattle.topology_list.proofs.ListLaws.{refused-stays, masses-placed}
-use Rattle.entries.specs.Words.{entriesOf, MassFits, HoldsList}
+use Rattle.topology_list.specs.Words.{entriesOf, MassFits, HoldsList}
 use Rattle.topology_list.specs.MassesFit.{nextEnds, MassesFit}
-use Rattle.entries.specs.declared.Topology.{Topology}
-use Rattle.entries.specs.declared.Placed.{Placed}
+use Rattle.topology_list.specs.declared.Topology.{Topology}
+use Rattle.topology_list.specs.declared.Placed.{Placed}
 
 -- ---- one scenario's topology placed, then the others
 

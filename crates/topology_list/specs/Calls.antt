@@ -8,7 +8,7 @@ use Rattle.mass.specs.Refusal.{first, answered}
 use Rattle.plan.specs.LentLists.{Lent, listsNumber, planLent}
 use Rattle.plan.specs.Calls.{filled}
 use Rattle.network.specs.Outage.{Outage}
-use Rattle.entries.specs.Entries.{TopologyList, entryWords}
+use Rattle.topology_list.specs.Entries.{TopologyList, entryWords}
 use Rattle.topology_list.specs.TopologyList.{topologyListOf}
 use Rattle.topology_list.specs.declared.Listed.{Listed}
 use Rattle.topology_list.specs.declared.Listed.the-variants as listed

@@ -2,8 +2,8 @@
 -- Assumes nothing.
 use mathlib.Core.Path.{_≡_}
 use mathlib.Core.List.{List, [], _∷_}
-use Rattle.entries.specs.Entries.{Entry, added}
-use Rattle.entries.specs.declared.Topology.{Topology}
+use Rattle.topology_list.specs.Entries.{Entry, added}
+use Rattle.topology_list.specs.declared.Topology.{Topology}
 use Rattle.plan.specs.Plan.{Plan}
 use Rattle.network.specs.Outage.{Outage}
 use Rattle.walk.specs.Scenario.{Scenario}

@@ -9,10 +9,10 @@ use Rattle.network.specs.Outage.{intact, unionOf}
 use Rattle.network.specs.Topology.{nodeWorks, linkWorks, joins, adjacent}
 use Rattle.topology.specs.Paths.{via, disconnected}
 use Rattle.walk.specs.Ends.{ends}
-use Rattle.entries.specs.Entries.{Entry, entry, sameTopology, topologyList, entryWords}
+use Rattle.topology_list.specs.Entries.{Entry, entry, sameTopology, topologyList, entryWords}
 use Rattle.topology_list.specs.TopologyList.{topologyIn, topologyListOf}
 use Rattle.topology_list.specs.ListBounds.{lowerFrom, upperFrom}
-use Rattle.entries.specs.declared.Topology.{Topology}
+use Rattle.topology_list.specs.declared.Topology.{Topology}
 
 abbrev event : ℕ → ℕ → Event
 event nodes links = record { probability = 500000000; nodes = nodes; links = links }

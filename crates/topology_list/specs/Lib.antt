@@ -1,4 +1,6 @@
 -- What the contracts of the crate `topology_list` cite.
+pub mod Entries
+pub mod Words
 pub mod TopologyList
 pub mod MassesFit
 pub mod Calls

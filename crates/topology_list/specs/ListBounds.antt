@@ -9,8 +9,8 @@ use Rattle.plan.specs.Plan.{Plan}
 use Rattle.network.specs.Outage.{Outage}
 use Rattle.network.specs.Topology.{networkOf}
 use Rattle.topology.specs.Paths.{disconnected}
-use Rattle.entries.specs.Entries.{Entry}
-use Rattle.entries.specs.declared.Topology.{Topology}
+use Rattle.topology_list.specs.Entries.{Entry}
+use Rattle.topology_list.specs.declared.Topology.{Topology}
 
 -- the sum over the entries of mass × weight of the topology
 abbrev pub sumEntries : (Topology → ℕ) → List Entry → ℕ

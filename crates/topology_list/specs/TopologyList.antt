@@ -10,8 +10,8 @@ use Rattle.network.specs.Outage.{Outage}
 use Rattle.walk.specs.Ends.{End, dropped, relevant}
 use Rattle.walk.specs.Walk.{firstEnds}
 use Rattle.bounds.specs.Bounds.{topologyOf}
-use Rattle.entries.specs.Entries.{added, TopologyList, topologyList, fitted}
-use Rattle.entries.specs.declared.Topology.{Topology}
+use Rattle.topology_list.specs.Entries.{added, TopologyList, topologyList, fitted}
+use Rattle.topology_list.specs.declared.Topology.{Topology}
 
 -- an effective topology in three words: the working nodes, the working links 0 to 63, the working links 64 to 127
 unfoldable pub topologyIn : Network → Topology

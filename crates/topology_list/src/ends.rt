@@ -1,7 +1,7 @@
 // The loop of the topology list over the ends of the walk.
-use entries::Placed;
-use entries::Topology;
-use entries::place_topology;
+use crate::Placed;
+use crate::Topology;
+use crate::entries::place_topology;
 use network::Failed;
 use plan::Header;
 use walk::Failing;
@@ -15,9 +15,9 @@ ghost use Rattle.network.specs.Table.{LinksAt};
 ghost use Rattle.walk.specs.Scenario.{scenarioOf};
 ghost use Rattle.plan.specs.Held.{Held};
 ghost use Rattle.network.specs.Outage.{intact};
-ghost use Rattle.entries.specs.Entries.{topologyList};
+ghost use Rattle.topology_list.specs.Entries.{topologyList};
 ghost use Rattle.topology_list.specs.TopologyList.{placedAll, topologyAfter, topologyListOf};
-ghost use Rattle.entries.specs.Words.{HoldsList};
+ghost use Rattle.topology_list.specs.Words.{HoldsList};
 ghost use Rattle.topology_list.specs.MassesFit.{nextEnds, MassesFit};
 
 // The effective topology of a scenario, by its failing events.

@@ -3,6 +3,7 @@
 // output is that line alone.
 mod downtimes;
 mod figures;
+mod witness;
 
 fn main() {
     figures::marked_figures();
@@ -11,5 +12,6 @@ fn main() {
     downtimes::whole_seconds();
     downtimes::rounded_seconds();
     downtimes::refused_seconds();
+    witness::witness();
     io::write_all(1, b"trials ended\n");
 }

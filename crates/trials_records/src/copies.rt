@@ -31,7 +31,7 @@ fn copied(label: &[u8], answer: Writing, want: u64) {
 // The triangle of document 01: 20 bytes, 6 for the links and 7 for each event. Three bytes are left over.
 pub fn triangle() {
     let mut out = [BYTE; 50];
-    let answer = copying::copy_plan(
+    let answer = record_runs::copy_plan(
         b"RSG\x01\x00\x03\x03\x03\x01\x00\x00\x00\x00\x00\x00\x00\x64\x00\x00\x00\x00\x01\x00\x02\x01\x02\x01\x00\x00\x00\x01\x01\x00\x01\x00\x00\x00\x01\x01\x01\x01\x00\x00\x00\x01\x01\x02",
         &mut out,
     );
@@ -46,7 +46,7 @@ pub fn triangle() {
 // Node 63, link 127 and both words of the links: 302 bytes. Two bytes are left over.
 pub fn large() {
     let mut out = [BYTE; 304];
-    let answer = copying::copy_plan(&large_file(), &mut out);
+    let answer = record_runs::copy_plan(&large_file(), &mut out);
     copied(b"copy the large plan", answer, 302);
     same_bytes(b"the copied large plan", &out[0..302], &large_file());
     same_bytes(b"past the copied large plan", &out[302..304], b"\xaa\xaa");
@@ -55,7 +55,7 @@ pub fn large() {
 // Two nodes and nothing else: the header alone.
 pub fn header_alone() {
     let mut out = [BYTE; 20];
-    let answer = copying::copy_plan(
+    let answer = record_runs::copy_plan(
         b"RSG\x01\x00\x02\x00\x00\x01\x00\x00\x00\x00\x00\x00\x00\x64\x00\x00\x00",
         &mut out,
     );
@@ -70,12 +70,12 @@ pub fn header_alone() {
 // The reader's number, and not one of the writer's: 2 for the mark, 10 for a link 3 of 3, 11 for a byte after the last event.
 pub fn refused() {
     let mut out = [BYTE; 64];
-    let mark = copying::copy_plan(
+    let mark = record_runs::copy_plan(
         b"RSH\x01\x00\x02\x00\x00\x01\x00\x00\x00\x00\x00\x00\x00\x64\x00\x00\x00",
         &mut out,
     );
     same(b"copy a file of another mark", number_of(mark), 2);
-    let member = copying::copy_plan(
+    let member = record_runs::copy_plan(
         b"RSG\x01\x00\x03\x03\x01\x01\x00\x00\x00\x00\x00\x00\x00\x64\x00\x00\x00\x00\x01\x00\x02\x01\x02\x01\x00\x00\x00\x01\x01\x03",
         &mut out,
     );
@@ -84,7 +84,7 @@ pub fn refused() {
         number_of(member),
         10,
     );
-    let after = copying::copy_plan(
+    let after = record_runs::copy_plan(
         b"RSG\x01\x00\x02\x00\x00\x01\x00\x00\x00\x00\x00\x00\x00\x64\x00\x00\x00\x00",
         &mut out,
     );
@@ -95,7 +95,7 @@ pub fn refused() {
 // 46 bytes of room for the 47 of the triangle.
 pub fn short_output() {
     let mut out = [BYTE; 46];
-    let answer = copying::copy_plan(
+    let answer = record_runs::copy_plan(
         b"RSG\x01\x00\x03\x03\x03\x01\x00\x00\x00\x00\x00\x00\x00\x64\x00\x00\x00\x00\x01\x00\x02\x01\x02\x01\x00\x00\x00\x01\x01\x00\x01\x00\x00\x00\x01\x01\x01\x01\x00\x00\x00\x01\x01\x02",
         &mut out,
     );

@@ -1,5 +1,7 @@
 // The test program of the run, and of the run with windows (`windows`). Each expected value stands beside its vector, taken from document
 // 01 or worked out by hand; a difference is printed, and `trials ended` is the last line. The stored output is that line alone.
+mod windows;
+
 use bounds::Ran;
 use trials_vectors::all_words;
 use trials_vectors::header;
@@ -13,6 +15,7 @@ fn main() {
     halves(b"128 events of 1/2 at cap 1,000,000", 1_000_000);
     line();
     short();
+    windows::windows();
     io::write_all(1, b"trials ended\n");
 }
 

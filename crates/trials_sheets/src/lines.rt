@@ -1,5 +1,5 @@
 // Lines that are cut off or wrong, and the number of lines.
-use sheet_vectors::number;
+use crate::compare::number;
 
 // Each line 1, then each member 1 and 10, then 17; then 11.
 pub fn lines_cut_and_wrong() {

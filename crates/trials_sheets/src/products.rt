@@ -1,5 +1,5 @@
 // Products, and the header of a sheet.
-use sheet_vectors::number;
+use crate::compare::number;
 
 // 17 exactly where the product is above 10^9 (0x3b9aca00) as a whole number. 2^22 × 2^21 × 2^21 is 2^64.
 pub fn products() {

@@ -1,5 +1,5 @@
 // Sheets that are read: their events in order, wide numbers, and the room of a lent list.
-use sheet_vectors::counts;
+use crate::compare::counts;
 use trials_vectors::WORD;
 use trials_vectors::all_words;
 use trials_vectors::same_part;

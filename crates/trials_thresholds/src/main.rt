@@ -4,6 +4,9 @@
 mod caps;
 mod held;
 mod levels;
+mod orders;
+mod refusals;
+mod single;
 
 fn main() {
     levels::few();
@@ -11,5 +14,13 @@ fn main() {
     levels::sixteen();
     caps::caps();
     caps::higher_caps();
+    single::no_pair(b"no pair");
+    single::no_event(b"no event");
+    orders::headers(b"4, 6 or 12 for a header");
+    orders::link(b"7 for a link");
+    refusals::lengths();
+    refusals::values(b"23 for a value");
+    refusals::lower_room();
+    refusals::upper_room();
     io::write_all(1, b"trials ended\n");
 }

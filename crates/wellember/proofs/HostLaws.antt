@@ -30,8 +30,8 @@ use Rattle.bounds.specs.declared.Paired.the-variants as paired
 use Rattle.plan.proofs.FilledLaws.{filled-none, filled-all}
 use Rattle.network.specs.Outage.{intact}
 use Rattle.bounds.proofs.Answers.{pair-refused-is, pair-done-is, enclosed}
-use Rattle.input.specs.Loaded.{Loaded}
-use Rattle.input.proofs.LoadedLaws.{reading-refused}
+use Rattle.plan_reading.specs.Loaded.{Loaded}
+use Rattle.plan_reading.proofs.LoadedLaws.{reading-refused}
 use Rattle.wellember.specs.Host.{hostRefusal, sixteen, lowerIn, upperIn}
 
 -- ---- from a file to its plan

@@ -53,7 +53,7 @@ fn pair_of(s: &[u8], room: usize, v: u64, w: u64) -> Paired
 {
     let mut links = [0u8; 256];
     let mut words = [0u64; 512];
-    let answer = input::read_input(s, &mut links, &mut words);
+    let answer = plan_reading::read_input(s, &mut links, &mut words);
     match answer {
         Reading::Refused(number) => Paired::Refused(number),
         Reading::Accepted(h) => pair_with_room(h, room, &links, &words, v, w),

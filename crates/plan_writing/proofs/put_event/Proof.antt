@@ -6,7 +6,7 @@ use native.Mathlib.Omega.{arith}
 use lib.ListN.{length}
 use Rattle.plan.specs.Lists.{eventOf}
 use Rattle.plan.specs.Layout.{elements, eventBytes}
-use Rattle.sizes.proofs.SizeLaws.{length-one-event}
+use Rattle.plan_writing.proofs.SizeLaws.{length-one-event}
 use Rattle.plan_writing.proofs.WriterLaws.{event-laid}
 use Rattle.plan_writing.proofs.put_event.Statement.{statement}
 use Rattle.plan_writing.proofs.put_event.Tie as tie

@@ -8,7 +8,7 @@ use lib.Seq.{sets}
 use Rattle.plan.specs.Lists.{eventsOf}
 use Rattle.plan.specs.Layout.{eventBytes}
 use Rattle.plan_lists.proofs.ListLaws.{eventAt}
-use Rattle.sizes.proofs.SizeLaws.{length-bytes-next}
+use Rattle.plan_writing.proofs.SizeLaws.{length-bytes-next}
 use Rattle.plan_writing.proofs.WriterLaws.{laid-next, laid-end}
 use Rattle.plan_writing.proofs.put_events.Statement.{statement}
 use Rattle.plan_writing.proofs.put_events.Tie as tie

@@ -5,7 +5,7 @@ use native.Mathlib.Omega.{arith}
 use lib.ListN.{length}
 use lib.Seq.{sets}
 use Rattle.plan.specs.Layout.{elements, memberBytes}
-use Rattle.sizes.proofs.ElementLaws.{length-members-left, elements-end}
+use Rattle.plan_writing.proofs.ElementLaws.{length-members-left, elements-end}
 use Rattle.plan_writing.proofs.WriterLaws.{members-next, members-end}
 use Rattle.plan_writing.proofs.put_members.Statement.{statement}
 use Rattle.plan_writing.proofs.put_members.Tie as tie

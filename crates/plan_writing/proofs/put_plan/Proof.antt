@@ -5,7 +5,7 @@ use native.Mathlib.Omega.{arith}
 use lib.ListN.{length}
 use Rattle.plan.specs.Lists.{eventsOf}
 use Rattle.plan.specs.Layout.{eventBytes}
-use Rattle.sizes.proofs.SizeLaws.{plan-size}
+use Rattle.plan_writing.proofs.SizeLaws.{plan-size}
 use Rattle.plan_writing.proofs.WriterLaws.{plan-laid}
 use Rattle.plan_writing.proofs.put_plan.Statement.{statement}
 use Rattle.plan_writing.proofs.put_plan.Tie as tie

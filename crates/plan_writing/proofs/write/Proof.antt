@@ -10,7 +10,7 @@ use Rattle.plan.specs.Layout.{layout}
 use Rattle.plan.specs.LentLists.{planOfLists, inWords, listsNumber}
 use Rattle.plan_lists.proofs.CopyLaws.{lists-fit}
 use Rattle.plan_layout.proofs.ListLaws.{length-events-of}
-use Rattle.sizes.proofs.SizeLaws.{plan-size, events-most}
+use Rattle.plan_writing.proofs.SizeLaws.{plan-size, events-most}
 use Rattle.plan_writing.proofs.WriterAnswer.{lists-refuse, room-refuses, written}
 use Rattle.plan_writing.proofs.write.Statement.{statement}
 use Rattle.plan_writing.proofs.write.Tie as tie

@@ -6,7 +6,7 @@ use native.Mathlib.Omega.{arith}
 use borrow.Author.Needs.{needs}
 use lib.ListN.{drop}
 use Rattle.plan.specs.Lists.{eventsOf}
-use Rattle.order.specs.Order.{placeOf}
+use Rattle.sheet_order.specs.Order.{placeOf}
 use Rattle.sheet_order.specs.Inserted.{probability}
 use Rattle.sheet_order.proofs.InsertionLaws.{place-start, place-here, place-later, place-end}
 use Rattle.sheet_order.proofs.insertion_place.Statement.{statement}

@@ -1,4 +1,4 @@
--- `probe::further::probe_credit` meets its contract: the call of `credit_answers` is handed on. Assumes nothing.
+-- `probe::further::probe_credit` meets its contract: the call of `host_readings` is handed on. Assumes nothing.
 use borrow.Author.Needs.{needs}
 use Rattle.probe.proofs.further.probe_credit.Statement.{statement}
 use Rattle.probe.proofs.further.probe_credit.Tie as tie

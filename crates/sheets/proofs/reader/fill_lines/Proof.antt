@@ -11,8 +11,8 @@ use Rattle.mass.specs.Split.{certain}
 use Rattle.plan.specs.Plan.{Event}
 use Rattle.plan.specs.Lists.{eventWords}
 use Rattle.plan.specs.File.{membersRefusal}
-use Rattle.order.specs.Order.{withElement, orderedWith, ordered}
-use Rattle.order.proofs.OrderLaws.{length-with}
+use Rattle.sheet_order.specs.Order.{withElement, orderedWith, ordered}
+use Rattle.sheet_order.proofs.OrderLaws.{length-with}
 use Rattle.sheets.specs.Sheet.{unavailability, eventOfLine}
 use Rattle.sheets.specs.SheetFile.{lineRefusal, linesRefusal, lineSize, lineIn, linesAt}
 use Rattle.sheets.proofs.CheckLaws.{line-head, line-members, line-probable, line-fits, lines-accepted}

@@ -5,7 +5,7 @@ use lib.ListN.{drop}
 use lib.Seq.{sets}
 use Rattle.mass.proofs.RefusalLaws.{refuses, gives}
 use Rattle.plan.specs.Lists.{eventWords}
-use Rattle.order.specs.Order.{ordered}
+use Rattle.sheet_order.specs.Order.{ordered}
 use Rattle.plan.proofs.FilledLaws.{filled-none, filled-all}
 use Rattle.sheets.specs.Sheet.{eventOfLine, sheetEvents}
 use Rattle.sheets.specs.SheetFile.{sheetRefusal, linesAt, sheetOf}

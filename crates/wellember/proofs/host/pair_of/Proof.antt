@@ -1,7 +1,7 @@
 -- `wellember::host::pair_of` meets its contract: the arrays denote the plan that the file stands for. Assumes nothing.
 use mathlib.Core.Path.{sym, _∙_}
 use Rattle.wellember.proofs.HostLaws.{file-refused, file-told, loaded-valid}
-use Rattle.input.proofs.LoadedLaws.{reading-accepted}
+use Rattle.plan_reading.proofs.LoadedLaws.{reading-accepted}
 use borrow.Author.Needs.{needs}
 use Rattle.wellember.proofs.host.pair_of.Statement.{statement}
 use Rattle.wellember.proofs.host.pair_of.Tie as tie

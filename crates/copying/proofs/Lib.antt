@@ -1,2 +1,0 @@
--- Laws that the proofs of the crate `copying` share.
-pub mod CopyLaws

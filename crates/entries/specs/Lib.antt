@@ -1,3 +1,0 @@
--- What the contracts of the crate `entries` cite.
-pub mod Entries
-pub mod Words

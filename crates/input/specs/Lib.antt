@@ -1,2 +1,0 @@
--- What the contracts of the crate `input` cite.
-pub mod Loaded

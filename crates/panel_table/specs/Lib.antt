@@ -1,2 +1,0 @@
--- What the contracts of the crate `panel_table` cite.
-pub mod Table
