@@ -67,11 +67,6 @@ events-next words at (suc left) h = simp (getD-drop, drop-drop, add-zero, less-o
 pub decides : (r number : ℕ) (later : List ℕ) → r ≡ number → (r ≡ 0 → ⊥) → r ≡ first (number ∷ later)
 decides r number later e n = e ∙ sym (first-stop number later (λ z. n (e ∙ z)))
 
-pub first-last : (number : ℕ) → first (number ∷ []) ≡ number
-unfolding first
-first-last zero = refl
-first-last (suc number) = refl
-
 -- the next link decides, or leaves it to the others
 module _ (nodes : ℕ) (bytes : List ℕ) (at left : ℕ) (some : 0 < left) where
   pub link-decides : (r : ℕ) → r ≡ endsTest nodes (getD bytes at 0) (getD bytes (at + 1) 0) → (r ≡ 0 → ⊥)
