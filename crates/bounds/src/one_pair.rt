@@ -7,8 +7,9 @@ use pairs::pair_test;
 use pairs::place_of;
 use plan::Header;
 ghost use mathlib.Core.Path.{_≡_};
-ghost use Prim.Native.Nat.{_+_, _-_, _<_};
-ghost use lib.ListN.{getD};
+ghost use Prim.Native.Nat.{_+_, _-_, _<_, min};
+ghost use lib.ListN.{length, getD, take};
+ghost use lib.Seq.{sets};
 ghost use Rattle.mass.specs.Split.{whole};
 ghost use Rattle.plan.specs.LentLists.{planRefusal, planOfLists, inWords};
 ghost use Rattle.plan_lists.specs.Taken.{Taken};
@@ -46,6 +47,10 @@ pub fn accept_pair(
     ensures number { λ r. ⌜ r ≡ pairNumber (inWords h (now (links .entry)) (now (events .entry))) v w ⌝ }
     ensures accepted { λ r. ⌜ (r ≡ 0 → Taken h (now (links .entry)) (now (events .entry)) (now (bytes .exit)) (now (words .exit))
         × ((v < w) × (w < h .nodes))) ⌝ }
+    ensures bytes { λ r. ⌜ now (bytes .exit) ≡ sets (now (bytes .entry)) 0
+        (take (min (length (now (links .entry))) 256) (now (links .entry))) ⌝ }
+    ensures words { λ r. ⌜ now (words .exit) ≡ sets (now (words .entry)) 0
+        (take (min (length (now (events .entry))) 512) (now (events .entry))) ⌝ }
 {
     let lists = plan_lists::accept(h, links, events, bytes, words);
     if lists != 0 {

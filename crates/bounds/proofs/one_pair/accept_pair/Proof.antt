@@ -10,7 +10,7 @@ returns : tie.Need-returns
 returns c =
     let a = c .before .before .before .before .before .before .args in (
       lists-refuse-pair (a .h) (a .links .now) (a .events .now) (a .v) (a .w) _ (c .before .accept .ensures .0) (c .if1 .taken),
-      λ z. absurd (c .if1 .taken z),
+      (λ z. absurd (c .if1 .taken z), c .before .accept .ensures .1 .1),
     )
 
 returns-2 : tie.Need-returns-2
@@ -19,7 +19,7 @@ returns-2 c =
     let a = f .before .before .before .before .before .before .args in
     let lists = f .before .accept .ensures in (
       pair-decides (a .h) (a .links .now) (a .events .now) (a .v) (a .w) _ _ (lists .0) (f .if1 .left) (c .pair-test .ensures),
-      λ z. (lists .1 .0 (f .if1 .left), pair-inside _ _ _ (sym (c .pair-test .ensures) ∙ z)),
+      (λ z. (lists .1 .0 (f .if1 .left), pair-inside _ _ _ (sym (c .pair-test .ensures) ∙ z)), lists .1 .1),
     )
 
 pub accept-pair-spec : {M : Type 1} → statement M

@@ -18,7 +18,7 @@ returns c =
 pair-in-requires : tie.Need-pair-in-requires
 pair-in-requires c κs =
     let k = c .before .before in
-    let t = k .before .accept-pair .ensures .1 (k .if1 .left) in
+    let t = k .before .accept-pair .ensures .1 .0 (k .if1 .left) in
     (arrays-valid _ _ _ _ _ (t .0), t .1)
 
 returns-2 : tie.Need-returns-2
@@ -26,7 +26,7 @@ returns-2 c =
     let k = c .before .before .before in
     let tests = k .before .accept-pair .ensures in
     let a = entry (k .before) .args in
-    pair-done (a .h) (a .links .now) (a .events .now) (a .v) (a .w) _ _ (tests .1 (k .if1 .left) .0) _ (sym (tests .0) ∙ k .if1 .left) (c .pair-in .ensures)
+    pair-done (a .h) (a .links .now) (a .events .now) (a .v) (a .w) _ _ (tests .1 .0 (k .if1 .left) .0) _ (sym (tests .0) ∙ k .if1 .left) (c .pair-in .ensures)
 
 pub pair-spec : {M : Type 1} → statement M
 pair-spec =

@@ -18,7 +18,7 @@ returns c =
 search-all-requires : tie.Need-search-all-requires
 search-all-requires c κs =
     let e = c .before .before in
-    let t = e .before .accept-pair .ensures .1 (e .if1 .left) in
+    let t = e .before .accept-pair .ensures .1 .0 (e .if1 .left) in
     let few = t .0 .held .links-held .nodes-fit in
     (t .0 .held, (omega (arith, t .1, few), omega (arith, t .1, few)))
 
@@ -27,7 +27,7 @@ returns-2 c =
     let e = c .before .before .before in
     let tests = e .before .accept-pair .ensures in
     let a = entry (e .before) .args in
-    searched-all (a .h) (a .links .now) (a .events .now) (a .v) (a .w) _ _ (tests .1 (e .if1 .left) .0) (sym (tests .0) ∙ e .if1 .left) _ (c .search-all .ensures)
+    searched-all (a .h) (a .links .now) (a .events .now) (a .v) (a .w) _ _ (tests .1 .0 (e .if1 .left) .0) (sym (tests .0) ∙ e .if1 .left) _ (c .search-all .ensures)
 
 pub witness-spec : {M : Type 1} → statement M
 witness-spec =
