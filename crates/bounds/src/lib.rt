@@ -1,5 +1,7 @@
 // The run over all pairs and the bounds of one pair: document 01, section "Bounds of a pair"; the run with windows: document 02, U7.
 // Assumes nothing.
+#![tactic(auto)]
+
 mod ends;
 mod full_walk;
 mod one_pair;
@@ -11,7 +13,7 @@ pub use one_pair::{accept_pair, pair, pair_in};
 pub use runs::{bounds_test, run, run_at};
 
 // Where the stack of the walk begins, how many ends may still be reached, how many scenarios are examined so far, and their mass.
-#[derive(Drop)]
+#[derive(Clone, Copy)]
 pub struct Tally {
     pub at: usize,
     pub left: u64,
@@ -20,7 +22,7 @@ pub struct Tally {
 }
 
 // The number of scenarios examined, whether the walk is complete (1 or 0), and the mass examined (E).
-#[derive(Drop)]
+#[derive(Clone, Copy)]
 pub struct Totals {
     pub count: u64,
     pub complete: u64,
@@ -28,21 +30,21 @@ pub struct Totals {
 }
 
 // What a run answers: the number of the refusal, or the totals.
-#[derive(Drop)]
+#[derive(Clone, Copy)]
 pub enum Ran {
     Refused(u32),
     Done(Totals),
 }
 
 // The two bounds of a pair.
-#[derive(Drop)]
+#[derive(Clone, Copy)]
 pub struct PairBounds {
     pub lower: u64,
     pub upper: u64,
 }
 
 // What the bounds of one pair answer.
-#[derive(Drop)]
+#[derive(Clone, Copy)]
 pub enum Paired {
     Refused(u32),
     Done(PairBounds),

@@ -1,6 +1,8 @@
 // Service credits: document 02, request U6. A contract has a yearly fee, a limit in seconds a year, and a rate for each started minute of
 // downtime above the limit; fee, rate and credits are in cents.
 // Assumes nothing.
+#![tactic(auto)]
+
 ghost use Rattle.std.specs.Prelude.{◌≡◌, ◌≤◌};
 ghost use Rattle.mass.specs.Split.{whole};
 ghost use Rattle.plan.specs.LentLists.{plan_of_lists, in_words};
@@ -13,7 +15,7 @@ use bounds::Paired;
 use plan::Header;
 
 // The credits of a pair for its lower and its upper downtime, and the headroom: the limit minus the upper downtime, in seconds.
-#[derive(Drop)]
+#[derive(Clone, Copy)]
 pub struct Credits {
     pub lower: u64,
     pub upper: u64,
@@ -21,7 +23,7 @@ pub struct Credits {
 }
 
 // What a credit answers: the number of the refusal, or the credits.
-#[derive(Drop)]
+#[derive(Clone, Copy)]
 pub enum Credited {
     Refused(u32),
     Given(Credits),

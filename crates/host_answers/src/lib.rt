@@ -2,6 +2,8 @@
 // refusal, or 0, is returned, and the values are laid down in a lent list, as far as it has room. Where the answer is a refusal, every
 // value is 0.
 // Assumes nothing.
+#![tactic(auto)]
+
 mod calls;
 mod lay;
 

@@ -1,6 +1,8 @@
 // The calls on a walk in lent words, for the exports of crate `probe`, not part of the product: document 02, request U4. Each returns the
 // number of the refusal, or 0.
 // Assumes nothing.
+#![tactic(auto)]
+
 ghost use Rattle.std.specs.Prelude.{◌≡◌, ◌≤◌, ◌<◌, length, get_or};
 ghost use Rattle.plan.specs.LentLists.{plan_of_lists, in_words};
 ghost use Rattle.plan.specs.Calls.{filled};

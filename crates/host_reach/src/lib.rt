@@ -1,6 +1,8 @@
 // The reach of one node of a network whose links are lent, for crate `probe`, not part of the product: it shows what
 // `topology::reach_from` gives.
 // Assumes nothing.
+#![tactic(auto)]
+
 ghost use Rattle.std.specs.Prelude.{◌≡◌};
 ghost use Rattle.host_answers.specs.Laid.{laid};
 ghost use Rattle.host_reach.specs.NodeReach.{links_number, LinksTaken, node_test, reach_number, reach_in, reach_values};

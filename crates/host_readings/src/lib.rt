@@ -3,6 +3,8 @@
 // as it has room. The downtime, which needs no plan, is called here too.
 // The credit of a pair stands in a module of its own.
 // Assumes nothing.
+#![tactic(auto)]
+
 mod credit_words;
 
 ghost use Rattle.std.specs.Prelude.{not, [], ◌∷◌, ◌≡◌, T};

@@ -1,6 +1,8 @@
 // The check of a file, the run with windows and the bounds of a pair with their answers as numbers, for the exports of crate `probe`: the
 // number of the refusal, or 0, is returned, and the values are laid down in a lent list, as far as it has room.
 // Assumes nothing.
+#![tactic(auto)]
+
 ghost use Rattle.std.specs.Prelude.{◌≡◌, length};
 ghost use Rattle.plan.specs.File.{refusal};
 ghost use Rattle.plan.specs.LentLists.{plan_of_lists, in_words};

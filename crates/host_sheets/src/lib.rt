@@ -1,6 +1,8 @@
 // Equipment sheets with their answers as numbers, for the exports of crate `probe`: the number of the refusal, or 0, is returned, and the
 // counts are laid down in a lent list, as far as it has room.
 // Assumes nothing.
+#![tactic(auto)]
+
 ghost use Rattle.std.specs.Prelude.{◌≡◌};
 ghost use Rattle.plan.specs.Calls.{filled};
 ghost use Rattle.sheets.specs.SheetFile.{sheet_refusal};

@@ -1,6 +1,8 @@
 // The call for several thresholds with its answer as numbers, for the export of crate `probe`: the number of the refusal, or 0, is returned,
 // and the values are laid down in a lent list, as far as it has room.
 // Assumes nothing.
+#![tactic(auto)]
+
 ghost use Rattle.std.specs.Prelude.{◌≡◌, length, [], ◌∷◌, ◌<◌};
 ghost use Rattle.std.proofs.lemmas.List.Edits.{sets};
 ghost use Rattle.plan.specs.Calls.{filled};

@@ -3,6 +3,8 @@
 // buffer of 92,789 bytes holds every listing (`program-holds`).
 // Assumes the contracts of the C functions that it calls. An input that cannot be read is taken to end there. A program has no exit status: where the
 // listing is not written whole, a line on standard error says so.
+#![tactic(auto)]
+
 use text::Formatted;
 
 fn main() {

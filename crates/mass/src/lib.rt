@@ -1,5 +1,7 @@
 // The mass of a scenario: document 01, "Units and the splitting of mass".
 // Assumes nothing.
+#![tactic(auto)]
+
 ghost use Rattle.std.specs.Prelude.{◌≡◌, ◌*◌, ◌/◌, ◌≤◌};
 ghost use Rattle.mass.specs.Split.{certain, whole, both_parts, split_of, mass_test, probability_test};
 
@@ -7,20 +9,20 @@ ghost use Rattle.mass.specs.Split.{certain, whole, both_parts, split_of, mass_te
 pub const CERTAIN: u64 = 1_000_000_000;
 
 // A share of time, in units of 10^-18.
-#[derive(Drop)]
+#[derive(Clone, Copy)]
 pub struct Mass {
     pub units: u64,
 }
 
 // The two parts of a mass at an event.
-#[derive(Drop)]
+#[derive(Clone, Copy)]
 pub struct BothParts {
     pub fails: Mass,
     pub works: Mass,
 }
 
 // What a split answers: the number of the refusal, or the two parts.
-#[derive(Drop)]
+#[derive(Clone, Copy)]
 pub enum Parts {
     Refused(u32),
     Split { fails: Mass, works: Mass },

@@ -1,6 +1,8 @@
 // The effective topology of a scenario: what has failed, the working nodes and links, and the neighbours of each node. Document 01, section
 // "Effective topology".
 // Assumes nothing.
+#![tactic(auto)]
+
 mod failing;
 mod rows;
 mod table;
@@ -12,7 +14,7 @@ pub use table::links_at;
 pub use working::{working_links, working_nodes};
 
 // What has failed: the set of nodes, and the set of links in two words.
-#[derive(Drop)]
+#[derive(Clone, Copy)]
 pub struct Failed {
     pub nodes: u64,
     pub low: u64,
@@ -29,7 +31,7 @@ impl Failed {
 }
 
 // A set of links in two words.
-#[derive(Drop)]
+#[derive(Clone, Copy)]
 pub struct Links {
     pub low: u64,
     pub high: u64,

@@ -1,5 +1,7 @@
 // The plan file: document 01, section "Plan file". The check of a file.
 // Assumes nothing.
+#![tactic(auto)]
+
 mod bytes;
 mod file;
 
@@ -7,7 +9,7 @@ pub use bytes::{byte_at, left_of, number_at};
 pub use file::{check, event_size, header_of, member_at, members_refusal, rank_at};
 
 // The numbers of a plan: the counts of nodes, links and events, the threshold, and the greatest number of ends of the walk (cap).
-#[derive(Drop)]
+#[derive(Clone, Copy)]
 pub struct Header {
     pub nodes: u64,
     pub links: u64,
@@ -17,28 +19,28 @@ pub struct Header {
 }
 
 // A member of an event, by its number.
-#[derive(Drop)]
+#[derive(Clone, Copy)]
 pub enum Element {
     Node(u64),
     Link(u64),
 }
 
 // What reading a member answers: the number of the refusal, or the member.
-#[derive(Drop)]
+#[derive(Clone, Copy)]
 pub enum Step {
     Refused(u32),
     Member(Element),
 }
 
 // What reading a plan answers.
-#[derive(Drop)]
+#[derive(Clone, Copy)]
 pub enum Reading {
     Refused(u32),
     Accepted(Header),
 }
 
 // What writing a plan answers: the number of the refusal, or how many bytes were laid down.
-#[derive(Drop)]
+#[derive(Clone, Copy)]
 pub enum Writing {
     Refused(u32),
     Written(usize),

@@ -1,6 +1,8 @@
 // Lent lists: copying them, the number with which they are refused, in the writer's order, and one way in for every call that takes them:
 // `accept`.
 // Assumes nothing.
+#![tactic(auto)]
+
 ghost use Rattle.std.specs.Prelude.{◌≡◌, ◌+◌, ◌*◌, ◌≤◌, min, length, take};
 ghost use Rattle.std.proofs.lemmas.List.Edits.{sets};
 ghost use Rattle.mass.specs.Split.{certain};

@@ -1,6 +1,8 @@
 // Reading a plan file into lent lists: document 01, section "Plan file".
 // `read_input` reads it into arrays that have room for every plan.
 // Assumes nothing.
+#![tactic(auto)]
+
 mod input;
 mod reader;
 

@@ -12,7 +12,7 @@ use plan::{Element, Header, Reading, Step, byte_at, number_at};
 use plan_lists::{copy_bytes, copy_words};
 
 // The sets of an event: its nodes, links 0 to 63 and links 64 to 127.
-#[derive(Drop)]
+#[derive(Clone, Copy)]
 pub struct Members {
     pub nodes: u64,
     pub low: u64,

@@ -1,6 +1,8 @@
 // Writing a plan file from a header and lent lists: document 01, section "Plan file". All tests are made before the first byte is laid
 // down, so that a refusal changes nothing.
 // Assumes nothing.
+#![tactic(auto)]
+
 mod sizes;
 
 ghost use Rattle.std.specs.Prelude.{◌≡◌, [], ◌∷◌, ◌++◌, ◌+◌, ◌*◌, ◌/◌, ◌≤◌, length};

@@ -2,6 +2,8 @@
 // refusal, or 0; where it refuses, every number that it hands out is 0. A list of numbers that is handed out is used only where it has
 // room.
 // Assumes nothing.
+#![tactic(auto)]
+
 mod by_records;
 mod equipment;
 mod further;

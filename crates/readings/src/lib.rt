@@ -1,5 +1,7 @@
 // Further readings of a plan: document 01, section "Further readings of a plan".
 // Assumes nothing.
+#![tactic(auto)]
+
 mod ratio;
 mod search;
 mod yearly;
@@ -10,35 +12,35 @@ use walk::Failing;
 pub use yearly::{downtime, seconds_of};
 
 // Seconds of a year, for a lower and an upper mass.
-#[derive(Drop)]
+#[derive(Clone, Copy)]
 pub struct Seconds {
     pub lower: u64,
     pub upper: u64,
 }
 
 // What a downtime answers: the number of the refusal, or the seconds.
-#[derive(Drop)]
+#[derive(Clone, Copy)]
 pub enum Timed {
     Refused(u32),
     Given(Seconds),
 }
 
 // What a witness answers: the number of the refusal, or the set of failing events.
-#[derive(Drop)]
+#[derive(Clone, Copy)]
 pub enum Witnessed {
     Refused(u32),
     Found(Failing),
 }
 
 // Shares of mass, rounded: the part of the mass examined that disconnects the pair, and the part of one whole that is examined.
-#[derive(Drop)]
+#[derive(Clone, Copy)]
 pub struct Shares {
     pub disconnected: f64,
     pub examined: f64,
 }
 
 // What a conditional figure answers: the number of the refusal, no figure, or the two shares.
-#[derive(Drop)]
+#[derive(Clone, Copy)]
 pub enum Figured {
     Refused(u32),
     NoFigure,

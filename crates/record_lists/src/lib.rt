@@ -1,5 +1,7 @@
 // Events as a lent list of records: document 01, section "Plan file". Every function that takes a list of records is proved by hand; each
 // is thin over covered functions on arrays and numbers. Assumes nothing.
+#![tactic(auto)]
+
 mod calls;
 mod lists;
 
@@ -7,7 +9,7 @@ pub use calls::write_records;
 pub use lists::{fill, flatten, used_words};
 
 // A shared-risk event: its probability in units of 10^-9, its set of nodes, its links 0 to 63 and its links 64 to 127.
-#[derive(Drop)]
+#[derive(Clone, Copy)]
 pub struct Event {
     pub probability: u64,
     pub nodes: u64,

@@ -1,6 +1,8 @@
 // A reader that keeps the caller's bytes and its position in them together, and hands the events over as a lent list of records: document
 // 01, section "Plan file". Every function that takes a list of records, or a reader, is proved by hand; each is thin over covered
 // functions on slices, arrays and numbers. Assumes nothing.
+#![tactic(auto)]
+
 mod members;
 mod steps;
 mod words;
@@ -18,28 +20,28 @@ use record_lists::{Event, fill};
 use steps::step_at;
 use words::{events_in, read_words_at};
 
-#[derive(Drop)]
+#[derive(Clone, Copy)]
 pub struct Reader<'a> {
     pub src: &'a [u8],
     pub at: usize,
 }
 
 // What a step of a reader answers, and the reader after it.
-#[derive(Drop)]
+#[derive(Clone, Copy)]
 pub struct Stepped<'a> {
     pub step: Step,
     pub reader: Reader<'a>,
 }
 
 // What a step from a position answers, and the position after it.
-#[derive(Drop)]
+#[derive(Clone, Copy)]
 pub struct MemberRead {
     pub step: Step,
     pub at: usize,
 }
 
 // What reading several members answers: the number of the refusal, or 0, and the position after the last member that was given.
-#[derive(Drop)]
+#[derive(Clone, Copy)]
 pub struct MembersRead {
     pub number: u32,
     pub at: usize,

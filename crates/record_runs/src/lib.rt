@@ -2,6 +2,8 @@
 // `run_records` is proved by hand, and is thin over `run_words`; `run_plan` takes a plan file in their place.
 // `copy_plan` reads a plan file into records and writes it again.
 // Assumes nothing.
+#![tactic(auto)]
+
 mod copying;
 mod running;
 

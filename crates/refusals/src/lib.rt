@@ -1,5 +1,7 @@
 // The tests of document 01's table "Refused": each gives its number, or 0. Number 8 and 16 are tests of the crate `mass`.
 // Assumes nothing.
+#![tactic(auto)]
+
 mod order;
 
 ghost use Rattle.std.specs.Prelude.{◌≡◌, ◌^◌, ◌≤◌, ◌<◌, leb};

@@ -1,5 +1,7 @@
 // Sets of nodes, links and events as words: element i is bit i (document 01, "Plan file"). Each step on a set is a small function.
 // Assumes nothing.
+#![tactic(auto)]
+
 ghost use Rattle.std.specs.Prelude.{◌≡◌, true, false, not, ◌&&◌, ◌||◌, ℕ, ◌<◌, ◌≤◌, eqb, ltb};
 ghost use Rattle.std.specs.Int.Count.{count_trailing_zeros};
 ghost use Rattle.sets.specs.Sets.{bit, digit};

@@ -1,6 +1,8 @@
 // Events put in order as they come (document 02, request U2): each is laid down before the first one whose probability is below its own.
 // The order itself, by falling key over any element, is a definition (specs/Order.antt) with its laws in proofs/.
 // Assumes nothing.
+#![tactic(auto)]
+
 ghost use Rattle.std.specs.Prelude.{◌≡◌, ◌+◌, ◌-◌, ◌*◌, ◌≤◌, ◌<◌, length, take, drop};
 ghost use Rattle.std.proofs.lemmas.List.Edits.{sets};
 ghost use Rattle.plan.specs.Lists.{events_of};

@@ -1,6 +1,8 @@
 // Equipment sheets: document 02, request U2. The check of a sheet file, and reading its lines as events in falling probability into a lent
 // list.
 // Assumes nothing.
+#![tactic(auto)]
+
 mod file;
 mod reader;
 
@@ -8,7 +10,7 @@ pub use file::check;
 pub use reader::{counts_in, number_in, read, read_core};
 
 // The counts of a sheet: its nodes, its links and its lines.
-#[derive(Drop)]
+#[derive(Clone, Copy)]
 pub struct Counts {
     pub nodes: u64,
     pub links: u64,
@@ -16,7 +18,7 @@ pub struct Counts {
 }
 
 // What reading a sheet answers.
-#[derive(Drop)]
+#[derive(Clone, Copy)]
 pub enum SheetReading {
     Refused(u32),
     Accepted(Counts),

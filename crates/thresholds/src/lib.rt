@@ -1,5 +1,7 @@
 // Several thresholds in one walk: document 02, request U8.
 // Assumes nothing.
+#![tactic(auto)]
+
 mod blocks;
 mod call;
 mod lists;
@@ -7,7 +9,7 @@ mod lists;
 pub use call::thresholds;
 
 // A header without a threshold: how many nodes, links and events there are, and the cap.
-#[derive(Drop)]
+#[derive(Clone, Copy)]
 pub struct CommonHeader {
     pub nodes: u64,
     pub links: u64,
@@ -16,7 +18,7 @@ pub struct CommonHeader {
 }
 
 // What the call answers: the number of the refusal (0 for none) and, for each of 16 places, the examined count, complete (1 or 0) and E.
-#[derive(Drop)]
+#[derive(Clone, Copy)]
 pub struct Answered {
     pub number: u32,
     pub count: [u64; 16],

@@ -1,6 +1,8 @@
 // The walk for several thresholds at once: document 02, request U8. A branch is pending as long as the lowest threshold that is under way
 // meets it; the mass before its last event tells which thresholds come to it.
 // Assumes nothing.
+#![tactic(auto)]
+
 ghost use Rattle.std.specs.Prelude.{◌≡◌, [], ◌∷◌, ◌+◌, ◌^◌, ◌≤◌, ◌<◌, length, drop};
 ghost use Rattle.std.proofs.lemmas.List.Edits.{sets};
 ghost use Rattle.mass.specs.Split.{certain, whole};
@@ -14,7 +16,7 @@ use walk::Failing;
 
 // A pending branch, as it stands in five words of the stack: how many events are decided, the mass, the failing events, and the mass before
 // the last event.
-#[derive(Drop)]
+#[derive(Clone, Copy)]
 pub struct SharedEntry {
     pub depth: u64,
     pub mass: u64,
@@ -25,7 +27,7 @@ pub struct SharedEntry {
 
 // Where the way down a "works" path leaves no more "fails" sides pending: where the stack then begins, how many events are decided, and the
 // mass.
-#[derive(Drop)]
+#[derive(Clone, Copy)]
 pub struct Halt {
     pub at: usize,
     pub depth: u64,
@@ -35,7 +37,7 @@ pub struct Halt {
 // A "works" path: where the stack then begins, the mass before the branch's last event, how many events are decided and which mass is left
 // where no "fails" side is left pending any more, the failing events, and where the path stops in the walk with the lowest threshold: how
 // many events are decided, and the mass.
-#[derive(Drop)]
+#[derive(Clone, Copy)]
 pub struct WorksPath {
     pub at: usize,
     pub parent: u64,

@@ -2,6 +2,8 @@
 // "Refused". A header is 20 bytes: RSG, version 1, nodes, links, events, the threshold in 8 bytes and the cap in 4, here 1 and 100 unless
 // the vector is about them. Each expected value stands beside its vector, taken from document 01 or worked out by hand; a difference is
 // printed, and `trials ended` is the last line. The stored output is that line alone.
+#![tactic(auto)]
+
 mod headers;
 mod past_header;
 mod splits;

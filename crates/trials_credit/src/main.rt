@@ -1,6 +1,8 @@
 // The test program of service credits: document 02, request U6. Fee, rate and credits are in cents, times in seconds a year.
 // Each expected value stands beside its vector, worked out by hand; a difference is printed, and `trials ended` is the last line. The
 // stored output is that line alone.
+#![tactic(auto)]
+
 use credits::Credited;
 use plan::Header;
 use trials_vectors::{header, same, same_part};

@@ -2,6 +2,8 @@
 // damaged walks (`states`, `looks`), of which the walk is that of the plan of `trials_panel_vectors` at cap 100 after 5 ends: count 4, E 507
 // thousandths. Each expected value stands beside its vector or in the table of the plan of `trials_panel_vectors`, worked out by hand; a difference
 // is printed, and `trials ended` is the last line. The stored output is that line alone.
+#![tactic(auto)]
+
 mod lists;
 mod looks;
 mod quotas;

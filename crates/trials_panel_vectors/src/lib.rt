@@ -2,6 +2,8 @@
 // walk, to what it should be.
 // The plan of `table` is worked out by hand.
 // Assumes the contract of C's `write`, with which differences are printed.
+#![tactic(auto)]
+
 mod compare;
 mod table;
 mod walks;

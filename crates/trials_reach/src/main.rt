@@ -2,6 +2,8 @@
 // three and of 64 nodes; nodes without a link, rings, islands, and the last node and link. Each expected value stands beside its vector,
 // taken from document 01 or request U3 of document 02, or worked out by hand; a difference is printed, and `trials ended` is the last line.
 // The stored output is that line alone.
+#![tactic(auto)]
+
 mod components;
 mod lines;
 mod networks;

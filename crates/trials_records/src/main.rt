@@ -1,6 +1,8 @@
 // The test program of what goes by way of records and of the reader: document 01, "Plan file". An output holds a pattern, byte 170, before
 // the call. Each expected value stands beside its vector, taken from document 01 or worked out by hand; a difference is printed, and
 // `trials ended` is the last line. The stored output is that line alone.
+#![tactic(auto)]
+
 mod copies;
 mod members;
 mod steps;

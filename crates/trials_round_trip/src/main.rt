@@ -1,6 +1,8 @@
 // The test program of plans that are written and read: document 01, "Plan file". Lists and outputs hold a pattern, byte 170 and word 77,
 // before the call. Each expected value stands beside its vector, taken from document 01 or worked out by hand; a difference is printed,
 // and `trials ended` is the last line. The stored output is that line alone.
+#![tactic(auto)]
+
 use trials_vectors::{
     BYTE, WORD, accepted, full_events, header, large_file, many_links, same, same_bytes,
     same_words, written,

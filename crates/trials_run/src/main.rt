@@ -1,5 +1,7 @@
 // The test program of the run, and of the run with windows (`windows`). Each expected value stands beside its vector, taken from document
 // 01 or worked out by hand; a difference is printed, and `trials ended` is the last line. The stored output is that line alone.
+#![tactic(auto)]
+
 mod windows;
 
 use bounds::Ran;

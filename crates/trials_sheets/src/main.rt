@@ -1,6 +1,8 @@
 // The test program of equipment sheets: document 02, U2. Lists hold a pattern, word 77, before the call. Each expected value stands beside
 // its vector, taken from document 02 or worked out by hand; a difference is printed, and `trials ended` is the last line. The stored output
 // is that line alone.
+#![tactic(auto)]
+
 mod compare;
 mod lines;
 mod products;

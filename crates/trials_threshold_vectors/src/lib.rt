@@ -1,5 +1,7 @@
 // What the test programs of several thresholds share: document 02, request U8. Holding answers and lists to what they should be.
 // Assumes the contract of C's `write`, with which differences are printed.
+#![tactic(auto)]
+
 use thresholds::Answered;
 use trials_vectors::{WORD, same, same_at};
 

@@ -1,5 +1,7 @@
 // The test program of the topology list. A word of a list is 7 before the call. Each expected value stands beside its vector, worked out
 // by hand; a difference is printed, and `trials ended` is the last line. The stored output is that line alone.
+#![tactic(auto)]
+
 use plan::Header;
 use topology_list::Listed;
 use trials_vectors::{header, many_links, same, same_part, same_words};

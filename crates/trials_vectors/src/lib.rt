@@ -1,5 +1,7 @@
 // What the test programs share: comparing a result with what it should be, and plans of known bytes.
 // Assumes the contract of C's `write`, with which differences are printed.
+#![tactic(auto)]
+
 mod compare;
 mod data;
 

@@ -1,5 +1,7 @@
 // Scenarios and the walk over them: document 01, section "Scenarios".
 // Assumes nothing.
+#![tactic(auto)]
+
 ghost use Rattle.std.specs.Prelude.{◌≡◌, [], ◌∷◌, ◌+◌, ◌^◌, ◌≤◌, ◌<◌};
 ghost use Rattle.std.proofs.lemmas.List.Edits.{sets};
 ghost use Rattle.sets.specs.Sets.{joined};
@@ -10,7 +12,7 @@ mod ahead;
 pub use ahead::{next_relevant, split_at, straight};
 
 // A set of events in two words, events 64 to 127 in the high one.
-#[derive(Drop)]
+#[derive(Clone, Copy)]
 pub struct Failing {
     pub low: u64,
     pub high: u64,
@@ -18,7 +20,7 @@ pub struct Failing {
 
 // An entry of the stack: a pending branch, with how many events are decided, its mass and its failing events; or, where the depth is RUN, so
 // many dropped ends as the mass says.
-#[derive(Drop)]
+#[derive(Clone, Copy)]
 pub struct StackEntry {
     pub depth: u64,
     pub mass: u64,
@@ -27,7 +29,7 @@ pub struct StackEntry {
 
 // What a step hands out: where the stack now begins, how many ends may still be reached, whether a relevant scenario was found, its mass
 // and its failing events (0 where none was).
-#[derive(Drop)]
+#[derive(Clone, Copy)]
 pub struct WalkStep {
     pub at: usize,
     pub left: u64,
@@ -38,7 +40,7 @@ pub struct WalkStep {
 }
 
 // A mass on a "works" path: its units, and the same in two parts, high × 10^9 + low.
-#[derive(Drop)]
+#[derive(Clone, Copy)]
 pub struct Parted {
     pub units: u64,
     pub high: u64,
@@ -46,7 +48,7 @@ pub struct Parted {
 }
 
 // Where a "works" path stops: how many events are decided, and the mass.
-#[derive(Drop)]
+#[derive(Clone, Copy)]
 pub struct Stop {
     pub depth: u64,
     pub mass: u64,
@@ -54,7 +56,7 @@ pub struct Stop {
 
 // What a descent comes to: where the stack now begins, and one end: whether it is relevant, its mass and its failing events (0 where it is
 // dropped); so many dropped ends follow it.
-#[derive(Drop)]
+#[derive(Clone, Copy)]
 pub struct Descent {
     pub at: usize,
     pub relevant: bool,

@@ -1,6 +1,8 @@
 // The state of a walk in steps (document 02, request U4): its fields, and the test whether fields that are set to anything may be gone on
 // with.
 // Assumes nothing.
+#![tactic(auto)]
+
 mod sound;
 
 ghost use Rattle.std.specs.Prelude.{◌≡◌};
@@ -11,7 +13,7 @@ pub use sound::is_sound;
 
 // A walk: its plan (header, links, events), what is still to come of it (the stack, and where it begins), and what it has so far: the sums
 // of the pairs, how many ends it reached, how many scenarios it examined, and their mass.
-#[derive(Drop)]
+#[derive(Clone, Copy)]
 pub struct Walk {
     pub header: Header,
     pub links: [u8; 256],
@@ -25,7 +27,7 @@ pub struct Walk {
 }
 
 // A walk, or the number of a refusal and a walk of zeros.
-#[derive(Drop)]
+#[derive(Clone, Copy)]
 pub struct WalkAnswer {
     pub number: u32,
     pub walk: Walk,

@@ -1,5 +1,7 @@
 // A walk as lent words: document 02, request U4. A walk is laid down in a list of words, and taken from one.
 // Assumes nothing.
+#![tactic(auto)]
+
 mod parts;
 
 ghost use Rattle.std.specs.Prelude.{◌≡◌, ◌≤◌, length};

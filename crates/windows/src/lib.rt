@@ -1,6 +1,8 @@
 // Planned work by the week: document 02, request U7. The number with which windows of work and a minute are refused, and what is out at a
 // minute. Windows are five words each: start, end, nodes, links 0 to 63, links 64 to 127.
 // Assumes nothing.
+#![tactic(auto)]
+
 ghost use Rattle.std.specs.Prelude.{◌≡◌, not, ◌&&◌, ◌+◌, ◌*◌, ◌%◌, ◌≤◌, leb, ltb, eqb, length};
 ghost use Rattle.mass.specs.Refusal.{refuse, each};
 ghost use Rattle.network.specs.Code.{outage};
