@@ -275,14 +275,6 @@ def local_names(text, renamed):
     return pattern.sub(lambda m: renamed[m.group(1)], text)
 
 
-def invariants(fn, defs, said):
-    """The definitions of Invariants.antt: (name, body)."""
-    out = []
-    for kind, loops in defs:
-        out.append((kind, loops))
-    return out
-
-
 def convert(path, entry, crate, func):
     said = []
     text = open(path, encoding="utf-8").read()
@@ -414,22 +406,41 @@ def convert(path, entry, crate, func):
     return (head, uses, out, invs, fn), said
 
 
-def turn_invariants(invs, fn, said):
-    loops = fn.entry["loops"]
-    result = []
-    for item in invs:
-        _, comment, marks, name, sig, unfold, eqs = item
+def loop_of(fn, old):
+    for (names, live), changed in zip(fn.entry["loops"], fn.entry["changed"]):
+        if norm(names[0]) == norm(old):
+            return names[1], live, changed
+    return None
+
+
+def write_invariants(folder, head, uses, invs, fn, base, said):
+    """Invariants.antt: each parameter by position becomes a field of `l`."""
+    out = []
+    for _, comment, marks, name, sig, unfold, eqs in invs:
         kind, old = re.match(r"(invariant|decreases)-(.*)", name).groups()
-        found = None
-        for loop in loops:
-            if norm(loop["old"]) == norm(old):
-                found = loop
+        found = loop_of(fn, old)
         if not found:
             said.append(f"no loop for {name}")
-            result.append((name, None, eqs, comment, unfold))
+            out.append("\n".join(comment + eqs))
             continue
-        result.append((f"{kind}-{found['new']}", found, eqs, comment, unfold))
-    return result
+        new, live, changed = found
+        m = re.match(re.escape(name) + r"((?:\s+" + WORD + r")*)\s+=(?=\s)", eqs[0])
+        params = m.group(1).split()
+        values = [f"l.initial.{v}" if c else f"l.{v}" for v, c in zip(live, changed)] + [f"l.{v}" for v, c in zip(live, changed) if c]
+        if len(params) != len(values):
+            said.append(f"{name}: {len(params)} parameters, {len(values)} values {values}")
+            values = [f"l.initial.{p[:-1]}" if p.endswith("₀") else f"l.{p}" for p in params]
+        body = local_vars(eqs[0][m.end():], dict(zip(params, values)))
+        out.append("\n".join(comment + [f"abbrev pub {kind}-{new} : goal.{kind}-{new}"] + ([unfold] if unfold else []) + [f"{kind}-{new} l ={body}"]))
+    text = "\n".join(head) + "\n" + "\n".join(uses) + ("\n" if uses else "") + f"use {base}.Given as goal\n\n" + "\n\n".join(out) + "\n"
+    with open(os.path.join(folder, "Invariants.antt"), "w", encoding="utf-8") as file:
+        file.write(text)
+
+
+def local_vars(text, renamed):
+    pattern = re.compile(r"(?<![\w.'·₀-₉-])(" + "|".join(sorted(map(re.escape, renamed), key=len, reverse=True)) + r")(?![\w'·₀-₉-])")
+    bound = set(re.findall(r"λ \(?(" + WORD + r")", text)) | set(re.findall(r"\((" + WORD + r") :", text))
+    return pattern.sub(lambda m: m.group() if m.group(1) in bound else renamed[m.group(1)], text)
 
 
 def main(argv):
@@ -454,17 +465,16 @@ def main(argv):
         head, uses, out, invs, fn = got
         base = f"Rattle.{os.path.basename(crate)}.proofs.{func.replace('/', '.')}"
         if invs:
-            write_invariants(folder, head, uses, invs, fn, base, func, said)
+            more = []
+            write_invariants(folder, head, uses, invs, fn, base, more)
+            for s in more:
+                print(f"{func}: {s}")
         if out:
             text = "\n".join(head) + "\n" + "\n".join(uses) + ("\n" if uses else "")
             text += f"use {base}.Goals as goal\n\n" + "\n\n".join(out) + "\n"
             with open(os.path.join(folder, "Answers.antt"), "w", encoding="utf-8") as file:
                 file.write(text)
         os.remove(os.path.join(folder, "Proof.antt"))
-
-
-def write_invariants(folder, head, uses, invs, fn, base, func, said):
-    print(f"{func}: invariants: {json.dumps(fn.entry['loops'])[:400]}")
 
 
 if __name__ == "__main__":
