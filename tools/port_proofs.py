@@ -78,10 +78,10 @@ class Function:
             if step and step[0]:
                 self.step[norm(step[0])] = step[1]
         self.parent = {new: (self.place[norm(p)][1] if p else None) for new, p in self.parent.items()}
-        # a step's new name at its own place, since two places of one name may differ
-        self.at = {}
-        for (old, parent, step, *_), new in zip(entry["places"], news):
+        self.at, self.index = {}, {}
+        for i, ((old, parent, step, *_), new) in enumerate(zip(entry["places"], news)):
             self.at[new] = step
+            self.index[new] = i
         self.need = {}
         for (old, new), asked in zip(entry["needs"], entry["asked_at"]):
             self.need.setdefault(norm(old), (new, asked[1]))
@@ -91,81 +91,162 @@ class Function:
             yield place
             place = self.parent.get(place)
 
-    def step_of(self, word, place):
-        for p in self.chain(place):
-            step = self.at.get(p)
-            if step and step[0] and norm(step[0]) == norm(word):
-                return step[1]
-        return self.step.get(norm(word)) if place is None else None
+
+FIXED = {"args", "requires", "ranges", "well_formed", "type_inv", "lifetimes"}
+SIMPLE = WORD
 
 
-FIXED = {"args", "requires", "ranges", "result", "ensures", "new", "true", "false", "invariant", "well_formed", "auto", "type_inv"}
+class Resolver:
+    """Turns the terms of one function: a step is reached from the record itself, with no chain of `.before`."""
+
+    def __init__(self, fn, helpers, said):
+        self.fn, self.helpers, self.said = fn, helpers, said
+        self.places = set()
+
+    def up(self, place, k):
+        for _ in range(k):
+            place = self.fn.parent.get(place) if place else None
+        return place
+
+    def nav(self, name):
+        h = self.helpers.get(name)
+        return h and h["result"]
+
+    def turn(self, text, env, need):
+        """`env`: variable -> (root, place); `need`: the goal that is answered, or None in a helper."""
+        env, fn = dict(env), self.fn
+        # helpers that only go back, as in (turn c).loop, and lets of places
+        count = [0]
+
+        def place_of(expr):
+            expr = expr.strip()
+            m = re.fullmatch(r"(" + WORD + r")((?:\.before)*)", expr)
+            if m and m.group(1) in env:
+                root, place = env[m.group(1)]
+                return root, self.up(place, m.group(2).count(".before"))
+            m = re.fullmatch(r"(" + WORD + r") (" + WORD + r")((?:\.before)*)", expr)
+            if m and self.nav(m.group(1)) and m.group(2) in env:
+                root, place = env[m.group(2)]
+                return root, self.helpers[m.group(1)]["result"]
+            return None
+
+        for _ in range(12):
+            changed = False
+
+            def paren(m):
+                nonlocal changed
+                got = place_of(m.group(1))
+                if not got or " " not in m.group(1):
+                    return m.group()
+                changed = True
+                count[0] += 1
+                name = f"§{count[0]}"
+                env[name] = got
+                return name
+
+            text = re.sub(r"\((" + WORD + r" " + WORD + r"(?:\.before)*)\)", paren, text)
+            m = None
+            for m in re.finditer(r"let (" + WORD + r") = ([^\n]*?) in\b[ ]*(?:\n[ ]*)?", text):
+                got = place_of(m.group(2).strip())
+                if got:
+                    env[m.group(1)] = got
+                    text = text[: m.start()] + text[m.end():]
+                    changed = True
+                    break
+            if not changed:
+                break
+
+        def sub(m):
+            root0, parts = m.group(1), m.group(2)[1:].split(".") if m.group(2) else []
+            if root0 not in env:
+                return m.group()
+            root, place = env[root0]
+            k = 0
+            while k < len(parts) and parts[k] == "before":
+                k += 1
+            here = self.up(place, k)
+            if here is None:
+                self.said.append(f"no place at {m.group()}")
+                return m.group()
+            rest = parts[k:]
+            if not rest:
+                if root0 == root and k == 0:
+                    return root
+                if need:
+                    self.places.add(here)
+                    return f"(goal.at.{need} {root}).{here}"
+                return f"§bare:{root}:{here}§"
+            if rest[0] in FIXED:
+                return ".".join([root] + self.clauses_of(rest, None))
+            return ".".join([root] + self.step(rest, here, m.group(), env[root][1] if root in env else here))
+
+        text = re.sub(r"(?<![\w.'·₀-₉-])(§?" + WORD + r")((?:\." + WORD + r")*)", sub, text)
+        text = re.sub(r"§bare:([^:]*):([^§]*)§", lambda m: m.group(), text)
+        return text
+
+    def step(self, rest, here, whole, own):
+        fn = self.fn
+        for p in fn.chain(here):
+            i = fn.index[p]
+            arm = fn.entry["arms"][i]
+            if arm:
+                for field, old, path in arm[2]:
+                    if norm(old) == norm(rest[0]) and rest[1:1 + len(path)] == path and path:
+                        return [arm[0], field] + rest[1 + len(path):]
+            step = fn.at.get(p)
+            if step and step[0] and norm(step[0]) == norm(rest[0]):
+                for var, old in fn.entry["typed"][fn.index[own]]:
+                    if norm(old) == norm(rest[0]) and rest[1:2] == ["given"]:
+                        return ["type_inv", var] + rest[2:]
+                return [step[1]] + self.call(rest[1:], i)
+        self.said.append(f"no step {rest[0]} at {here} in {whole}")
+        return rest
+
+    def call(self, rest, i):
+        """The fields of a call: its clauses and what it leaves in lent memory by their names."""
+        entry = self.fn.entry
+        callee = entry["places"][i][3]
+        if rest[:1] == ["new"] and callee in entry["params"] and len(rest) > 1 and rest[1] in "01":
+            k = 1
+            while k < len(rest) and rest[k] == "1":
+                k += 1
+            params = entry["params"][callee]
+            if k - 1 < len(params):
+                return ["new", params[k - 1]] + rest[k + 1:]
+        if rest[:1] == ["ensures"] and entry["clauses"][i]:
+            return self.clauses_of(rest, entry["clauses"][i])
+        return rest
+
+    def clauses_of(self, rest, names):
+        if rest[0] == "requires":
+            names = self.fn.entry["pre"]
+        if not names or isinstance(names, str) or len(names) < 2:
+            return rest
+        k = 1
+        while k < len(rest) and rest[k] == "1" and k < len(names):
+            k += 1
+        i = k - 1
+        if i < len(names) - 1:
+            if k < len(rest) and rest[k] == "0":
+                return [rest[0], names[i]] + rest[k + 1:]
+            if k >= len(rest) and k == 1:
+                return [f"§whole:{','.join(names)}:{rest[0]}§"]
+            self.said.append(f"clauses {names} of {rest}")
+            return rest
+        return [rest[0], names[i]] + rest[k:]
 
 
-def turn_paths(text, fn, env, returns, said):
-    """Renames the steps of paths; `env` says at which place each variable is, `returns` at which place a helper's result is."""
-    env = dict(env)
+def whole_clauses(text):
+    """A use of all clauses at once, as the nested pair that the lemmas take."""
 
     def sub(m):
-        root, parts = m.group(1), m.group(2)[1:].split(".")
-        if root == ")":
-            before = m.string[: m.start() + 1]
-            depth, k = 0, len(before) - 1
-            while k >= 0:
-                depth += {")": 1, "(": -1}.get(before[k], 0)
-                if depth == 0:
-                    break
-                k -= 1
-            head = re.match(r"\(\s*(" + WORD + ")", before[k:])
-            place = returns.get(head.group(1)) if head else None
-        else:
-            place = env.get(root)
-        if place is None:
-            return m.group()
-        here, i = place, 0
-        while i < len(parts) and parts[i] == "before":
-            here = fn.parent.get(here)
-            i += 1
-            if here is None:
-                said.append(f"no place after {m.group()}")
-                return m.group()
-        if i == len(parts):
-            return m.group()
-        word = parts[i]
-        if word in FIXED:
-            return root + "." + ".".join(parts[i:])
-        new = fn.step_of(word, here)
-        if new is None:
-            said.append(f"no step {word} at {here} in {m.group()}")
-            return m.group()
-        return root + "." + ".".join([new] + parts[i + 1:])
+        head, names, field = m.group(1), m.group(2).split(","), m.group(3)
+        out = f"{head}.{field}.{names[-1]}"
+        for n in reversed(names[:-1]):
+            out = f"({head}.{field}.{n}, {out})"
+        return out
 
-    # lets first, in order: `let x = PATH in`
-    out, pos = [], 0
-    for m in re.finditer(r"let (" + WORD + r") = ((?:" + WORD + r")|\((?:" + WORD + r") (?:" + WORD + r")\))((?:\.before)*) in\b", text):
-        name, root, befores = m.group(1), m.group(2), m.group(3).count(".before")
-        if root.startswith("("):
-            place = returns.get(root[1:].split()[0])
-        else:
-            place = env.get(root)
-        if place is None:
-            # `let t = f c in` has a blank, and is taken below
-            continue
-        for _ in range(befores):
-            place = fn.parent.get(place) if place else None
-        if place:
-            env[name] = place
-    for m in re.finditer(r"let (" + WORD + r") = (" + WORD + r") (" + WORD + r")((?:\.before)*) in\b", text):
-        if m.group(2) in returns:
-            env[m.group(1)] = returns[m.group(2)]
-    # a let may follow from another let that stands after it in this scan: once more
-    for m in re.finditer(r"let (" + WORD + r") = (" + WORD + r")((?:\.before)+) in\b", text):
-        place = env.get(m.group(2))
-        for _ in range(m.group(3).count(".before")):
-            place = fn.parent.get(place) if place else None
-        if place:
-            env[m.group(1)] = place
-    return PATH.sub(sub, text)
+    return re.sub(r"([^\s(){},;]+)\.§whole:([^:]*):(\w+)§", sub, text)
 
 
 def split_args(text):
@@ -253,7 +334,7 @@ def by_clause(text, clauses):
     return text[:at] + f" let whole = {given[-1]} in\n    record {{\n      {body};\n    }}"
 
 
-def turn_type(text, fn, said):
+def turn_type(text, fn, said, places):
     """`tie.After-f invariant-loop decreases-loop` -> `goal.After-f`."""
 
     def sub(m):
@@ -262,7 +343,8 @@ def turn_type(text, fn, said):
         if got is None:
             said.append(f"no place {word}")
             return m.group()
-        return "goal." + got[1]
+        places.add(got[1])
+        return got[1]
 
     text = re.sub(r"tie\.(" + WORD + r")((?: (?:invariant|decreases)-" + WORD + r")*)", sub, text)
     return text
@@ -317,11 +399,40 @@ def convert(path, entry, crate, func):
                 asked[a] = place
         elif new:
             inline[new] = (a, place)
-    returns = {}
+    helpers = {}
     for name, d in defs.items():
-        m = re.match(r"tie\.(?!Need)(" + WORD + r").*→ tie\.(" + WORD + r")( invariant-\S+ decreases-\S+)?$", d[4], re.S)
-        if m and norm(m.group(2)) in fn.place:
-            returns[name] = fn.place[norm(m.group(2))][1]
+        if name in renamed or re.match(r"tie\.", d[4]) and re.match(r"tie\.(Need|invariant|decreases)-", d[4]):
+            continue
+        m = re.match(r"(?:\((" + WORD + r") : )?tie\.(" + WORD + r")", d[4])
+        if not m or norm(m.group(2)) not in fn.place:
+            continue
+        r = re.search(r"→ tie\.(" + WORD + r")( invariant-\S+ decreases-\S+)?$", d[4], re.S)
+        first = re.match(re.escape(name) + r" (" + WORD + r")((?: " + WORD + r")*) =", d[6][0]) if d[6] else None
+        helpers[name] = {
+            "place": fn.place[norm(m.group(2))][1],
+            "param": first.group(1) if first else "c",
+            "more": bool(first and first.group(2)),
+            "result": fn.place[norm(r.group(1))][1] if r and norm(r.group(1)) in fn.place else None,
+            "body": d[6][0][first.end():] if first else None,
+            "typed": m.group(1),
+        }
+    res = Resolver(fn, helpers, said)
+
+    def in_helpers(text, depth=0):
+        """A helper that is given another helper's record has that one's body, over its own record."""
+
+        def sub(m):
+            name, root = m.group(1), m.group(2)
+            h = helpers.get(name)
+            if not h or h["body"] is None or h["more"] or depth > 8:
+                said.append(f"cannot put {name} in")
+                return m.group()
+            body = res.turn(h["body"], {h["param"]: (root, h["place"])}, None)
+            body = re.sub(r"(?<![\w.'·-])" + re.escape(h["param"]) + r"(?=[. )\n]|$)", root, body)
+            return "(" + in_helpers(body.strip(), depth + 1) + ")"
+
+        return re.sub(r"(?<![\w.'·-])(" + WORD + r") §bare:([^:]*):[^§]*§", sub, text)
+
     head, uses, out, invs = [], [], [], []
     for item in items:
         if item[0] == "comment":
@@ -345,7 +456,6 @@ def convert(path, entry, crate, func):
             eqs = list(eqs)
             if name in renamed:
                 new_name = renamed[name]
-                env["c"] = asked[name]
                 first = re.match(re.escape(name) + r"((?: " + WORD + r")*) =", eqs[0])
                 params = first.group(1).split() if first else []
                 rest = eqs[0][first.end():] if first else ""
@@ -354,7 +464,7 @@ def convert(path, entry, crate, func):
                 elif params[1:]:
                     said.append(f"{name} uses {params[1:]}")
                 if params:
-                    env[params[0]] = asked[name]
+                    env[params[0]] = (params[0], asked[name])
                 if len(eqs) == 1 and TRIVIAL.match(rest.strip()) and not unfold:
                     continue
                 eqs = [new_name + "".join(" " + p for p in params) + " =" + rest]
@@ -365,22 +475,22 @@ def convert(path, entry, crate, func):
                 got = fn.need.get(norm(re.match(r"tie\.Need-(" + WORD + ")", sig).group(1)))
                 continue
             else:
-                for m in re.finditer(r"\((" + WORD + r") : tie\.(" + WORD + r")", sig):
-                    got = fn.place.get(norm(m.group(2)))
-                    if got:
-                        env[m.group(1)] = got[1]
-                m = re.match(r"tie\.(" + WORD + r")", sig)
-                if m and norm(m.group(1)) in fn.place:
-                    first = re.match(re.escape(name) + r" (" + WORD + ")", eqs[0])
-                    if first:
-                        env[first.group(1)] = fn.place[norm(m.group(1))][1]
-                sig2 = turn_paths(turn_type(sig, fn, said), fn, env, returns, said)
+                h = helpers.get(name)
+                if h and h["result"]:
+                    continue
+                sig2 = turn_type(sig, fn, said, res.places)
+                if h:
+                    if h["typed"]:
+                        sig2 = in_helpers(res.turn(sig2, {h["typed"]: (h["typed"], h["place"])}, None))
+                    env[h["param"]] = (h["param"], h["place"])
+                elif "tie." in sig:
+                    said.append(f"helper {name} : {sig}")
                 marks2 = marks
             turned = []
             for e in eqs:
                 m = re.match(re.escape(new_name) + r"(?![\w'-])(?:[^=]|=(?!\s))*=(?=\s)", e)
                 lhs, rest = (m.group(), e[m.end():]) if m else ("", e)
-                rest = local_names(turn_paths(rest, fn, env, returns, said), renamed)
+                rest = local_names(whole_clauses(in_helpers(res.turn(rest, env, new_name if name in renamed else None))), renamed)
                 clauses = fn.entry["asked"].get(new_name) if name in renamed else None
                 turned.append(lhs + (by_clause(rest, clauses) if clauses else rest))
             eqs = turned
@@ -396,14 +506,18 @@ def convert(path, entry, crate, func):
                 continue
             if params[1:] and not re.search(r"(?<![\w'])" + re.escape(params[1]) + r"(?![\w'])", rest):
                 params = params[:1]
-            rest = local_names(turn_paths(rest, fn, {params[0]: place}, returns, said), renamed)
+            rest = local_names(whole_clauses(in_helpers(res.turn(rest, {params[0]: (params[0], place)}, new))), renamed)
+            clauses = fn.entry["asked"].get(new)
+            if clauses:
+                rest = by_clause(rest, clauses)
             out.append(f"pub {new} : goal.{new}\n{new} {' '.join(params)} = {rest}")
         elif a in renamed:
             out.append(f"pub {new} : goal.{new}\n{new} c = {renamed[a]} c")
         else:
             said.append(f"inline {new}: {a}")
             out.append(f"pub {new} : goal.{new}\n{new} c = {a} c")
-    return (head, uses, out, invs, fn), said
+    named = sorted({p for p in res.places if any(re.search(r"(?<![\w.-])" + re.escape(p) + r"(?![\w-])", o) for o in out)})
+    return (head, uses, out, invs, fn, named), said
 
 
 def loop_of(fn, old):
@@ -462,7 +576,7 @@ def main(argv):
             print(f"{func}: {s}")
         if got is None:
             continue
-        head, uses, out, invs, fn = got
+        head, uses, out, invs, fn, named = got
         base = f"Rattle.{os.path.basename(crate)}.proofs.{func.replace('/', '.')}"
         if invs:
             more = []
@@ -471,6 +585,8 @@ def main(argv):
                 print(f"{func}: {s}")
         if out:
             text = "\n".join(head) + "\n" + "\n".join(uses) + ("\n" if uses else "")
+            if named:
+                text += f"use {base}.Goals.{{{', '.join(named)}}}\n"
             text += f"use {base}.Goals as goal\n\n" + "\n\n".join(out) + "\n"
             with open(os.path.join(folder, "Answers.antt"), "w", encoding="utf-8") as file:
                 file.write(text)

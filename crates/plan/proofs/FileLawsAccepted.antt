@@ -65,7 +65,7 @@ members-fit nodes links least zero at s h e = omega arith
 members-fit nodes links least (suc count) at s h e =
     let f = members-accepted nodes links least (suc count) at s (omega arith) e in
     let two : at + 2 ≤ length s = member-fits nodes links least at s f.0 in
-    omega (arith, members-fit nodes links _ count (at + 2) s two (simp (suc-sub-one count) at f.1))
+    omega (arith, members-fit nodes links (rank (get_or s at 0) (get_or s (at + 1) 0) + 1) count (at + 2) s two (simp (suc-sub-one count) at f.1))
 
 pub event-head : (nodes links before at : ℕ) (s : List ℕ) → event_refusal nodes links before (drop at s) ≡ 0 → at + 5 ≤ length s
 unfolding event_refusal

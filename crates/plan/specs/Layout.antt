@@ -1,7 +1,7 @@
 -- The layout of a plan file: document 01, section "Plan file", as a function from a plan to its bytes.
 -- Assumes nothing.
 use Rattle.std.specs.Prelude.{cond, List, [], ◌∷◌, ◌++◌, ℕ, zero, suc, ◌+◌, ◌*◌, ◌/◌, ◌%◌, ◌<◌, eqb, length}
-use Rattle.plan.specs.Plan.{Plan, Link, Event}
+use Rattle.plan.specs.Plan.{Plan, Event}
 use Rattle.plan.specs.Lists.{link_bytes}
 
 -- "Multi-byte numbers are little-endian": a number in `width` bytes

@@ -1,0 +1,15 @@
+-- `plan::file::header_of` meets its contract. Assumes nothing.
+use Rattle.plan.specs.Calls.{header_of}
+use Rattle.plan.proofs.file.header_of.Goals as goal
+
+pub returns : goal.returns
+unfolding header_of
+returns c =
+    λ i.
+    record {
+      nodes = c.byte_at.ensures.0 i;
+      links = c.byte_at-2.ensures.0 i;
+      events = c.byte_at-3.ensures.0 i;
+      threshold = c.number_at.ensures i;
+      cap = c.number_at-2.ensures i;
+    }

@@ -1,0 +1,67 @@
+-- `plan::file::header_refusal` meets its contract: the header's bytes are there, and then its tests are the list that `first_of` is given.
+-- Assumes nothing.
+use mathlib.Core.Path.{refl, ◌∙◌, ap}
+use Prim.Native.Nat.{◌≤◌}
+use native.Mathlib.Omega.{arith}
+use lib.ListN.{length}
+use Rattle.mass.specs.Refusal.{first}
+use Rattle.refusals.specs.Tests.{mark_test, version_test, counts_test, threshold_test, cap_test}
+use Rattle.plan.specs.File.{header_refusal}
+use Rattle.refusals.proofs.OrderLaws.{stop, skip, also, on, on3}
+use Rattle.plan.proofs.FileLawsAccepted.{enough}
+use Rattle.plan.proofs.file.header_refusal.Goals.{Else-short-ne0}
+use Rattle.plan.proofs.file.header_refusal.Goals as goal
+
+pub returns-then-short-ne0 : goal.returns-then-short-ne0
+unfolding header_refusal
+returns-then-short-ne0 c = stop _ c.short_test-short.ensures c.if-short-ne0.true
+
+-- the header's bytes are there
+there : (c : Else-short-ne0) → 20 ≤ length c.args.s.now
+there c = enough _ 20 c.short_test-short.ensures c.if-short-ne0.false
+
+pub number_at-requires-3 : goal.number_at-requires-3
+number_at-requires-3 c = omega (arith, there (goal.at.number_at-requires-3 c).Else-short-ne0)
+
+pub returns : goal.returns
+unfolding header_refusal
+returns c =
+    skip _ c.short_test-short.ensures c.if-short-ne0.false
+    (c.first_of.ensures
+    ∙ ap first
+    (also
+    (on3 (mark_test 82 83 71) c.mark_test.ensures
+    c.byte_at.ensures.0 c.byte_at-2.ensures.0 c.byte_at-3.ensures.0)
+    (also (on version_test c.version_test.ensures c.number_at.ensures)
+    (also
+    (on3 counts_test c.counts_test.ensures
+    c.byte_at-4.ensures.0 c.byte_at-5.ensures.0 c.byte_at-6.ensures.0)
+    (also (on threshold_test c.threshold_test.ensures c.number_at-2.ensures)
+    (also (on cap_test c.cap_test.ensures c.number_at-3.ensures) refl))))))
+
+pub byte_at-requires : goal.byte_at-requires
+byte_at-requires c = omega (arith, there c)
+
+pub byte_at-requires-2 : goal.byte_at-requires-2
+byte_at-requires-2 c = omega (arith, there (goal.at.byte_at-requires-2 c).Else-short-ne0)
+
+pub byte_at-requires-3 : goal.byte_at-requires-3
+byte_at-requires-3 c = omega (arith, there (goal.at.byte_at-requires-3 c).Else-short-ne0)
+
+pub number_at-requires : goal.number_at-requires
+number_at-requires c = omega (arith, there (goal.at.number_at-requires c).Else-short-ne0)
+
+pub byte_at-requires-4 : goal.byte_at-requires-4
+byte_at-requires-4 c = omega (arith, there (goal.at.byte_at-requires-4 c).Else-short-ne0)
+
+pub byte_at-requires-5 : goal.byte_at-requires-5
+byte_at-requires-5 c = omega (arith, there (goal.at.byte_at-requires-5 c).Else-short-ne0)
+
+pub byte_at-requires-6 : goal.byte_at-requires-6
+byte_at-requires-6 c = omega (arith, there (goal.at.byte_at-requires-6 c).Else-short-ne0)
+
+pub number_at-requires-2 : goal.number_at-requires-2
+number_at-requires-2 c = omega (arith, there (goal.at.number_at-requires-2 c).Else-short-ne0)
+
+pub slice_bounds-first_of-end : goal.slice_bounds-first_of-end
+slice_bounds-first_of-end c = refl
