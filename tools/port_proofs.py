@@ -219,7 +219,7 @@ class Resolver:
 
     def clauses_of(self, rest, names):
         if rest[0] == "requires":
-            names = self.fn.entry["pre"]
+            names = (self.fn.entry["pre"] or {}).get("fields")
         if not names or isinstance(names, str) or len(names) < 2:
             return rest
         k = 1

@@ -1,0 +1,17 @@
+-- `walk::ahead::delay` meets its contract: no dropped end is laid down, or an entry that stands for so many. Assumes nothing.
+use borrow.Author.Rules.{rules}
+use native.Mathlib.Omega.{arith}
+use Rattle.walk.proofs.Descents.{delayed-none, delayed-some}
+use Rattle.walk.proofs.ahead.delay.Goals as goal
+
+pub returns-then-run-eq0 : goal.returns-then-run-eq0
+returns-then-run-eq0 c = delayed-none _ _ _ c.if-run-eq0.true
+
+pub overflow_sub-at : goal.overflow_sub-at
+overflow_sub-at c = omega (arith, c.requires.1 (omega arith))
+
+pub overflow_sub-result : goal.overflow_sub-result
+overflow_sub-result c = omega (arith, c.requires.1 (omega arith))
+
+pub returns : goal.returns
+returns c = delayed-some _ _ _ _ (omega arith) (c.requires.1 (omega arith)) c.put.ensures
