@@ -130,7 +130,7 @@ class Resolver:
                 return root, self.helpers[m.group(1)]["result"]
             return None
 
-        for _ in range(12):
+        for _ in range(60):
             changed = False
 
             def paren(m):
@@ -153,6 +153,20 @@ class Resolver:
                     text = text[: m.start()] + text[m.end():]
                     changed = True
                     break
+                path = re.fullmatch(r"(§?" + WORD + r")((?:\." + WORD + r")+)", m.group(2).strip())
+                if path and path.group(1) in env and re.search(r"\.(ensures|requires)(\.\d)*$", path.group(2)):
+                    root, place = env[path.group(1)]
+                    parts = path.group(2)[1:].split(".")
+                    while parts[0] == "before":
+                        place = fn.parent.get(place)
+                        parts = parts[1:]
+                    there = self.clauses_of(parts, None) if parts[0] in FIXED else self.step(parts, place, m.group(2), place)
+                    if "§whole" in there[-1]:
+                        text = text[: m.start()] + re.sub(
+                            r"(?<![\w.'·₀-₉-])" + re.escape(m.group(1)) + r"(?![\w'·₀-₉-])", lambda _: m.group(2).strip(), text[m.end():]
+                        )
+                        changed = True
+                        break
             if not changed:
                 break
 
@@ -198,6 +212,8 @@ class Resolver:
                 for var, old in fn.entry["typed"][fn.index[own]]:
                     if norm(old) == norm(rest[0]) and rest[1:2] == ["given"]:
                         return ["type_inv", var] + rest[2:]
+                if rest[1:2] in (["taken"], ["left"]) and re.search(r"^(if|loop)-|-test$", step[1]) and re.search(r"^if|-test$", step[0]):
+                    return [step[1], {"taken": "true", "left": "false"}[rest[1]]] + rest[2:]
                 return [step[1]] + self.call(rest[1:], i)
         self.said.append(f"no step {rest[0]} at {here} in {whole}")
         return rest
@@ -220,7 +236,9 @@ class Resolver:
     def clauses_of(self, rest, names):
         if rest[0] == "requires":
             names = (self.fn.entry["pre"] or {}).get("fields")
-        if not names or isinstance(names, str) or len(names) < 2:
+        elif isinstance(names, dict):
+            names = names["fields"]
+        if not names or len(names) < 2:
             return rest
         k = 1
         while k < len(rest) and rest[k] == "1" and k < len(names):
@@ -229,8 +247,10 @@ class Resolver:
         if i < len(names) - 1:
             if k < len(rest) and rest[k] == "0":
                 return [rest[0], names[i]] + rest[k + 1:]
-            if k >= len(rest) and k == 1:
-                return [f"§whole:{','.join(names)}:{rest[0]}§"]
+            if k >= len(rest):
+                return [f"§whole:{','.join(names[i:])}:{rest[0]}§"]
+            if rest[k] in names:
+                return [rest[0]] + rest[k:]
             self.said.append(f"clauses {names} of {rest}")
             return rest
         return [rest[0], names[i]] + rest[k:]

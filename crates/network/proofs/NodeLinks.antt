@@ -22,7 +22,7 @@ use Rattle.plan.specs.Held.{LinksHeld}
 use Rattle.network.specs.Table.{link_in, is_end, table_has, at_nodes, LinksAt}
 use Rattle.network.proofs.LinkBytes.{link-at, link-below}
 use Rattle.network.proofs.RowSets.{empty-row}
-use Rattle.network.proofs.Words.{any-rest, any_none, joined_by}
+use Rattle.network.proofs.Words.{any-rest, any_none, joined_by_lem}
 
 -- ---- one link put into the table at one node
 
@@ -157,7 +157,7 @@ module _ (table : List ℕ) where
       → Apart start nodes (joined low high) left → Apart start nodes (joined low' high') rest
   apart_next start nodes low high low' high' c d left rest t found fl fc fl' is small there law ec ed one other old i h =
       ap (λ (x : Bool). x && not (at_nodes table rest i))
-      (joined_by (λ x y. x && not y) low high c d low' high' fl fc fl' one other i
+      (joined_by_lem (λ x y. x && not y) low high c d low' high' fl fc fl' one other i
       ∙ ap (λ (x : Bool). bit (joined low high) i && not x) (node-words found c d fc ec ed i h))
       ∙ cut_twice (bit (joined low high) i) (table_has table found i) (at_nodes table rest i)
       ∙ ap (λ (x : Bool). bit (joined low high) i && not x) (sym (any-rest (λ v. table_has table v i) left rest t found is small there law))

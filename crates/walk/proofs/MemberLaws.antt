@@ -36,6 +36,7 @@ among-member s (r ∷ list) e = step (same s r) refl (among-member s list)
     step false h later = Memᴰ.tail (later (rw h at e))
 
 pub member-among : (s : Scenario) (list : List Scenario) → Memᴰ s list → among s list ≡ true
+member-among s [] x' = elim x' [ ]
 member-among s (r ∷ list) (Memᴰ.head e) = rw (e, same_refl r)
 member-among s (r ∷ list) (Memᴰ.tail h) = rw (member-among s list h, or-true)
 

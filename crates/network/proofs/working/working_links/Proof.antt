@@ -6,7 +6,7 @@ use native.Mathlib.Omega.{arith}
 use Rattle.sets.specs.Sets.{bit, joined}
 use Rattle.network.specs.Table.{at_nodes}
 use Rattle.network.specs.Code.{outage}
-use Rattle.network.proofs.Words.{joined_by}
+use Rattle.network.proofs.Words.{joined_by_lem}
 use Rattle.network.proofs.NodeLinks.{working-are}
 use Rattle.network.proofs.working.working_links.Statement.{statement}
 use Rattle.network.proofs.working.working_links.Tie as tie
@@ -21,7 +21,7 @@ returns c = λ n bytes held made.
     (λ i h.
     c.apart_from.ensures i h
     ∙ ap (λ (x : Bool). x && not (at_nodes a.table.now a.failed.nodes i))
-    (joined_by (λ x y. x && not y) initial.result.low initial.result.high a.failed.low a.failed.high low.result high.result
+    (joined_by_lem (λ x y. x && not y) initial.result.low initial.result.high a.failed.low a.failed.high low.result high.result
     (omega arith)
     (omega arith)
     (omega arith)
