@@ -19,7 +19,7 @@ use Rattle.plan.specs.Lists.{events_of}
 use Rattle.walk.specs.Scenario.{Scenario, scenario_of}
 use Rattle.walk.proofs.ScenarioLaws.{falling-probable, falling-drop, scenario-length, scenario-works}
 use Rattle.plan.specs.Held.{Falling}
-use Rattle.walk.specs.Ends.{End, dropped, relevant, after, ends}
+use Rattle.walk.specs.Ends.{End, dropped, after, ends}
 use Rattle.walk.proofs.EndsLaws.{ends-cut, ends-leaf}
 use Rattle.walk.specs.Pending.{Branch, branch, branch_ends}
 use Rattle.walk.proofs.StackLaws.{branch-node, path_end-cut, path_end-enough, path-last, path-cut, path-on, words-run, words-branch}

@@ -1,5 +1,4 @@
 -- `walk::ahead::delay` meets its contract: no dropped end is laid down, or an entry that stands for so many. Assumes nothing.
-use borrow.Author.Rules.{rules}
 use native.Mathlib.Omega.{arith}
 use Rattle.walk.proofs.Descents.{delayed-none, delayed-some}
 use Rattle.walk.proofs.ahead.delay.Goals as goal
