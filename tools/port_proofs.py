@@ -86,6 +86,13 @@ class Function:
         for (old, new), asked in zip(entry["needs"], entry["asked_at"]):
             self.need.setdefault(norm(old), (new, asked[1]))
 
+    def asked(self, need):
+        """The clauses that an answer has to prove, where they are several; they are listed by the goal's old name."""
+        for old, new in self.entry["needs"]:
+            if new == need:
+                return self.entry["asked"].get(old) or self.entry["asked"].get(new)
+        return None
+
     def chain(self, place):
         while place:
             yield place
@@ -214,6 +221,8 @@ class Resolver:
                         return ["type_inv", var] + rest[2:]
                 if rest[1:2] in (["taken"], ["left"]) and re.search(r"^(if|loop)-|-test$", step[1]) and re.search(r"^if|-test$", step[0]):
                     return [step[1], {"taken": "true", "left": "false"}[rest[1]]] + rest[2:]
+                if rest[1:2] == ["inv"] and step[1].startswith("loop"):
+                    return [step[1], "invariant"] + rest[2:]
                 return [step[1]] + self.call(rest[1:], i)
         self.said.append(f"no step {rest[0]} at {here} in {whole}")
         return rest
@@ -511,7 +520,7 @@ def convert(path, entry, crate, func):
                 m = re.match(re.escape(new_name) + r"(?![\w'-])(?:[^=]|=(?!\s))*=(?=\s)", e)
                 lhs, rest = (m.group(), e[m.end():]) if m else ("", e)
                 rest = local_names(whole_clauses(in_helpers(res.turn(rest, env, new_name if name in renamed else None))), renamed)
-                clauses = fn.entry["asked"].get(new_name) if name in renamed else None
+                clauses = fn.asked(new_name) if name in renamed else None
                 turned.append(lhs + (by_clause(rest, clauses) if clauses else rest))
             eqs = turned
             out.append(
@@ -527,7 +536,7 @@ def convert(path, entry, crate, func):
             if params[1:] and not re.search(r"(?<![\w'])" + re.escape(params[1]) + r"(?![\w'])", rest):
                 params = params[:1]
             rest = local_names(whole_clauses(in_helpers(res.turn(rest, {params[0]: (params[0], place)}, new))), renamed)
-            clauses = fn.entry["asked"].get(new)
+            clauses = fn.asked(new)
             if clauses:
                 rest = by_clause(rest, clauses)
             out.append(f"pub {new} : goal.{new}\n{new} {' '.join(params)} = {rest}")

@@ -1,5 +1,4 @@
 -- `network::working::working_links` meets its contract: the first links, less the failed ones, less those at a failed node. Assumes nothing.
-use borrow.Author.Rules.{rules}
 use mathlib.Core.Path.{ap, ◌∙◌}
 use mathlib.Core.Bool.{Bool, not, ◌&&◌}
 use native.Mathlib.Omega.{arith}
@@ -8,15 +7,14 @@ use Rattle.network.specs.Table.{at_nodes}
 use Rattle.network.specs.Code.{outage}
 use Rattle.network.proofs.Words.{joined_by_lem}
 use Rattle.network.proofs.NodeLinks.{working-are}
-use Rattle.network.proofs.working.working_links.Statement.{statement}
-use Rattle.network.proofs.working.working_links.Tie as tie
+use Rattle.network.proofs.working.working_links.Goals as goal
 
-returns : tie.Need-returns
+pub returns : goal.returns
 returns c = λ n bytes held made.
-    let initial = c.before.before.before.first-links in
-    let a = c.before.before.before.before.args in
-    let low = c.before.before.less in
-    let high = c.before.less2 in
+    let initial = c.first_links-all in
+    let a = c.args in
+    let low = c.less-low in
+    let high = c.less-high in
     working-are n bytes a.count a.table.now held made (outage a.failed) c.apart_from.result.low c.apart_from.result.high (omega arith) (omega arith)
     (λ i h.
     c.apart_from.ensures i h
@@ -29,13 +27,3 @@ returns c = λ n bytes held made.
     high.ensures
     i
     ∙ ap (λ (x : Bool). x && not (bit (joined a.failed.low a.failed.high) i)) (initial.ensures i)))
-
-pub working-links-spec : {M : Type 1} → statement M
-working-links-spec =
-    tie.close
-    (tie.spec
-    (λ c κs. search rules)  -- first-links-requires
-    (λ c κs. search rules)  -- less-requires
-    (λ c κs. search rules)  -- less-requires-2
-    (λ c κs. search rules)  -- apart-from-requires
-    returns)
