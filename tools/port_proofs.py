@@ -17,7 +17,7 @@ PATH = re.compile(r"(?<![\w.'·-])(" + WORD + r"|\))((?:\." + WORD + r")+)")
 
 
 def norm(word):
-    return re.sub(r"^(overflow|nonzero)-", "", re.sub("[-_]+", "-", word))
+    return re.sub(r"_lem$", "", re.sub(r"^(overflow|nonzero)-", "", re.sub("[-_]+", "-", word.replace("_lem", ""))))
 
 
 def blocks(text):
@@ -99,7 +99,7 @@ class Function:
             place = self.parent.get(place)
 
 
-FIXED = {"args", "requires", "ranges", "well_formed", "type_inv", "lifetimes"}
+FIXED = {"args", "requires", "ranges", "well_formed", "type_inv", "lifetimes", "pre", "fits"}
 SIMPLE = WORD
 
 
@@ -177,8 +177,25 @@ class Resolver:
             if not changed:
                 break
 
+        steps = {}
+        for m in re.finditer(r"let (" + WORD + r") = (§?" + WORD + r")((?:\." + WORD + r")+) in\b", text):
+            parts = m.group(3)[1:].split(".")
+            if m.group(2) not in env:
+                continue
+            place = env[m.group(2)][1]
+            while parts and parts[0] == "before":
+                place, parts = fn.parent.get(place), parts[1:]
+            if len(parts) == 1 and parts[0] not in FIXED:
+                for p in fn.chain(place):
+                    step = fn.at.get(p)
+                    if step and step[0] and norm(step[0]) == norm(parts[0]):
+                        steps[m.group(1)] = fn.index[p]
+                        break
+
         def sub(m):
             root0, parts = m.group(1), m.group(2)[1:].split(".") if m.group(2) else []
+            if root0 in steps and root0 not in env and parts:
+                return ".".join([root0] + self.call(parts, steps[root0]))
             if root0 not in env:
                 return m.group()
             root, place = env[root0]
@@ -198,11 +215,15 @@ class Resolver:
                     return f"(goal.at.{need} {root}).{here}"
                 return f"§bare:{root}:{here}§"
             if rest[0] in FIXED:
+                rest = [{"pre": "requires", "fits": "ranges"}.get(rest[0], rest[0])] + rest[1:]
+                if rest[0] in ("args", "ranges") and len(rest) > 1:
+                    rest[1] = rest[1].replace("-", "_")
                 return ".".join([root] + self.clauses_of(rest, None))
             return ".".join([root] + self.step(rest, here, m.group(), env[root][1] if root in env else here))
 
         text = re.sub(r"(?<![\w.'·₀-₉-])(§?" + WORD + r")((?:\." + WORD + r")*)", sub, text)
-        text = re.sub(r"§bare:([^:]*):([^§]*)§", lambda m: m.group(), text)
+        # a test of `!b` says what b is
+        text = re.sub(r"(?<![\w'-])not-(?:true|false) _ (" + WORD + r"\.if-not-" + WORD + r"\.(?:true|false))", r"\1", text)
         return text
 
     def step(self, rest, here, whole, own):
@@ -231,13 +252,15 @@ class Resolver:
         """The fields of a call: its clauses and what it leaves in lent memory by their names."""
         entry = self.fn.entry
         callee = entry["places"][i][3]
-        if rest[:1] == ["new"] and callee in entry["params"] and len(rest) > 1 and rest[1] in "01":
+        if rest[:1] == ["type-inv"]:
+            rest = ["type_inv"] + rest[1:]
+        if rest[:1] in (["new"], ["auto"]) and callee in entry["params"] and len(rest) > 1 and rest[1] in "01":
             k = 1
             while k < len(rest) and rest[k] == "1":
                 k += 1
             params = entry["params"][callee]
             if k - 1 < len(params):
-                return ["new", params[k - 1]] + rest[k + 1:]
+                return [rest[0], params[k - 1]] + rest[k + 1:]
         if rest[:1] == ["ensures"] and entry["clauses"][i]:
             return self.clauses_of(rest, entry["clauses"][i])
         return rest
@@ -342,6 +365,13 @@ def by_clause(text, clauses):
     """An answer to several clauses, as a record of them: (a, (b, c)) -> record { first = a; second = b; third = c }."""
     at = final_of(text)
     final, given = text[at:].strip(), []
+    if final.startswith("absurd"):
+        return text
+    m = re.match(r"((?:rw|simp) )(?=\S)", final)
+    if m:
+        args = split_args(final[m.end():])
+        if len(args) == 2 and parts_of(args[1]):
+            return text[:at] + " " + m.group(1) + args[0] + " (" + by_clause(args[1], clauses).strip() + ")"
     rest = final
     while len(given) < len(clauses) - 1:
         parts = parts_of(rest)
@@ -394,7 +424,7 @@ def convert(path, entry, crate, func):
     close = [d for d in items if d[0] == "def" and any("tie.close" in b for b in d[6])]
     if not close:
         return None, ["by hand"]
-    body = "\n".join(close[0][6])
+    body = re.sub(r"(?m)\s+--.*$", "", "\n".join(close[0][6]))
     m = re.search(r"tie\.spec(.*)\)\s*$", body, re.S)
     given = split_args(m.group(1)) if m else []
     defs = {d[3]: d for d in items if d[0] == "def" and d is not close[0]}
@@ -436,7 +466,7 @@ def convert(path, entry, crate, func):
         if not m or norm(m.group(2)) not in fn.place:
             continue
         r = re.search(r"→ tie\.(" + WORD + r")( invariant-\S+ decreases-\S+)?$", d[4], re.S)
-        first = re.match(re.escape(name) + r" (" + WORD + r")((?: " + WORD + r")*) =", d[6][0]) if d[6] else None
+        first = re.match(re.escape(name) + r" (" + WORD + r")((?: " + WORD + r")*?) =", d[6][0]) if d[6] else None
         helpers[name] = {
             "place": fn.place[norm(m.group(2))][1],
             "param": first.group(1) if first else "c",
@@ -485,7 +515,7 @@ def convert(path, entry, crate, func):
             eqs = list(eqs)
             if name in renamed:
                 new_name = renamed[name]
-                first = re.match(re.escape(name) + r"((?: " + WORD + r")*) =", eqs[0])
+                first = re.match(re.escape(name) + r"((?: " + WORD + r")*?) =", eqs[0])
                 params = first.group(1).split() if first else []
                 rest = eqs[0][first.end():] if first else ""
                 if params[1:] and not re.search(r"(?<![\w'])" + re.escape(params[1]) + r"(?![\w'])", rest):
@@ -567,7 +597,7 @@ def write_invariants(folder, head, uses, invs, fn, base, said):
             out.append("\n".join(comment + eqs))
             continue
         new, live, changed = found
-        m = re.match(re.escape(name) + r"((?:\s+" + WORD + r")*)\s+=(?=\s)", eqs[0])
+        m = re.match(re.escape(name) + r"((?:\s+" + WORD + r")*?)\s+=(?=\s)", eqs[0])
         params = m.group(1).split()
         values = [f"l.initial.{v}" if c else f"l.{v}" for v, c in zip(live, changed)] + [f"l.{v}" for v, c in zip(live, changed) if c]
         if len(params) != len(values):
@@ -581,7 +611,7 @@ def write_invariants(folder, head, uses, invs, fn, base, said):
 
 
 def local_vars(text, renamed):
-    pattern = re.compile(r"(?<![\w.'·₀-₉-])(" + "|".join(sorted(map(re.escape, renamed), key=len, reverse=True)) + r")(?![\w'·₀-₉-])")
+    pattern = re.compile(r"(?<![\w.'·₀-₉-])(" + "|".join(sorted(map(re.escape, renamed), key=len, reverse=True)) + r")(?![\w'·₀-₉-])(?! = )")
     bound = set(re.findall(r"λ \(?(" + WORD + r")", text)) | set(re.findall(r"\((" + WORD + r") :", text))
     return pattern.sub(lambda m: m.group() if m.group(1) in bound else renamed[m.group(1)], text)
 

@@ -14,7 +14,7 @@ use Rattle.walk.specs.Scenario.{Scenario}
 use Rattle.plan.specs.Held.{Probabilities}
 use Rattle.sets.specs.Sets.{digit}
 use Rattle.walk.specs.Ends.{End, dropped, relevant, ends, both_sides, sum_ends, weighed, scenarios}
-use Rattle.walk.proofs.EndsLaws.{sum_ends-both, scenarios-both, first_ends}
+use Rattle.walk.proofs.EndsLaws.{sum_ends-both, scenarios-both, first_ends_lem}
 use Rattle.walk.specs.Member.{among}
 use Rattle.walk.proofs.MemberLaws.{among-works, among-fails}
 use Rattle.sums.specs.Exact.{exact_sum, scale}
@@ -94,7 +94,7 @@ module _ (t : ℕ) where
   pub lower-bound : (k m : ℕ) (events : List Event) (w : Scenario → ℕ)
       → weighed w (take k (ends t m events)) * scale (length events) ≤ m * exact_sum events w
   lower-bound =
-      first_ends
+      first_ends_lem
       t
       (λ m events list. (w : Scenario → ℕ) → weighed w list * scale (length events) ≤ m * exact_sum events w)
       (λ m events w. omega arith)
@@ -111,7 +111,7 @@ module _ (t : ℕ) where
   -- law: from above, for any weight
   pub upper-bound : (k m : ℕ) (events : List Event) → Probabilities events → (w : Scenario → ℕ) → UpperSide m events (take k (ends t m events)) w
   upper-bound =
-      first_ends
+      first_ends_lem
       t
       (λ m events list. Probabilities events → (w : Scenario → ℕ) → UpperSide m events list w)
       (λ m events p w. above-none m events [] w (seen_none events w))

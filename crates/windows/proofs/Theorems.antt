@@ -56,6 +56,7 @@ module _ (part : Outage → ℕ) (nothing : part intact ≡ 0) (both : (a b : Ou
 
   -- what is named is out
   out_of : (w : Window) (list : List Window) → Memᴰ w list → holds w minute ≡ true → Out w.out → Out (out_at list minute)
+  out_of w [] x' h b = elim x' [ ]
   out_of w (x ∷ later) (Memᴰ.head e) h b =
       ap (λ (o : Outage). bit (part o) i) (out-held minute x later (ap (λ (v : Window). holds v minute) (sym e) ∙ h))
       ∙ beside-bit (out_at later minute) x.out
