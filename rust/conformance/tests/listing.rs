@@ -13,14 +13,14 @@ use plans::Rng;
 /// Holds the program to the account on one input, and gives the refusal's number.
 #[track_caller]
 fn expect(input: &[u8]) -> u32 {
-    let text = listing(input).expect("the program target/bin/listing runs");
+    let text = listing(input).expect("the program crates/listing/out/listing runs");
     assert_eq!(text, account::listing::listing(input));
     account::calls::check(input)
 }
 
 #[test]
 fn the_triangle() {
-    let text = listing(&layout(&triangle())).expect("the program target/bin/listing runs");
+    let text = listing(&layout(&triangle())).expect("the program crates/listing/out/listing runs");
     let expected = "3 3 3 4 1 999999999999999996\n0 1 0 4\n0 2 0 4\n1 2 0 4\n";
     assert_eq!(text, expected);
 }
@@ -68,7 +68,7 @@ fn the_longest_plan_and_its_last_count() {
     expect(&bytes);
     for (more, refusal) in [(0, 1), (1, 1), (2, 10), (1_000, 10)] {
         let text = listing(&longest_with_last_count_255(more));
-        let text = text.expect("the program target/bin/listing runs");
+        let text = text.expect("the program crates/listing/out/listing runs");
         assert_eq!(text, format!("refused {refusal}\n"));
     }
 }
