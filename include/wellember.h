@@ -1,5 +1,5 @@
 /* Wellember for C: the check of a plan file, and the bounds of one pair of nodes. The functions stand in libwellember.a, which
- * `rt staticlib wellember` writes for x86-64 Linux; crates/wellember states and proves what is promised here.
+ * `rt lib` in crates/wellember writes to out/ there, for x86-64 Linux; crates/wellember states and proves what is promised here.
  *
  * The caller sees to it that each pointer is valid for its length (with length 0 it may be null), that `plan` and `out` do not overlap,
  * and that no other thread writes to either, or reads `out`, during the call. Nothing is kept after the call, and nothing else is touched:

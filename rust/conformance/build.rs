@@ -1,4 +1,4 @@
-//! Links the archives of proved code, which `rt staticlib NAME` writes under the repository's target/. The script `bench` gives
+//! Links the archives of proved code, which `rt lib` in crates/NAME writes to out/libNAME.a there. The script `bench` gives
 //! the folder of a copy of the probe's archive by the variable `WELLEMBER_PROBE`.
 
 use std::path::{Path, PathBuf};
@@ -7,10 +7,10 @@ fn main() {
     let probe = archive("probe");
     assert!(
         probe.exists(),
-        "libprobe.a is missing: run `rt staticlib probe` at the root of the repository"
+        "libprobe.a is missing: run `rt lib` in crates/probe"
     );
     println!("cargo:rerun-if-env-changed=WELLEMBER_PROBE");
-    let from = std::env::var("WELLEMBER_PROBE").map_or_else(|_| folder(), PathBuf::from);
+    let from = std::env::var("WELLEMBER_PROBE").map_or_else(|_| folder("probe"), PathBuf::from);
     println!("cargo:rustc-link-search=native={}", from.display());
     println!("cargo:rustc-link-lib=static=probe");
     // Only the tests use the archive for C.
@@ -20,12 +20,12 @@ fn main() {
     );
 }
 
-fn folder() -> PathBuf {
-    Path::new(env!("CARGO_MANIFEST_DIR")).join("../../target/staticlib")
+fn folder(name: &str) -> PathBuf {
+    Path::new(env!("CARGO_MANIFEST_DIR")).join(format!("../../crates/{name}/out"))
 }
 
 fn archive(name: &str) -> PathBuf {
-    let archive = folder().join(format!("lib{name}.a"));
+    let archive = folder(name).join(format!("lib{name}.a"));
     println!("cargo:rerun-if-changed={}", archive.display());
     archive
 }

@@ -6,10 +6,10 @@ use std::process::{Command, Stdio};
 
 /// The program.
 pub fn program() -> PathBuf {
-    Path::new(env!("CARGO_MANIFEST_DIR")).join("../../target/bin/listing")
+    Path::new(env!("CARGO_MANIFEST_DIR")).join("../../crates/listing/out/listing")
 }
 
-/// What target/bin/listing writes for an input, with a stack of one megabyte.
+/// What the program writes for an input, with a stack of one megabyte.
 pub fn listing(input: &[u8]) -> std::io::Result<String> {
     let mut child = Command::new("sh")
         .args(["-c", "ulimit -s 1024 && exec \"$0\""])
