@@ -6,3 +6,4 @@ pub mod WalkLaws
 pub mod Filled
 pub mod Outcome
 pub mod Theorems
+pub mod Examples

@@ -1,18 +1,18 @@
--- Computed examples: the order of the refusals, the test of a list of thresholds, blocks and places, and a plan with three thresholds.
+-- Computed examples: the test of a list of thresholds, blocks and places, and a plan with three thresholds. The order of the refusals is in
+-- `proofs/Examples.antt`.
 -- Assumes nothing.
-use Rattle.std.specs.Prelude.{◌≡◌, refl, List, [], ◌∷◌, ℕ, ◌+◌, ◌*◌, length, replicate}
-use Rattle.mass.specs.Refusal.{first}
+use Rattle.std.specs.Prelude.{◌≡◌, refl, List, [], ◌∷◌, ℕ, ◌+◌, ◌*◌, replicate}
 use Rattle.mass.specs.Split.{whole}
 use Rattle.sets.specs.Sets.{bit, any_below}
 use Rattle.plan.specs.Lists.{links_of, events_of}
-use Rattle.plan.specs.LentLists.{link_list_refusal, event_list_refusal, lists_number, plan_of_lists}
+use Rattle.plan.specs.LentLists.{plan_of_lists}
 use Rattle.network.specs.Outage.{intact, union_of}
 use Rattle.network.specs.Topology.{node_works, link_works, joins, adjacent}
 use Rattle.topology.specs.Paths.{via, disconnected}
 use Rattle.walk.specs.Ends.{ends}
-use Rattle.pairs.specs.Pairs.{row, rows, table, start}
+use Rattle.pairs.specs.Pairs.{row, rows, table}
 use Rattle.bounds.specs.Bounds.{lower_list, upper_list}
-use Rattle.thresholds.specs.Thresholds.{lent_at, plan_at, thresholds_test, thresholds_number, blocks, places, answer_of}
+use Rattle.thresholds.specs.Thresholds.{plan_at, thresholds_test, blocks, places, answer_of}
 use Rattle.thresholds.specs.declared.CommonHeader.{CommonHeader}
 
 -- two nodes, the link 0-1 and an event of 1/10 on it, with a cap
@@ -21,19 +21,6 @@ header cap = record { nodes = 2; links = 1; events = 1; cap = cap }
 
 abbrev event : List ℕ
 event = 100000000 ∷ 0 ∷ 1 ∷ 0 ∷ []
-
-abbrev number : ℕ → List ℕ → List ℕ → List ℕ → List ℕ → List ℕ → ℕ
-number cap links events list lower upper = thresholds_number (lent_at (header cap) links events 1) list (length lower) (length upper)
-
--- each test decides over those after it: the cap, a short list of links, a link, an event, the thresholds, then either list of bounds; there
--- is no 5
-example-order : (number 0 [] [] [] [] [] ≡ 6) × (number 9 [] [] [] [] [] ≡ 12) × (number 9 (1 ∷ 0 ∷ []) event [] [] [] ≡ 7)
-    × (number 9 (0 ∷ 1 ∷ []) (2000000000 ∷ 0 ∷ 1 ∷ 0 ∷ []) [] [] [] ≡ 8) × (number 9 (0 ∷ 1 ∷ []) event (5 ∷ 5 ∷ []) [] [] ≡ 23)
-    × (number 9 (0 ∷ 1 ∷ []) event (0 ∷ []) [] [] ≡ 23) × (number 9 (0 ∷ 1 ∷ []) event (5 ∷ 3 ∷ []) (7 ∷ []) (7 ∷ 7 ∷ []) ≡ 12)
-    × (number 9 (0 ∷ 1 ∷ []) event (5 ∷ 3 ∷ []) (7 ∷ 7 ∷ []) (7 ∷ []) ≡ 12)
-    × (number 9 (0 ∷ 1 ∷ []) event (5 ∷ 3 ∷ []) (7 ∷ 7 ∷ []) (7 ∷ 7 ∷ []) ≡ 0)
-unfolding thresholds_number lists_number link_list_refusal event_list_refusal links_of events_of first start
-example-order = (refl, refl, refl, refl, refl, refl, refl, refl, refl)
 
 -- 16 thresholds, and one more
 abbrev sixteen : List ℕ

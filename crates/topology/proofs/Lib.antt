@@ -11,3 +11,4 @@ pub mod Chains
 pub mod Connection
 pub mod Laws
 pub mod Theorems
+pub mod Examples

@@ -2,4 +2,3 @@
 pub mod Paths
 pub mod RowPaths
 pub mod Rounds
-pub mod Examples

@@ -9,3 +9,4 @@ pub mod Theorems
 pub mod ListLaws
 pub mod RoomLaws
 pub mod ListBounds
+pub mod Examples

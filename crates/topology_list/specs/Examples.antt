@@ -32,14 +32,10 @@ up = record { nodes = 3; low = 1; high = 0 }
 abbrev down : Topology
 down = record { nodes = 3; low = 0; high = 0 }
 
--- four scenarios, of which three have the same topology; room for one entry is too little, and what the first gave stays
+-- four scenarios, of which three have the same topology. Room for one entry is too little: `proofs/Examples.antt`
 example-added : topology_list_of intact 2 (example 1) ≡ topology_list (entry up 250000000000000000 ∷ entry down 750000000000000000 ∷ []) 0
 unfolding topology_list_of ends topology_in set_where node_works link_works union_of bit same_topology
 example-added = refl
-
-example-full : topology_list_of intact 1 (example 1) ≡ topology_list (entry up 250000000000000000 ∷ []) 15
-unfolding topology_list_of ends topology_in set_where node_works link_works union_of bit same_topology
-example-full = refl
 
 -- nothing examined: no entry, in no room
 example-none : topology_list_of intact 0 (example 250000000000000001) ≡ topology_list [] 0

@@ -1,9 +1,9 @@
--- Computed examples of windows: touching and overlapping ones, the edges of the week, and each refusal.
+-- Computed examples of windows: touching and overlapping ones, and the edges of the week. Those of each refusal stand in
+-- `proofs/Examples.antt`.
 -- Assumes nothing.
 use Rattle.std.specs.Prelude.{◌≡◌, refl, List, [], ◌∷◌, ℕ}
-use Rattle.mass.specs.Refusal.{first}
 use Rattle.network.specs.Outage.{Outage, intact}
-use Rattle.windows.specs.Windows.{windows_of, out_at, taken_out, work_refusal}
+use Rattle.windows.specs.Windows.{windows_of, out_at, taken_out}
 
 abbrev out : ℕ → ℕ → Outage
 out nodes links = record { nodes = nodes; links = links }
@@ -24,16 +24,3 @@ example-out = (refl, refl, refl, refl, refl, refl)
 example-week : (taken_out (0 ∷ 10080 ∷ 1 ∷ 0 ∷ 0 ∷ []) 0 ≡ out 1 0) × (taken_out (0 ∷ 10080 ∷ 1 ∷ 0 ∷ 0 ∷ []) 10079 ≡ out 1 0)
 unfolding windows_of out_at
 example-week = (refl, refl)
-
--- on two nodes and one link: accepted, and an empty list; a tail of one word and of four; start = end; an end past the week; a bit at the
--- node count and at the link count; a bad window before a bad minute; a bad minute, also where the list is empty
-abbrev refused : List ℕ → ℕ → ℕ
-refused words minute = work_refusal 2 1 words minute
-
-example-refused : (refused (0 ∷ 10080 ∷ 3 ∷ 1 ∷ 0 ∷ []) 10079 ≡ 0) × (refused [] 0 ≡ 0)
-    × (refused (0 ∷ []) 10080 ≡ 12) × (refused (0 ∷ 1 ∷ 0 ∷ 0 ∷ 0 ∷ 0 ∷ 0 ∷ 0 ∷ 0 ∷ []) 0 ≡ 12)
-    × (refused (7 ∷ 7 ∷ 0 ∷ 0 ∷ 0 ∷ []) 0 ≡ 21) × (refused (0 ∷ 10081 ∷ 0 ∷ 0 ∷ 0 ∷ []) 0 ≡ 21)
-    × (refused (0 ∷ 1 ∷ 4 ∷ 0 ∷ 0 ∷ []) 0 ≡ 21) × (refused (0 ∷ 1 ∷ 0 ∷ 2 ∷ 0 ∷ []) 0 ≡ 21)
-    × (refused (0 ∷ 1 ∷ 3 ∷ 1 ∷ 0 ∷ 7 ∷ 7 ∷ 0 ∷ 0 ∷ 0 ∷ []) 10080 ≡ 21) × (refused [] 10080 ≡ 22)
-unfolding work_refusal windows_of first
-example-refused = (refl, refl, refl, refl, refl, refl, refl, refl, refl, refl)

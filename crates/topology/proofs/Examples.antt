@@ -1,4 +1,5 @@
--- Small networks whose answer is known, computed from the definitions.
+-- Small networks whose answer is known, computed from the definitions. They stand here, since an edit of a definition would be refused by them
+-- before it is by the contracts.
 -- Assumes nothing.
 use Rattle.std.specs.Prelude.{◌≡◌, refl, Bool, true, false, List, [], ◌∷◌, ℕ}
 use Rattle.sets.specs.Sets.{bit, set_where, any_below, first_below}
@@ -16,7 +17,7 @@ triangle = record { low = 0; high = 1 } ∷ record { low = 0; high = 2 } ∷ rec
 cut : List Link → ℕ → ℕ → ℕ → ℕ → Bool
 cut links nodes failed v w = disconnected (network_of 3 links (record { nodes = nodes; links = failed })) v w
 
-answers : List Bool
+pub answers : List Bool
 answers =
     -- nothing failed
     cut triangle 0 0 0 1
@@ -34,7 +35,7 @@ answers =
     ∷ cut [] 0 0 0 1
     ∷ []
 
-example-answers : answers ≡ false ∷ false ∷ true ∷ false ∷ true ∷ true ∷ false ∷ true ∷ []
+pub example-answers : answers ≡ false ∷ false ∷ true ∷ false ∷ true ∷ true ∷ false ∷ true ∷ []
 unfolding answers cut triangle disconnected via adjacent joins link_works node_works any_below bit
 example-answers = refl
 
@@ -52,7 +53,7 @@ reaches nodes failed v = reach_of (network_of 3 line (record { nodes = nodes; li
 abbrev reached : ℕ → ℕ → Reach
 reached set rounds = record { set = set; rounds = rounds }
 
-rounds : List Reach
+pub rounds : List Reach
 rounds =
     -- nothing failed: an end of the line, its middle, the other end
     reaches 0 0 0
@@ -67,6 +68,6 @@ rounds =
     ∷ reaches 0 0 5
     ∷ []
 
-example-rounds : rounds ≡ reached 7 3 ∷ reached 7 2 ∷ reached 7 3 ∷ reached 1 1 ∷ reached 0 1 ∷ reached 6 2 ∷ reached 0 1 ∷ []
+pub example-rounds : rounds ≡ reached 7 3 ∷ reached 7 2 ∷ reached 7 3 ∷ reached 1 1 ∷ reached 0 1 ∷ reached 6 2 ∷ reached 0 1 ∷ []
 unfolding rounds reaches line reach_of last_round adds_after in_round first_below set_where adjacent joins link_works node_works any_below bit
 example-rounds = refl
