@@ -8,16 +8,18 @@ mod headers;
 mod past_header;
 mod splits;
 
-fn main() {
-    splits::splits();
-    splits::refused_splits();
-    headers::header();
-    headers::counts();
-    headers::threshold_and_cap();
-    past_header::links();
-    past_header::events();
-    past_header::members();
-    past_header::rising_members();
-    past_header::lengths();
-    io::write_all(1, b"trials ended\n");
+use std::io;
+
+fn main(rt: HostRuntime) -> io::Result<()> {
+    splits::splits(&rt)?;
+    splits::refused_splits(&rt)?;
+    headers::header(&rt)?;
+    headers::counts(&rt)?;
+    headers::threshold_and_cap(&rt)?;
+    past_header::links(&rt)?;
+    past_header::events(&rt)?;
+    past_header::members(&rt)?;
+    past_header::rising_members(&rt)?;
+    past_header::lengths(&rt)?;
+    println!(rt; "trials ended")
 }

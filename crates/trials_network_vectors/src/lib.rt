@@ -1,6 +1,6 @@
 // What the test programs of networks share: links in an array as in a plan, two bytes each, what has failed, whether a plan may have
 // such links, and holding what the nodes of a network reach to what it should be.
-// Assumes the contract of C's `write`, with which differences are printed.
+// Differences are printed on standard output; where that fails, the error is returned.
 #![tactic(auto)]
 
 mod reach;

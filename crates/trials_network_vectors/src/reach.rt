@@ -3,6 +3,7 @@ ghost use Rattle.plan.specs.Held.{LinksHeld};
 
 use crate::held;
 use network::Failed;
+use std::io;
 use trials_vectors::{same_at, same_part};
 
 // The set that is expected at node v: the list starts at node `first`, and all others have the empty set.
@@ -30,6 +31,7 @@ fn rounds_at(want: &[u8], first: usize, v: usize) -> u64 {
 // Holds what each node reaches to a list of sets, and its number of rounds to a list of numbers. Both start at node `first`; all others
 // reach nothing, in one round.
 pub fn parts(
+    rt: &impl Print,
     label: &[u8],
     n: usize,
     links: &[u8; 256],
@@ -38,15 +40,17 @@ pub fn parts(
     first: usize,
     want: &[u64],
     rounds: &[u8],
-) {
+) -> io::Result<()> {
     if held(n, links, count) {
-        compared(label, n, links, count, failed, first, want, rounds);
+        compared(rt, label, n, links, count, failed, first, want, rounds)?;
     } else {
-        same_part(label, b"valid", 0, 1);
+        same_part(rt, label, b"valid", 0, 1)?;
     }
+    Ok(())
 }
 
 fn compared(
+    rt: &impl Print,
     label: &[u8],
     n: usize,
     links: &[u8; 256],
@@ -55,15 +59,14 @@ fn compared(
     first: usize,
     want: &[u64],
     rounds: &[u8],
-)
+) -> io::Result<()>
     requires { LinksHeld n links.now count }
 {
     let table = network::links_at(n, links, count);
-    let mut v = 0;
-    while v < 64 {
+    for v in 0..64 {
         let reach = topology::reach_from(n, failed, links, count, &table, v);
-        same_at(label, v, reach.set, set_at(want, first, v));
-        same_at(label, v, reach.rounds, rounds_at(rounds, first, v));
-        v += 1;
+        same_at(rt, label, v, reach.set, set_at(want, first, v))?;
+        same_at(rt, label, v, reach.rounds, rounds_at(rounds, first, v))?;
     }
+    Ok(())
 }

@@ -7,20 +7,22 @@ mod networks;
 mod pairs;
 mod working;
 
-fn main() {
-    networks::triangle();
-    networks::end_nodes();
-    networks::parallel();
-    networks::without_links();
-    networks::ring_nodes();
-    networks::top_bits();
-    networks::word_ends();
-    networks::outages();
-    disconnected::end_node_pairs();
-    disconnected::parallel_pairs();
-    disconnected::parallel_words();
-    disconnected::past_the_nodes();
-    disconnected::islands();
-    disconnected::word_end_pairs();
-    io::write_all(1, b"trials ended\n");
+use std::io;
+
+fn main(rt: HostRuntime) -> io::Result<()> {
+    networks::triangle(&rt)?;
+    networks::end_nodes(&rt)?;
+    networks::parallel(&rt)?;
+    networks::without_links(&rt)?;
+    networks::ring_nodes(&rt)?;
+    networks::top_bits(&rt)?;
+    networks::word_ends(&rt)?;
+    networks::outages(&rt)?;
+    disconnected::end_node_pairs(&rt)?;
+    disconnected::parallel_pairs(&rt)?;
+    disconnected::parallel_words(&rt)?;
+    disconnected::past_the_nodes(&rt)?;
+    disconnected::islands(&rt)?;
+    disconnected::word_end_pairs(&rt)?;
+    println!(rt; "trials ended")
 }

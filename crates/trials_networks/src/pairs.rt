@@ -3,11 +3,13 @@ ghost use Rattle.std.specs.Prelude.{◌<◌};
 ghost use Rattle.plan.specs.Held.{LinksHeld};
 
 use network::Failed;
+use std::io;
 use trials_network_vectors::held;
 use trials_vectors::same_part;
 
 // Holds the disconnected test of a pair to 1, disconnected, or 0.
 pub fn pair(
+    rt: &impl Print,
     label: &[u8],
     n: usize,
     links: &[u8; 256],
@@ -16,17 +18,19 @@ pub fn pair(
     v: usize,
     w: usize,
     want: u64,
-)
+) -> io::Result<()>
     requires { (v < 64) × (w < 64) }
 {
     if held(n, links, count) {
-        tested(label, n, links, count, failed, v, w, want);
+        tested(rt, label, n, links, count, failed, v, w, want)?;
     } else {
-        same_part(label, b"valid", 0, 1);
+        same_part(rt, label, b"valid", 0, 1)?;
     }
+    Ok(())
 }
 
 fn tested(
+    rt: &impl Print,
     label: &[u8],
     n: usize,
     links: &[u8; 256],
@@ -35,11 +39,11 @@ fn tested(
     v: usize,
     w: usize,
     want: u64,
-)
+) -> io::Result<()>
     requires links_held { LinksHeld n links.now count }
     requires v_bound { (v < 64) × (w < 64) }
 {
     let table = network::links_at(n, links, count);
     let cut = topology::is_disconnected(n, failed, links, count, &table, v, w);
-    same_part(label, b"disconnected", cut as u64, want);
+    same_part(rt, label, b"disconnected", cut as u64, want)
 }

@@ -11,29 +11,31 @@ mod splits;
 mod states;
 mod turns;
 
-fn main() {
-    lists::lists();
-    splits::all_splits();
-    quotas::power_up();
-    quotas::dry();
-    quotas::enough();
-    quotas::empty();
-    quotas::smallest();
-    turns::turns();
-    turns::ended_between();
-    states::right();
-    states::counts();
-    states::header_numbers();
-    states::places();
-    states::tallies();
-    states::masses();
-    looks::own_sum();
-    looks::other_sums();
-    looks::first_pair();
-    looks::masses();
-    looks::many_nodes();
-    looks::most_nodes();
-    looks::nodes_of_a_plan();
-    looks::other_fields();
-    io::write_all(1, b"trials ended\n");
+use std::io;
+
+fn main(rt: HostRuntime) -> io::Result<()> {
+    lists::lists(&rt)?;
+    splits::all_splits(&rt)?;
+    quotas::power_up(&rt)?;
+    quotas::dry(&rt)?;
+    quotas::enough(&rt)?;
+    quotas::empty(&rt)?;
+    quotas::smallest(&rt)?;
+    turns::turns(&rt)?;
+    turns::ended_between(&rt)?;
+    states::right(&rt)?;
+    states::counts(&rt)?;
+    states::header_numbers(&rt)?;
+    states::places(&rt)?;
+    states::tallies(&rt)?;
+    states::masses(&rt)?;
+    looks::own_sum(&rt)?;
+    looks::other_sums(&rt)?;
+    looks::first_pair(&rt)?;
+    looks::masses(&rt)?;
+    looks::many_nodes(&rt)?;
+    looks::most_nodes(&rt)?;
+    looks::nodes_of_a_plan(&rt)?;
+    looks::other_fields(&rt)?;
+    println!(rt; "trials ended")
 }

@@ -1,66 +1,98 @@
 // Every split of the walk of the plan of `trials_panel_vectors` into two and into three parts. After each part all looks are held to the table of
 // that plan.
 use panel::Quota;
+use std::io;
 use trials_panel_vectors::{FULL, begun, left_after, less, went_on};
 
 // Every split, at a cap above the number of ends, at it, and below it.
-pub fn all_splits() {
+pub fn all_splits(rt: &impl Print) -> io::Result<()> {
     // a walk has as many ends as there are, or as its cap allows
-    splits(b"cap 100", 100, 14);
-    splits(b"cap 14", 14, 14);
-    splits(b"cap 9", 9, 9);
+    splits(rt, b"cap 100", 100, 14)?;
+    splits(rt, b"cap 14", 14, 14)?;
+    splits(rt, b"cap 9", 9, 9)
 }
 
 // The walk of n ends at once, in two parts, the first of them of 0 to n ends, and in three.
-fn splits(label: &[u8], cap: u64, n: u64) {
-    at_once(label, cap, n);
-    let mut a = 0;
-    while a < 15 {
+fn splits(rt: &impl Print, label: &[u8], cap: u64, n: u64) -> io::Result<()> {
+    at_once(rt, label, cap, n)?;
+    for a in 0..15 {
         if a <= n {
-            two(label, cap, n, a);
-            seconds(label, cap, n, a);
+            two(rt, label, cap, n, a)?;
+            seconds(rt, label, cap, n, a)?;
         }
-        a += 1;
     }
+    Ok(())
 }
 
 // The second of three parts has 0 ends or more, up to what the first leaves.
-fn seconds(label: &[u8], cap: u64, n: u64, a: u64) {
-    let mut b = 0;
-    while b < 15 {
+fn seconds(rt: &impl Print, label: &[u8], cap: u64, n: u64, a: u64) -> io::Result<()> {
+    for b in 0..15 {
         if b <= less(n, a) {
-            three(label, cap, n, a, b);
+            three(rt, label, cap, n, a, b)?;
         }
-        b += 1;
     }
+    Ok(())
 }
 
 // One go-on for all n ends.
-fn at_once(label: &[u8], cap: u64, n: u64) {
-    let w = begun(cap);
-    went_on(label, w, Quota { left: FULL }, n, 0, n, n, left_after(n));
+fn at_once(rt: &impl Print, label: &[u8], cap: u64, n: u64) -> io::Result<()> {
+    let w = begun(rt, cap)?;
+    went_on(
+        rt,
+        label,
+        w,
+        Quota { left: FULL },
+        n,
+        0,
+        n,
+        n,
+        left_after(n),
+    )?;
+    Ok(())
 }
 
 // One for a ends, then one for the others.
-fn two(label: &[u8], cap: u64, n: u64, a: u64) {
-    let w = begun(cap);
-    let first = went_on(label, w, Quota { left: FULL }, a, 0, a, a, left_after(a));
+fn two(rt: &impl Print, label: &[u8], cap: u64, n: u64, a: u64) -> io::Result<()> {
+    let w = begun(rt, cap)?;
+    let first = went_on(
+        rt,
+        label,
+        w,
+        Quota { left: FULL },
+        a,
+        0,
+        a,
+        a,
+        left_after(a),
+    )?;
     let w1 = first.walk;
     let left = first.quota;
     let rest = less(n, a);
-    went_on(label, w1, left, rest, 0, rest, n, left_after(n));
+    went_on(rt, label, w1, left, rest, 0, rest, n, left_after(n))?;
+    Ok(())
 }
 
 // One for a ends, one for b ends, then one for the others: n less what these leave is a and b together.
-fn three(label: &[u8], cap: u64, n: u64, a: u64, b: u64) {
-    let w = begun(cap);
+fn three(rt: &impl Print, label: &[u8], cap: u64, n: u64, a: u64, b: u64) -> io::Result<()> {
+    let w = begun(rt, cap)?;
     let rest = less(less(n, a), b);
     let both = less(n, rest);
-    let first = went_on(label, w, Quota { left: FULL }, a, 0, a, a, left_after(a));
+    let first = went_on(
+        rt,
+        label,
+        w,
+        Quota { left: FULL },
+        a,
+        0,
+        a,
+        a,
+        left_after(a),
+    )?;
     let w1 = first.walk;
     let left1 = first.quota;
-    let second = went_on(label, w1, left1, b, 0, b, both, left_after(both));
+    let second = went_on(rt, label, w1, left1, b, 0, b, both, left_after(both))?;
     let w2 = second.walk;
     let left2 = second.quota;
-    went_on(label, w2, left2, rest, 0, rest, n, left_after(n));
+    went_on(rt, label, w2, left2, rest, 0, rest, n, left_after(n))?;
+    Ok(())
 }

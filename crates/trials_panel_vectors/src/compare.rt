@@ -3,6 +3,7 @@ ghost use Rattle.std.specs.Prelude.{◌≡◌, ◌-◌};
 
 use bounds::{Paired, Totals};
 use panel::GoneOn;
+use std::io;
 use trials_vectors::same_part;
 use walk_state::Walk;
 
@@ -22,54 +23,95 @@ pub fn left_after(ends: u64) -> u64
 }
 
 // Prints the label, how many ends the walk should have reached, the part and both numbers where they differ.
-pub fn after(label: &[u8], r: u64, part: &[u8], got: u64, want: u64) {
+pub fn after(
+    rt: &impl Print,
+    label: &[u8],
+    r: u64,
+    part: &[u8],
+    got: u64,
+    want: u64,
+) -> io::Result<()> {
     if got != want {
-        io::write_all(1, label);
-        io::write_all(1, b", after ");
-        io::print_decimal(1, r);
-        same_part(b" ends", part, got, want);
+        rt.write_all(label)?;
+        print!(rt; ", after {r}")?;
+        same_part(rt, b" ends", part, got, want)?;
     }
+    Ok(())
 }
 
 // Holds what a look shows of a walk after r ends to count, complete and E.
-pub fn totals(label: &[u8], r: u64, t: Totals, count: u64, complete: u64, mass: u64) {
-    after(label, r, b"count", t.count, count);
-    after(label, r, b"complete", t.complete, complete);
-    after(label, r, b"E", t.mass, mass);
+pub fn totals(
+    rt: &impl Print,
+    label: &[u8],
+    r: u64,
+    t: Totals,
+    count: u64,
+    complete: u64,
+    mass: u64,
+) -> io::Result<()> {
+    after(rt, label, r, b"count", t.count, count)?;
+    after(rt, label, r, b"complete", t.complete, complete)?;
+    after(rt, label, r, b"E", t.mass, mass)
 }
 
 // Holds what a look shows of a pair after r ends to its number and its bounds.
-pub fn bounds(label: &[u8], r: u64, w: Walk, v: u64, x: u64, number: u64, lower: u64, upper: u64) {
+pub fn bounds(
+    rt: &impl Print,
+    label: &[u8],
+    r: u64,
+    w: Walk,
+    v: u64,
+    x: u64,
+    number: u64,
+    lower: u64,
+    upper: u64,
+) -> io::Result<()> {
     match panel::look_pair(w, v, x) {
         Paired::Refused(n) => {
-            pair_after(label, r, v, x, b"number", n as u64, number);
+            pair_after(rt, label, r, v, x, b"number", n as u64, number)?;
         }
         Paired::Done(b) => {
-            pair_after(label, r, v, x, b"number", 0, number);
-            pair_after(label, r, v, x, b"lower", b.lower, lower);
-            pair_after(label, r, v, x, b"upper", b.upper, upper);
+            pair_after(rt, label, r, v, x, b"number", 0, number)?;
+            pair_after(rt, label, r, v, x, b"lower", b.lower, lower)?;
+            pair_after(rt, label, r, v, x, b"upper", b.upper, upper)?;
         }
     }
+    Ok(())
 }
 
 // The same for a part of a pair's answer.
-fn pair_after(label: &[u8], r: u64, v: u64, x: u64, part: &[u8], got: u64, want: u64) {
+fn pair_after(
+    rt: &impl Print,
+    label: &[u8],
+    r: u64,
+    v: u64,
+    x: u64,
+    part: &[u8],
+    got: u64,
+    want: u64,
+) -> io::Result<()> {
     if got != want {
-        io::write_all(1, label);
-        io::write_all(1, b", pair ");
-        io::print_decimal(1, v);
-        io::write_all(1, b" ");
-        io::print_decimal(1, x);
-        after(b"", r, part, got, want);
+        rt.write_all(label)?;
+        print!(rt; ", pair {v} {x}")?;
+        after(rt, b"", r, part, got, want)?;
     }
+    Ok(())
 }
 
 // Holds the answer of a go-on to its number, the ends that it reached and what is left of the quota. The walk should have reached r ends.
-pub fn answered(label: &[u8], r: u64, g: GoneOn, number: u64, ends: u64, left: u64) {
+pub fn answered(
+    rt: &impl Print,
+    label: &[u8],
+    r: u64,
+    g: GoneOn,
+    number: u64,
+    ends: u64,
+    left: u64,
+) -> io::Result<()> {
     let quota = g.quota;
-    after(label, r, b"number", g.number as u64, number);
-    after(label, r, b"ends", g.reached, ends);
-    after(label, r, b"quota", quota.left, left);
+    after(rt, label, r, b"number", g.number as u64, number)?;
+    after(rt, label, r, b"ends", g.reached, ends)?;
+    after(rt, label, r, b"quota", quota.left, left)
 }
 
 // What is over: 0 where the second number is the larger one.

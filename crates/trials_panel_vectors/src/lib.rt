@@ -1,7 +1,7 @@
 // What the test programs of walks in steps share: document 02, request U4. Holding what a look shows, what a go-on answers, and a whole
 // walk, to what it should be.
 // The plan of `table` is worked out by hand.
-// Assumes the contract of C's `write`, with which differences are printed.
+// Differences are printed on standard output; where that fails, the error is returned.
 #![tactic(auto)]
 
 mod compare;

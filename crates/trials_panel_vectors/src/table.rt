@@ -28,12 +28,13 @@
 //   14  FFF      30               dropped
 //
 // The seven relevant ones have 252 + 63 + 84 + 108 + 168 + 56 + 72 = 803, the seven dropped ones 21 + 27 + 45 + 42 + 14 + 18 + 30 = 197.
-ghost use Rattle.std.specs.Prelude.{◌≡◌, get_or};
+ghost use Rattle.std.specs.Prelude.{◌≡◌, IfOk, get_or};
 ghost use Rattle.panel.specs.Calls.{WentOn};
 ghost use Rattle.trials_panel_vectors.specs.Table.{begun_with};
 
 use crate::compare::{after, answered, bounds, totals};
 use panel::{GoneOn, Quota};
+use std::io;
 use trials_vectors::{header, same};
 use walk_state::Walk;
 
@@ -41,8 +42,8 @@ use walk_state::Walk;
 const ENDS: u64 = 14;
 
 // The walk of this plan, begun, with a cap; a walk of zeros where the cap is refused.
-pub fn begun(cap: u64) -> Walk
-    ensures { result ≡ (begun_with «cap»).walk }
+pub fn begun(rt: &impl Print, cap: u64) -> io::Result<Walk>
+    ensures { IfOk result (λ w. w ≡ (begun_with «cap»).walk) }
 {
     let links = [0u8, 1, 0, 2, 1, 2];
     let events = [
@@ -65,8 +66,8 @@ pub fn begun(cap: u64) -> Walk
     ];
     let h = header(3, 3, 4, 56_000_000_000_000_000, cap);
     let answer = panel::begin(h, &links, &events);
-    same(b"the plan in the table", answer.number as u64, 0);
-    answer.walk
+    same(rt, b"the plan in the table", answer.number as u64, 0)?;
+    Ok(answer.walk)
 }
 
 // The byte at a position: 0 past the last one.
@@ -109,16 +110,36 @@ fn complete_at(r: u64) -> u64 {
 }
 
 // Holds the bounds of a pair to entry r of two columns.
-fn pair_shown(label: &[u8], w: Walk, r: u64, v: u64, x: u64, lower: &[u8], upper: &[u8]) {
-    bounds(label, r, w, v, x, 0, mass_at(lower, r), mass_at(upper, r));
+fn pair_shown(
+    rt: &impl Print,
+    label: &[u8],
+    w: Walk,
+    r: u64,
+    v: u64,
+    x: u64,
+    lower: &[u8],
+    upper: &[u8],
+) -> io::Result<()> {
+    bounds(
+        rt,
+        label,
+        r,
+        w,
+        v,
+        x,
+        0,
+        mass_at(lower, r),
+        mass_at(upper, r),
+    )
 }
 
 // Holds the bounds of the three pairs to the table, after r ends. Lower: 0-1 has 84 (end 3), 56 (end 10) and 72 (end 12); 0-2 has 63 (2),
 // 56 (10) and 72 (12); 1-2 has 63 (2), 84 (3) and 56 (10). Upper is 1,000 less the masses that leave the pair connected: of 0-1 these are
 // 252 (1), 63 (2), 108 (5) and 168 (8); of 0-2 they are 252 (1), 84 (3), 108 (5) and 168 (8); of 1-2 they are 252 (1), 108 (5), 168 (8) and
 // 72 (12).
-fn pairs_shown(label: &[u8], w: Walk, r: u64) {
+fn pairs_shown(rt: &impl Print, label: &[u8], w: Walk, r: u64) -> io::Result<()> {
     pair_shown(
+        rt,
         label,
         w,
         r,
@@ -126,8 +147,9 @@ fn pairs_shown(label: &[u8], w: Walk, r: u64) {
         1,
         b"0000 0000 0000 0084 0084 0084 0084 0084 0084 0084 0140 0140 0212 0212 0212",
         b"1000 0748 0685 0685 0685 0577 0577 0577 0409 0409 0409 0409 0409 0409 0409",
-    );
+    )?;
     pair_shown(
+        rt,
         label,
         w,
         r,
@@ -135,8 +157,9 @@ fn pairs_shown(label: &[u8], w: Walk, r: u64) {
         2,
         b"0000 0000 0063 0063 0063 0063 0063 0063 0063 0063 0119 0119 0191 0191 0191",
         b"1000 0748 0748 0664 0664 0556 0556 0556 0388 0388 0388 0388 0388 0388 0388",
-    );
+    )?;
     pair_shown(
+        rt,
         label,
         w,
         r,
@@ -144,12 +167,13 @@ fn pairs_shown(label: &[u8], w: Walk, r: u64) {
         2,
         b"0000 0000 0063 0147 0147 0147 0147 0147 0147 0147 0203 0203 0203 0203 0203",
         b"1000 0748 0748 0748 0748 0640 0640 0640 0472 0472 0472 0472 0400 0400 0400",
-    );
+    )
 }
 
 // Holds all that looks show of a walk of this plan to the table, after r ends: the count, whether no end is left, E, and the bounds.
-pub fn shown(label: &[u8], w: Walk, r: u64) {
+pub fn shown(rt: &impl Print, label: &[u8], w: Walk, r: u64) -> io::Result<()> {
     totals(
+        rt,
         label,
         r,
         panel::look(w),
@@ -162,13 +186,14 @@ pub fn shown(label: &[u8], w: Walk, r: u64) {
             b"0000 0252 0315 0399 0399 0507 0507 0507 0675 0675 0731 0731 0803 0803 0803",
             r,
         ),
-    );
-    pairs_shown(label, w, r);
+    )?;
+    pairs_shown(rt, label, w, r)
 }
 
 // Goes on with a walk of this plan for at most k ends. The call is to have a number, to reach so many ends, so that the walk has reached r,
 // and to leave so much of the quota.
 pub fn went_on(
+    rt: &impl Print,
     label: &[u8],
     w: Walk,
     quota: Quota,
@@ -177,13 +202,13 @@ pub fn went_on(
     ends: u64,
     r: u64,
     left: u64,
-) -> GoneOn
-    ensures { WentOn w quota k result }
+) -> io::Result<GoneOn>
+    ensures { IfOk result (λ g. WentOn w quota k g) }
 {
     let g = panel::go_on(w, quota, k);
-    answered(label, r, g, number, ends, left);
+    answered(rt, label, r, g, number, ends, left)?;
     let next = g.walk;
-    after(label, r, b"reached", next.reached, r);
-    shown(label, next, r);
-    g
+    after(rt, label, r, b"reached", next.reached, r)?;
+    shown(rt, label, next, r)?;
+    Ok(g)
 }

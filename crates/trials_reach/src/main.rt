@@ -8,18 +8,20 @@ mod components;
 mod lines;
 mod networks;
 
-fn main() {
-    networks::triangle();
-    networks::end_nodes();
-    networks::parallel();
-    networks::parallel_end();
-    lines::three();
-    lines::three_cut();
-    lines::longest();
-    components::without_links();
-    components::ring();
-    components::ring_nodes();
-    components::islands();
-    components::top_bits();
-    io::write_all(1, b"trials ended\n");
+use std::io;
+
+fn main(rt: HostRuntime) -> io::Result<()> {
+    networks::triangle(&rt)?;
+    networks::end_nodes(&rt)?;
+    networks::parallel(&rt)?;
+    networks::parallel_end(&rt)?;
+    lines::three(&rt)?;
+    lines::three_cut(&rt)?;
+    lines::longest(&rt)?;
+    components::without_links(&rt)?;
+    components::ring(&rt)?;
+    components::ring_nodes(&rt)?;
+    components::islands(&rt)?;
+    components::top_bits(&rt)?;
+    println!(rt; "trials ended")
 }

@@ -7,16 +7,18 @@ mod plans;
 mod rooms;
 mod unread;
 
-fn main() {
-    plans::triangle();
-    plans::one_node();
-    plans::wide_numbers();
-    plans::large();
-    unread::refused_headers();
-    unread::refused_entries();
-    rooms::short_links();
-    rooms::short_events();
-    rooms::exact_lists();
-    rooms::byte_too_many();
-    io::write_all(1, b"trials ended\n");
+use std::io;
+
+fn main(rt: HostRuntime) -> io::Result<()> {
+    plans::triangle(&rt)?;
+    plans::one_node(&rt)?;
+    plans::wide_numbers(&rt)?;
+    plans::large(&rt)?;
+    unread::refused_headers(&rt)?;
+    unread::refused_entries(&rt)?;
+    rooms::short_links(&rt)?;
+    rooms::short_events(&rt)?;
+    rooms::exact_lists(&rt)?;
+    rooms::byte_too_many(&rt)?;
+    println!(rt; "trials ended")
 }

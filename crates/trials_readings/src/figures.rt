@@ -4,6 +4,7 @@ ghost use Rattle.std.specs.Float.Ieee.{is_nan};
 
 use plan::Header;
 use readings::{Figured, Shares};
+use std::io;
 use trials_vectors::{header, same, same_part};
 
 const TENTH: u64 = 100_000_000_000_000_000;
@@ -16,25 +17,46 @@ const ZERO: u64 = 0;
 const ONE: u64 = 0x3ff0_0000_0000_0000;
 
 // Holds the floats of a figure that was given to their bits.
-fn same_bits(label: &[u8], shares: Shares, disconnected: u64, examined: u64)
+fn same_bits(
+    rt: &impl Print,
+    label: &[u8],
+    shares: Shares,
+    disconnected: u64,
+    examined: u64,
+) -> io::Result<()>
     requires { T (not (is_nan shares.disconnected)) × T (not (is_nan shares.examined)) }
 {
     same_part(
+        rt,
         label,
         b"disconnected",
         f64::to_bits(shares.disconnected),
         disconnected,
-    );
-    same_part(label, b"examined", f64::to_bits(shares.examined), examined);
+    )?;
+    same_part(
+        rt,
+        label,
+        b"examined",
+        f64::to_bits(shares.examined),
+        examined,
+    )
 }
 
-fn same_case(label: &[u8], number: u64, wanted_number: u64, given: u64, wanted: u64) {
-    same(label, number, wanted_number);
-    same_part(label, b"given", given, wanted);
+fn same_case(
+    rt: &impl Print,
+    label: &[u8],
+    number: u64,
+    wanted_number: u64,
+    given: u64,
+    wanted: u64,
+) -> io::Result<()> {
+    same(rt, label, number, wanted_number)?;
+    same_part(rt, label, b"given", given, wanted)
 }
 
 // Holds a figure to its number, to whether it is given (1 or 0), and to the bits of its floats.
 fn bits(
+    rt: &impl Print,
     label: &[u8],
     h: Header,
     links: &[u8],
@@ -45,24 +67,26 @@ fn bits(
     given: u64,
     disconnected: u64,
     examined: u64,
-) {
+) -> io::Result<()> {
     let answer = readings::figure(h, links, events, v, w);
     match answer {
         Figured::Refused(n) => {
-            same_case(label, n as u64, number, 0, given);
+            same_case(rt, label, n as u64, number, 0, given)?;
         }
         Figured::NoFigure => {
-            same_case(label, 0, number, 0, given);
+            same_case(rt, label, 0, number, 0, given)?;
         }
         Figured::Given(shares) => {
-            same_bits(label, shares, disconnected, examined);
-            same_case(label, 0, number, 1, given);
+            same_bits(rt, label, shares, disconnected, examined)?;
+            same_case(rt, label, 0, number, 1, given)?;
         }
     }
+    Ok(())
 }
 
 // A single link with one event on it.
 fn on_link(
+    rt: &impl Print,
     label: &[u8],
     q: u64,
     threshold: u64,
@@ -73,11 +97,12 @@ fn on_link(
     given: u64,
     disconnected: u64,
     examined: u64,
-) {
+) -> io::Result<()> {
     let links = [0u8, 1];
     let events = [q, 0, 1, 0];
     let h = header(2, 1, 1, threshold, cap);
     bits(
+        rt,
         label,
         h,
         &links,
@@ -88,12 +113,13 @@ fn on_link(
         given,
         disconnected,
         examined,
-    );
+    )
 }
 
 // Marked plans 2, 4 and 9: an event of 1/10, or of 1/2.
-pub fn marked_figures() {
+pub fn marked_figures(rt: &impl Print) -> io::Result<()> {
     on_link(
+        rt,
         b"marked plan 2, 0.1 and 1",
         100_000_000,
         TENTH,
@@ -104,8 +130,9 @@ pub fn marked_figures() {
         1,
         0x3fb9_9999_9999_999a,
         ONE,
-    );
+    )?;
     on_link(
+        rt,
         b"marked plan 4, 0 and 0.9",
         100_000_000,
         1,
@@ -116,8 +143,9 @@ pub fn marked_figures() {
         1,
         ZERO,
         0x3fec_cccc_cccc_cccd,
-    );
+    )?;
     on_link(
+        rt,
         b"marked plan 9, no figure",
         500_000_000,
         WHOLE,
@@ -128,16 +156,23 @@ pub fn marked_figures() {
         0,
         0,
         0,
-    );
+    )
 }
 
 // Two events on the only link, q = 333,333,333 and 111,111,111: masses 592592592962962963 (none fails), 74074074037037037 (the second),
 // 296296296037037037 (the first) and 37037036962962963 (both).
-fn two_events(label: &[u8], threshold: u64, disconnected: u64, examined: u64) {
+fn two_events(
+    rt: &impl Print,
+    label: &[u8],
+    threshold: u64,
+    disconnected: u64,
+    examined: u64,
+) -> io::Result<()> {
     let links = [0u8, 1];
     let events = [333_333_333u64, 0, 1, 0, 111_111_111, 0, 1, 0];
     let h = header(2, 1, 2, threshold, 100);
     bits(
+        rt,
         label,
         h,
         &links,
@@ -148,33 +183,53 @@ fn two_events(label: &[u8], threshold: u64, disconnected: u64, examined: u64) {
         1,
         disconnected,
         examined,
-    );
+    )
 }
 
 // The triangle has E = 10^18 - 4, which rounds to 10^18.
-fn triangle() {
+fn triangle(rt: &impl Print) -> io::Result<()> {
     let links = [0u8, 1, 0, 2, 1, 2];
     let events = [1u64, 0, 1, 0, 1, 0, 2, 0, 1, 0, 4, 0];
     let h = header(3, 3, 3, 1, 100);
-    bits(b"the triangle", h, &links, &events, 1, 2, 0, 1, ZERO, ONE);
+    bits(
+        rt,
+        b"the triangle",
+        h,
+        &links,
+        &events,
+        1,
+        2,
+        0,
+        1,
+        ZERO,
+        ONE,
+    )
 }
 
 // All four are examined at t = 1: lower is 407407407037037037, of one whole. Two are at t = 10^17: lower is 296296296037037037, of
 // 888888889000000000.
-pub fn rounded_figures() {
-    two_events(b"two events, all examined", 1, 0x3fda_12f6_8457_d2b0, ONE);
+pub fn rounded_figures(rt: &impl Print) -> io::Result<()> {
     two_events(
+        rt,
+        b"two events, all examined",
+        1,
+        0x3fda_12f6_8457_d2b0,
+        ONE,
+    )?;
+    two_events(
+        rt,
         b"two events, two examined",
         TENTH,
         0x3fd5_5555_54f9_b516,
         0x3fec_71c7_1c81_0c7c,
-    );
-    triangle();
+    )?;
+    triangle(rt)
 }
 
 // The lists' refusals and then 13 come first, also where E = 0.
-pub fn refused_figures() {
+pub fn refused_figures(rt: &impl Print) -> io::Result<()> {
     on_link(
+        rt,
         b"13 for equal nodes where E = 0",
         500_000_000,
         WHOLE,
@@ -185,8 +240,9 @@ pub fn refused_figures() {
         0,
         0,
         0,
-    );
+    )?;
     on_link(
+        rt,
         b"13 for a node past the last",
         500_000_000,
         WHOLE,
@@ -197,6 +253,6 @@ pub fn refused_figures() {
         0,
         0,
         0,
-    );
-    on_link(b"5 before 13", 500_000_000, 0, 100, 1, 0, 5, 0, 0, 0);
+    )?;
+    on_link(rt, b"5 before 13", 500_000_000, 0, 100, 1, 0, 5, 0, 0, 0)
 }

@@ -7,13 +7,15 @@ mod downtimes;
 mod figures;
 mod witness;
 
-fn main() {
-    figures::marked_figures();
-    figures::rounded_figures();
-    figures::refused_figures();
-    downtimes::whole_seconds();
-    downtimes::rounded_seconds();
-    downtimes::refused_seconds();
-    witness::witness();
-    io::write_all(1, b"trials ended\n");
+use std::io;
+
+fn main(rt: HostRuntime) -> io::Result<()> {
+    figures::marked_figures(&rt)?;
+    figures::rounded_figures(&rt)?;
+    figures::refused_figures(&rt)?;
+    downtimes::whole_seconds(&rt)?;
+    downtimes::rounded_seconds(&rt)?;
+    downtimes::refused_seconds(&rt)?;
+    witness::witness(&rt)?;
+    println!(rt; "trials ended")
 }

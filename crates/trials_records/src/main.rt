@@ -7,19 +7,21 @@ mod copies;
 mod members;
 mod steps;
 
-fn main() {
-    copies::triangle();
-    copies::large();
-    copies::header_alone();
-    copies::refused();
-    copies::short_output();
-    steps::links();
-    steps::moved();
-    steps::stays();
-    steps::refused();
-    members::seven();
-    members::up_to_a_refusal();
-    members::bytes_end();
-    members::no_member();
-    io::write_all(1, b"trials ended\n");
+use std::io;
+
+fn main(rt: HostRuntime) -> io::Result<()> {
+    copies::triangle(&rt)?;
+    copies::large(&rt)?;
+    copies::header_alone(&rt)?;
+    copies::refused(&rt)?;
+    copies::short_output(&rt)?;
+    steps::links(&rt)?;
+    steps::moved(&rt)?;
+    steps::stays(&rt)?;
+    steps::refused(&rt)?;
+    members::seven(&rt)?;
+    members::up_to_a_refusal(&rt)?;
+    members::bytes_end(&rt)?;
+    members::no_member(&rt)?;
+    println!(rt; "trials ended")
 }

@@ -8,13 +8,15 @@ mod lines;
 mod products;
 mod reading;
 
-fn main() {
-    reading::in_order();
-    reading::wide_numbers();
-    reading::rooms();
-    products::products();
-    products::headers();
-    lines::lines_cut_and_wrong();
-    lines::many_lines();
-    io::write_all(1, b"trials ended\n");
+use std::io;
+
+fn main(rt: HostRuntime) -> io::Result<()> {
+    reading::in_order(&rt)?;
+    reading::wide_numbers(&rt)?;
+    reading::rooms(&rt)?;
+    products::products(&rt)?;
+    products::headers(&rt)?;
+    lines::lines_cut_and_wrong(&rt)?;
+    lines::many_lines(&rt)?;
+    println!(rt; "trials ended")
 }

@@ -23,6 +23,7 @@
 //    8 WFFF     5  0-2, 1-2     16 FFFF     5  all
 ghost use Rattle.std.specs.Prelude.{◌<◌};
 
+use std::io;
 use thresholds::Answered;
 use trials_threshold_vectors::{answered, untouched};
 use trials_vectors::same_at;
@@ -30,21 +31,37 @@ use trials_vectors::same_at;
 const UNIT: u64 = 100_000_000_000_000;
 
 // Prints what differs at a place.
-fn number(label: &[u8], part: &[u8], place: usize, got: u64, want: u64) {
+fn number(
+    rt: &impl Print,
+    label: &[u8],
+    part: &[u8],
+    place: usize,
+    got: u64,
+    want: u64,
+) -> io::Result<()> {
     if got != want {
-        io::write_all(1, label);
-        io::write_all(1, b", ");
-        same_at(part, place, got, want);
+        rt.write_all(label)?;
+        rt.write_all(b", ")?;
+        same_at(rt, part, place, got, want)?;
     }
+    Ok(())
 }
 
-fn mass(label: &[u8], part: &[u8], place: usize, got: u64, want: u64) {
-    number(label, part, place, got / UNIT, want);
-    number(label, part, place, got % UNIT, 0);
+fn mass(
+    rt: &impl Print,
+    label: &[u8],
+    part: &[u8],
+    place: usize,
+    got: u64,
+    want: u64,
+) -> io::Result<()> {
+    number(rt, label, part, place, got / UNIT, want)?;
+    number(rt, label, part, place, got % UNIT, 0)
 }
 
 // Holds the bounds of the pairs 0-1, 0-2 and 1-2 in the block that begins at an entry.
 fn block(
+    rt: &impl Print,
     label: &[u8],
     part: &[u8],
     list: &[u64; 52],
@@ -52,12 +69,12 @@ fn block(
     first: u64,
     second: u64,
     third: u64,
-)
+) -> io::Result<()>
     requires { at < 48 }
 {
-    mass(label, part, at, list[at], first);
-    mass(label, part, at + 1, list[at + 1], second);
-    mass(label, part, at + 2, list[at + 2], third);
+    mass(rt, label, part, at, list[at], first)?;
+    mass(rt, label, part, at + 1, list[at + 1], second)?;
+    mass(rt, label, part, at + 2, list[at + 2], third)
 }
 
 // The byte of a text at a place, and 0 past its last.
@@ -105,6 +122,7 @@ fn outcome(name: u8) -> [u64; 8] {
 
 // Holds what stands at a threshold's place and in its block to an outcome, and complete to a digit.
 fn row(
+    rt: &impl Print,
     label: &[u8],
     a: Answered,
     lower: &[u64; 52],
@@ -112,31 +130,38 @@ fn row(
     place: usize,
     name: u8,
     digit: u8,
-)
+) -> io::Result<()>
     requires { place < 16 }
 {
     let want = outcome(name);
     let counts = a.count;
     let completes = a.complete;
     let masses = a.mass;
-    number(label, b"count", place, counts[place], want[0]);
-    number(label, b"complete", place, completes[place], flag(digit));
-    mass(label, b"E", place, masses[place], want[1]);
+    number(rt, label, b"count", place, counts[place], want[0])?;
+    number(rt, label, b"complete", place, completes[place], flag(digit))?;
+    mass(rt, label, b"E", place, masses[place], want[1])?;
     let at = 3 * place;
-    block(label, b"lower", lower, at, want[2], want[3], want[4]);
-    block(label, b"upper", upper, at, want[5], want[6], want[7]);
+    block(rt, label, b"lower", lower, at, want[2], want[3], want[4])?;
+    block(rt, label, b"upper", upper, at, want[5], want[6], want[7])
 }
 
 // An accepted call on a plan of three nodes, with lists that held WORD: for each threshold the text has an outcome, a digit, which is complete,
 // and a blank. The places past the last are 0, and the entries past the last block are untouched.
-pub fn rows(label: &[u8], a: Answered, lower: &[u64; 52], upper: &[u64; 52], text: &[u8]) {
+pub fn rows(
+    rt: &impl Print,
+    label: &[u8],
+    a: Answered,
+    lower: &[u64; 52],
+    upper: &[u64; 52],
+    text: &[u8],
+) -> io::Result<()> {
     let thresholds = text.len() / 3;
-    answered(label, a, 0, thresholds);
+    answered(rt, label, a, 0, thresholds)?;
     let mut past = 0;
-    let mut i = 0;
-    while i < 16 {
+    for i in 0..16 {
         if i < thresholds {
             row(
+                rt,
                 label,
                 a,
                 lower,
@@ -144,10 +169,9 @@ pub fn rows(label: &[u8], a: Answered, lower: &[u64; 52], upper: &[u64; 52], tex
                 i,
                 letter(text, 3 * i),
                 letter(text, 3 * i + 1),
-            );
+            )?;
             past = 3 * i + 3;
         }
-        i += 1;
     }
-    untouched(label, lower, upper, past);
+    untouched(rt, label, lower, upper, past)
 }

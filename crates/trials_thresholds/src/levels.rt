@@ -9,10 +9,11 @@
 //   t above 10, up to 90:       WW, WF, FW  WW WF FW [FF]
 //   t up to 10:                 all four    WW WF FW FF
 use crate::held::rows;
+use std::io;
 use thresholds::CommonHeader;
 use trials_vectors::WORD;
 
-fn asked(label: &[u8], cap: u64, list: &[u64], text: &[u8]) {
+fn asked(rt: &impl Print, label: &[u8], cap: u64, list: &[u64], text: &[u8]) -> io::Result<()> {
     let links = [0u8, 1, 1, 2];
     let events = [100_000_000u64, 0, 1, 0, 10_000_000, 0, 2, 0];
     let mut lower = [WORD; 52];
@@ -24,21 +25,21 @@ fn asked(label: &[u8], cap: u64, list: &[u64], text: &[u8]) {
         cap,
     };
     let a = thresholds::thresholds(h, &links, &events, list, &mut lower, &mut upper);
-    rows(label, a, &lower, &upper, text);
+    rows(rt, label, a, &lower, &upper, text)
 }
 
 // The whole, half of it and one unit of mass.
-pub fn few() {
+pub fn few(rt: &impl Print) -> io::Result<()> {
     let list = [1_000_000_000_000_000_000u64, 500_000_000_000_000_000, 1];
-    asked(b"10^18, half of it and 1", 100, &list, b"01 11 41 ");
+    asked(rt, b"10^18, half of it and 1", 100, &list, b"01 11 41 ")
 }
 
 // Two that differ by one unit of mass: the first drops FW, whose mass is the second. Each of them alone has the same answers.
-pub fn either_side() {
+pub fn either_side(rt: &impl Print) -> io::Result<()> {
     let list = [99_000_000_000_000_001u64, 99_000_000_000_000_000];
-    asked(b"either side of FW", 100, &list, b"11 21 ");
-    asked(b"one above FW", 100, &list[0..1], b"11 ");
-    asked(b"FW", 100, &list[1..2], b"21 ");
+    asked(rt, b"either side of FW", 100, &list, b"11 21 ")?;
+    asked(rt, b"one above FW", 100, &list[0..1], b"11 ")?;
+    asked(rt, b"FW", 100, &list[1..2], b"21 ")
 }
 
 // 10^18, the six edges above, each after what is one unit above it, and three more: 16 thresholds.
@@ -65,24 +66,27 @@ fn edges() -> [u64; 16] {
 
 // At cap 4 all are complete. At cap 3 those with two or three ends are, and the others stop before FF. At cap 2 the first two are; with W the
 // ends are [WW] and [WF] or WW and [WF].
-pub fn sixteen() {
+pub fn sixteen(rt: &impl Print) -> io::Result<()> {
     let list = edges();
     asked(
+        rt,
         b"16 thresholds at cap 4",
         4,
         &list,
         b"01 01 01 01 11 11 11 11 21 21 31 31 41 41 41 41 ",
-    );
+    )?;
     asked(
+        rt,
         b"16 thresholds at cap 3",
         3,
         &list,
         b"01 01 01 01 11 11 10 10 20 20 30 30 30 30 30 30 ",
-    );
+    )?;
     asked(
+        rt,
         b"10 thresholds at cap 2",
         2,
         &list[0..10],
         b"01 01 00 00 10 10 10 10 10 10 ",
-    );
+    )
 }

@@ -10,19 +10,21 @@ mod orders;
 mod refusals;
 mod single;
 
-fn main() {
-    levels::few();
-    levels::either_side();
-    levels::sixteen();
-    caps::caps();
-    caps::higher_caps();
-    single::no_pair(b"no pair");
-    single::no_event(b"no event");
-    orders::headers(b"4, 6 or 12 for a header");
-    orders::link(b"7 for a link");
-    refusals::lengths();
-    refusals::values(b"23 for a value");
-    refusals::lower_room();
-    refusals::upper_room();
-    io::write_all(1, b"trials ended\n");
+use std::io;
+
+fn main(rt: HostRuntime) -> io::Result<()> {
+    levels::few(&rt)?;
+    levels::either_side(&rt)?;
+    levels::sixteen(&rt)?;
+    caps::caps(&rt)?;
+    caps::higher_caps(&rt)?;
+    single::no_pair(&rt, b"no pair")?;
+    single::no_event(&rt, b"no event")?;
+    orders::headers(&rt, b"4, 6 or 12 for a header")?;
+    orders::link(&rt, b"7 for a link")?;
+    refusals::lengths(&rt)?;
+    refusals::values(&rt, b"23 for a value")?;
+    refusals::lower_room(&rt)?;
+    refusals::upper_room(&rt)?;
+    println!(rt; "trials ended")
 }

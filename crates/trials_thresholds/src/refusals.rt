@@ -1,40 +1,44 @@
 // What the call refuses.
+use std::io;
 use thresholds::CommonHeader;
 use trials_threshold_vectors::refused;
 use trials_vectors::WORD;
 
 // Where the lists of bounds have room for 17 blocks of three pairs.
 fn with_room(
+    rt: &impl Print,
     label: &[u8],
     h: CommonHeader,
     links: &[u8],
     events: &[u64],
     list: &[u64],
     number: u64,
-) {
+) -> io::Result<()> {
     let mut lower = [WORD; 51];
     let mut upper = [WORD; 51];
     let a = thresholds::thresholds(h, links, events, list, &mut lower, &mut upper);
-    refused(label, a, &lower, &upper, number);
+    refused(rt, label, a, &lower, &upper, number)
 }
 
 // Where neither has room for one block.
 fn without_room(
+    rt: &impl Print,
     label: &[u8],
     h: CommonHeader,
     links: &[u8],
     events: &[u64],
     list: &[u64],
     number: u64,
-) {
+) -> io::Result<()> {
     let mut lower = [WORD; 2];
     let mut upper = [WORD; 2];
     let a = thresholds::thresholds(h, links, events, list, &mut lower, &mut upper);
-    refused(label, a, &lower, &upper, number);
+    refused(rt, label, a, &lower, &upper, number)
 }
 
 // A plan that is refused, with good thresholds and room, and where a threshold is 0 and there is no room.
 pub fn plan(
+    rt: &impl Print,
     label: &[u8],
     nodes: u64,
     links: u64,
@@ -43,7 +47,7 @@ pub fn plan(
     bytes: &[u8],
     words: &[u64],
     number: u64,
-) {
+) -> io::Result<()> {
     let h = CommonHeader {
         nodes,
         links,
@@ -52,8 +56,8 @@ pub fn plan(
     };
     let good = [2u64, 1];
     let zero = [0u64];
-    with_room(label, h, bytes, words, &good, number);
-    without_room(label, h, bytes, words, &zero, number);
+    with_room(rt, label, h, bytes, words, &good, number)?;
+    without_room(rt, label, h, bytes, words, &zero, number)
 }
 
 // Three nodes, no link and no event.
@@ -67,45 +71,50 @@ fn three_nodes() -> CommonHeader {
 }
 
 // 23 for a list of thresholds, before 12.
-fn wrong(label: &[u8], list: &[u64]) {
+fn wrong(rt: &impl Print, label: &[u8], list: &[u64]) -> io::Result<()> {
     let bytes = [7u8];
     let words = [7u64];
     let h = three_nodes();
-    with_room(label, h, &bytes, &words, list, 23);
-    without_room(label, h, &bytes, &words, list, 23);
+    with_room(rt, label, h, &bytes, &words, list, 23)?;
+    without_room(rt, label, h, &bytes, &words, list, 23)
 }
 
-fn alone(label: &[u8], t: u64) {
+fn alone(rt: &impl Print, label: &[u8], t: u64) -> io::Result<()> {
     let list = [t];
-    wrong(label, &list);
+    wrong(rt, label, &list)
 }
 
-fn couple(label: &[u8], first: u64, second: u64) {
+fn couple(rt: &impl Print, label: &[u8], first: u64, second: u64) -> io::Result<()> {
     let list = [first, second];
-    wrong(label, &list);
+    wrong(rt, label, &list)
 }
 
 // No threshold, one more than 16, and the last of 16 above the one before.
-pub fn lengths() {
+pub fn lengths(rt: &impl Print) -> io::Result<()> {
     let list = [17u64, 16, 15, 14, 13, 12, 11, 10, 9, 8, 7, 6, 5, 4, 3, 2, 1];
-    wrong(b"23 for an empty list", &list[0..0]);
-    wrong(b"23 for 17 thresholds", &list);
+    wrong(rt, b"23 for an empty list", &list[0..0])?;
+    wrong(rt, b"23 for 17 thresholds", &list)?;
     let last = [16u64, 15, 14, 13, 12, 11, 10, 9, 8, 7, 6, 5, 4, 2, 1, 3];
-    wrong(b"23 for the last of 16", &last);
+    wrong(rt, b"23 for the last of 16", &last)
 }
 
 // One outside 1 to 10^18, or one that doesn't fall.
-pub fn values(label: &[u8]) {
-    alone(label, 0);
-    alone(label, 1_000_000_000_000_000_001);
-    couple(label, 1, 0);
-    couple(label, 1_000_000_000_000_000_001, 1_000_000_000_000_000_000);
-    couple(label, 5, 5);
-    couple(label, 5, 6);
+pub fn values(rt: &impl Print, label: &[u8]) -> io::Result<()> {
+    alone(rt, label, 0)?;
+    alone(rt, label, 1_000_000_000_000_000_001)?;
+    couple(rt, label, 1, 0)?;
+    couple(
+        rt,
+        label,
+        1_000_000_000_000_000_001,
+        1_000_000_000_000_000_000,
+    )?;
+    couple(rt, label, 5, 5)?;
+    couple(rt, label, 5, 6)
 }
 
 // Two thresholds and three pairs: 12 for a list of five entries.
-pub fn lower_room() {
+pub fn lower_room(rt: &impl Print) -> io::Result<()> {
     let bytes = [7u8];
     let words = [7u64];
     let list = [2u64, 1];
@@ -113,10 +122,10 @@ pub fn lower_room() {
     let mut upper = [WORD; 6];
     let h = three_nodes();
     let a = thresholds::thresholds(h, &bytes, &words, &list, &mut lower, &mut upper);
-    refused(b"12 for the lower bounds", a, &lower, &upper, 12);
+    refused(rt, b"12 for the lower bounds", a, &lower, &upper, 12)
 }
 
-pub fn upper_room() {
+pub fn upper_room(rt: &impl Print) -> io::Result<()> {
     let bytes = [7u8];
     let words = [7u64];
     let list = [2u64, 1];
@@ -124,5 +133,5 @@ pub fn upper_room() {
     let mut upper = [WORD; 5];
     let h = three_nodes();
     let a = thresholds::thresholds(h, &bytes, &words, &list, &mut lower, &mut upper);
-    refused(b"12 for the upper bounds", a, &lower, &upper, 12);
+    refused(rt, b"12 for the upper bounds", a, &lower, &upper, 12)
 }

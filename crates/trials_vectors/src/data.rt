@@ -5,6 +5,7 @@ ghost use Rattle.trials_vectors.specs.Data.{LinksUpTo, LargeFile, FullEvents};
 use crate::compare::{same, same_part};
 use plan::{Header, Reading, Writing};
 use plan_lists::put_bytes;
+use std::io;
 
 // What a lent list holds before a call.
 pub const BYTE: u8 = 170;
@@ -89,41 +90,44 @@ pub fn full_events() -> [u64; 512]
 }
 
 // Holds the answer of a reading to the numbers of an accepted plan.
-pub fn accepted(label: &[u8], answer: Reading, want: Header) {
+pub fn accepted(rt: &impl Print, label: &[u8], answer: Reading, want: Header) -> io::Result<()> {
     match answer {
         Reading::Refused(number) => {
-            same(label, number as u64, 0);
+            same(rt, label, number as u64, 0)?;
         }
         Reading::Accepted(h) => {
-            same_part(label, b"nodes", h.nodes, want.nodes);
-            same_part(label, b"links", h.links, want.links);
-            same_part(label, b"events", h.events, want.events);
-            same_part(label, b"threshold", h.threshold, want.threshold);
-            same_part(label, b"cap", h.cap, want.cap);
+            same_part(rt, label, b"nodes", h.nodes, want.nodes)?;
+            same_part(rt, label, b"links", h.links, want.links)?;
+            same_part(rt, label, b"events", h.events, want.events)?;
+            same_part(rt, label, b"threshold", h.threshold, want.threshold)?;
+            same_part(rt, label, b"cap", h.cap, want.cap)?;
         }
     }
+    Ok(())
 }
 
 // Holds the answer of a reading to the number of a refusal.
-pub fn refused(label: &[u8], answer: Reading, want: u64) {
+pub fn refused(rt: &impl Print, label: &[u8], answer: Reading, want: u64) -> io::Result<()> {
     match answer {
         Reading::Refused(number) => {
-            same(label, number as u64, want);
+            same(rt, label, number as u64, want)?;
         }
         Reading::Accepted(_) => {
-            same(label, 0, want);
+            same(rt, label, 0, want)?;
         }
     }
+    Ok(())
 }
 
 // Holds the answer of a writing to how many bytes it should lay down.
-pub fn written(label: &[u8], answer: Writing, want: u64) {
+pub fn written(rt: &impl Print, label: &[u8], answer: Writing, want: u64) -> io::Result<()> {
     match answer {
         Writing::Refused(number) => {
-            same(label, number as u64, 0);
+            same(rt, label, number as u64, 0)?;
         }
         Writing::Written(count) => {
-            same(label, count as u64, want);
+            same(rt, label, count as u64, want)?;
         }
     }
+    Ok(())
 }

@@ -1,5 +1,5 @@
 // What the test programs share: comparing a result with what it should be, and plans of known bytes.
-// Assumes the contract of C's `write`, with which differences are printed.
+// Differences are printed on standard output; where that fails, the error is returned.
 #![tactic(auto)]
 
 mod compare;

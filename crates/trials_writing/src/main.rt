@@ -6,19 +6,21 @@
 mod plans;
 mod unwritten;
 
-fn main() {
-    plans::triangle();
-    plans::large();
-    plans::past_the_counts();
-    plans::header_alone();
-    unwritten::counts();
-    unwritten::threshold_and_cap();
-    unwritten::short_lists();
-    unwritten::short_output();
-    unwritten::short_large_output();
-    unwritten::no_output();
-    unwritten::ends();
-    unwritten::probabilities();
-    unwritten::sets();
-    io::write_all(1, b"trials ended\n");
+use std::io;
+
+fn main(rt: HostRuntime) -> io::Result<()> {
+    plans::triangle(&rt)?;
+    plans::large(&rt)?;
+    plans::past_the_counts(&rt)?;
+    plans::header_alone(&rt)?;
+    unwritten::counts(&rt)?;
+    unwritten::threshold_and_cap(&rt)?;
+    unwritten::short_lists(&rt)?;
+    unwritten::short_output(&rt)?;
+    unwritten::short_large_output(&rt)?;
+    unwritten::no_output(&rt)?;
+    unwritten::ends(&rt)?;
+    unwritten::probabilities(&rt)?;
+    unwritten::sets(&rt)?;
+    println!(rt; "trials ended")
 }
