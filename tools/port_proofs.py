@@ -119,7 +119,7 @@ class Resolver:
         h = self.helpers.get(name)
         return h and h["result"]
 
-    def turn(self, text, env, need):
+    def turn(self, text, env, need, inlined=False):
         """`env`: variable -> (root, place); `need`: the goal that is answered, or None in a helper."""
         env, fn = dict(env), self.fn
         # helpers that only go back, as in (turn c).loop, and lets of places
@@ -177,6 +177,7 @@ class Resolver:
             if not changed:
                 break
 
+        lent = set(re.findall(r"let (" + WORD + r") = §?" + WORD + r"(?:\." + WORD + r")*\.args in\b", text))
         steps = {}
         for m in re.finditer(r"let (" + WORD + r") = (§?" + WORD + r")((?:\." + WORD + r")+) in\b", text):
             parts = m.group(3)[1:].split(".")
@@ -194,6 +195,8 @@ class Resolver:
 
         def sub(m):
             root0, parts = m.group(1), m.group(2)[1:].split(".") if m.group(2) else []
+            if root0 in lent and parts:
+                return ".".join([root0, parts[0].replace("-", "_")] + parts[1:])
             if root0 in steps and root0 not in env and parts:
                 return ".".join([root0] + self.call(parts, steps[root0]))
             if root0 not in env:
@@ -208,7 +211,7 @@ class Resolver:
                 return m.group()
             rest = parts[k:]
             if not rest:
-                if root0 == root and k == 0:
+                if root0 == root and k == 0 and not inlined:
                     return root
                 if need:
                     self.places.add(here)
@@ -293,6 +296,13 @@ def whole_clauses(text):
 
     def sub(m):
         head, names, field = m.group(1), m.group(2).split(","), m.group(3)
+        before, depth = text[: m.start()], 0
+        for k in range(len(before) - 1, -1, -1):
+            depth += {")": 1, "(": -1}.get(before[k], 0)
+            if depth < 0:
+                if re.search(r"(?<![\w'-])(omega|grind|search|cc) $", before[:k]):
+                    return ", ".join(f"{head}.{field}.{n}" for n in names)
+                break
         out = f"{head}.{field}.{names[-1]}"
         for n in reversed(names[:-1]):
             out = f"({head}.{field}.{n}, {out})"
@@ -367,6 +377,8 @@ def by_clause(text, clauses):
     final, given = text[at:].strip(), []
     if final.startswith("absurd"):
         return text
+    if re.match(r"(omega|search|grind|cc)(?![\w'-])", final):
+        return text[:at] + " record { " + "; ".join(f"{c} = {final}" for c in clauses) + " }"
     m = re.match(r"((?:rw|simp) )(?=\S)", final)
     if m:
         args = split_args(final[m.end():])
@@ -486,8 +498,7 @@ def convert(path, entry, crate, func):
             if not h or h["body"] is None or h["more"] or depth > 8:
                 said.append(f"cannot put {name} in")
                 return m.group()
-            body = res.turn(h["body"], {h["param"]: (root, h["place"])}, None)
-            body = re.sub(r"(?<![\w.'·-])" + re.escape(h["param"]) + r"(?=[. )\n]|$)", root, body)
+            body = res.turn(h["body"], {h["param"]: (root, h["place"])}, None, True)
             return "(" + in_helpers(body.strip(), depth + 1) + ")"
 
         return re.sub(r"(?<![\w.'·-])(" + WORD + r") §bare:([^:]*):[^§]*§", sub, text)

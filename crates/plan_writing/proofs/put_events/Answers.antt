@@ -1,10 +1,9 @@
 -- `plan_writing::put_events` meets its contract: what is left, laid down from the position on, makes the whole. Assumes nothing.
 use mathlib.Core.Path.{◌≡◌, refl, ◌∙◌}
 use mathlib.Core.List.{[], ◌∷◌}
-use Prim.Native.Nat.{◌+◌, ◌*◌, ◌-◌}
+use Prim.Native.Nat.{◌+◌, ◌-◌}
 use native.Mathlib.Omega.{arith}
 use lib.ListN.{length, drop}
-use lib.Seq.{sets}
 use Rattle.plan.specs.Lists.{events_of}
 use Rattle.plan.specs.Layout.{event_bytes}
 use Rattle.plan_lists.proofs.ListLaws.{event_at}

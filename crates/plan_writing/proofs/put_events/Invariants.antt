@@ -1,15 +1,10 @@
 -- `plan_writing::put_events` meets its contract: what is left, laid down from the position on, makes the whole. Assumes nothing.
-use mathlib.Core.Path.{◌≡◌, refl, ◌∙◌}
-use mathlib.Core.List.{[], ◌∷◌}
-use Prim.Native.Nat.{◌+◌, ◌*◌, ◌-◌}
-use native.Mathlib.Omega.{arith}
+use mathlib.Core.Path.{◌≡◌}
+use Prim.Native.Nat.{◌+◌, ◌*◌}
 use lib.ListN.{length, drop}
 use lib.Seq.{sets}
 use Rattle.plan.specs.Lists.{events_of}
 use Rattle.plan.specs.Layout.{event_bytes}
-use Rattle.plan_lists.proofs.ListLaws.{event_at}
-use Rattle.plan_writing.proofs.SizeLaws.{length-bytes-next}
-use Rattle.plan_writing.proofs.WriterLaws.{laid_next, laid_end}
 use Rattle.plan_writing.proofs.put_events.Given as goal
 
 abbrev pub invariant-loop-left : goal.invariant-loop-left

@@ -1,10 +1,9 @@
 -- `plan_writing::put_members` meets its contract: what is left, laid down from the position on, makes the whole. Assumes nothing.
 use mathlib.Core.Path.{◌≡◌, refl, ap, ◌∙◌}
-use Prim.Native.Nat.{◌+◌, ◌*◌, ◌-◌, ◌/◌}
+use Prim.Native.Nat.{◌+◌, ◌-◌, ◌/◌}
 use native.Mathlib.Omega.{arith}
 use lib.ListN.{length}
-use lib.Seq.{sets}
-use Rattle.plan.specs.Layout.{elements, member_bytes}
+use Rattle.plan.specs.Layout.{elements}
 use Rattle.plan_writing.proofs.ElementLaws.{length-members-left, elements-end}
 use Rattle.plan_writing.proofs.WriterLaws.{members-next, members-end}
 use Rattle.plan_writing.proofs.put_members.Goals.{In-loop-left}

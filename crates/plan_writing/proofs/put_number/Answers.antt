@@ -1,10 +1,7 @@
 -- `plan_writing::put_number` meets its contract: what is left, laid down from the position on, makes the whole. Assumes nothing.
-use mathlib.Core.Path.{◌≡◌, refl, ◌∙◌}
-use Prim.Native.Nat.{◌+◌}
+use mathlib.Core.Path.{refl, ◌∙◌}
 use native.Mathlib.Omega.{arith}
-use lib.ListN.{length, length-set}
-use lib.Seq.{sets}
-use Rattle.plan.specs.Layout.{little}
+use lib.ListN.{length-set}
 use Rattle.plan_writing.proofs.WriterLaws.{number-next, number-end}
 use Rattle.plan_writing.proofs.put_number.Goals as goal
 

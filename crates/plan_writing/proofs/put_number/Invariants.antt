@@ -1,11 +1,9 @@
 -- `plan_writing::put_number` meets its contract: what is left, laid down from the position on, makes the whole. Assumes nothing.
-use mathlib.Core.Path.{◌≡◌, refl, ◌∙◌}
+use mathlib.Core.Path.{◌≡◌}
 use Prim.Native.Nat.{◌+◌}
-use native.Mathlib.Omega.{arith}
-use lib.ListN.{length, length-set}
+use lib.ListN.{length}
 use lib.Seq.{sets}
 use Rattle.plan.specs.Layout.{little}
-use Rattle.plan_writing.proofs.WriterLaws.{number-next, number-end}
 use Rattle.plan_writing.proofs.put_number.Given as goal
 
 abbrev pub invariant-loop-left : goal.invariant-loop-left

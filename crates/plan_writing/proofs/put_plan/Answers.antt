@@ -13,7 +13,7 @@ use Rattle.plan_writing.proofs.put_plan.Goals as goal
 -- the output has room for the three parts
 room : (c : Start)
     → 20 + 2 * c.args.h.links + length (event_bytes (events_of c.args.h.events c.args.words.now)) ≤ length c.args.out.now
-room c = omega (arith, plan-size c.args.h c.args.links.now c.args.words.now, (c.requires.nodes_bound, (c.requires.links_in_bounds, c.requires.words_in_bounds)))
+room c = omega (arith, plan-size c.args.h c.args.links.now c.args.words.now, c.requires.nodes_bound, c.requires.links_in_bounds, c.requires.words_in_bounds)
 
 -- the output keeps its length
 long₁ : (c : After-put_header) → length c.put_header.new.out ≡ length c.args.out.now
@@ -23,18 +23,18 @@ long₂ : (c : After-put_bytes) → length c.put_bytes.new.to ≡ length c.args.
 long₂ c = c.put_bytes.auto.to ∙ (c.put_header.auto.out)
 
 pub put_header-requires : goal.put_header-requires
-put_header-requires c = omega (arith, room (goal.at.put_header-requires c).Start, (c.requires.nodes_bound, (c.requires.links_in_bounds, c.requires.words_in_bounds)))
+put_header-requires c = omega (arith, room (goal.at.put_header-requires c).Start, c.requires.nodes_bound, c.requires.links_in_bounds, c.requires.words_in_bounds)
 
 pub put_bytes-requires : goal.put_bytes-requires
 put_bytes-requires c =
-    omega (arith, room (goal.at.put_bytes-requires c).Start, (c.requires.nodes_bound, (c.requires.links_in_bounds, c.requires.words_in_bounds)), long₁ (goal.at.put_bytes-requires c).After-put_header)
+    omega (arith, room (goal.at.put_bytes-requires c).Start, c.requires.nodes_bound, c.requires.links_in_bounds, c.requires.words_in_bounds, long₁ (goal.at.put_bytes-requires c).After-put_header)
 
 pub overflow_add-count : goal.overflow_add-count
-overflow_add-count c = omega (arith, (c.requires.nodes_bound, (c.requires.links_in_bounds, c.requires.words_in_bounds)))
+overflow_add-count c = omega (arith, c.requires.nodes_bound, c.requires.links_in_bounds, c.requires.words_in_bounds)
 
 pub put_events-requires : goal.put_events-requires
 put_events-requires c =
-    omega (arith, room (goal.at.put_events-requires c).Start, (c.requires.nodes_bound, (c.requires.links_in_bounds, c.requires.words_in_bounds)), long₂ (goal.at.put_events-requires c).After-put_bytes)
+    omega (arith, room (goal.at.put_events-requires c).Start, c.requires.nodes_bound, c.requires.links_in_bounds, c.requires.words_in_bounds, long₂ (goal.at.put_events-requires c).After-put_bytes)
 
 pub shape_of-out : goal.shape_of-out
 shape_of-out c = c.put_events.auto.out ∙ long₂ (goal.at.shape_of-out c).After-put_bytes

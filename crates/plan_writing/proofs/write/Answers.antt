@@ -2,7 +2,6 @@
 use mathlib.Core.Path.{◌≡◌, sym, ap, ◌∙◌}
 use Prim.Native.Nat.{ℕ, ◌+◌, ◌*◌, ◌≤◌}
 use native.Mathlib.Omega.{arith}
-use borrow.Author.Rules.{rules}
 use lib.ListN.{length}
 use Rattle.refusals.proofs.TestLaws.{Ranges, room-none}
 use Rattle.plan.specs.Lists.{events_of}
@@ -59,7 +58,7 @@ returns-then-short-ne0 c =
 
 pub put_plan-requires : goal.put_plan-requires
 put_plan-requires c =
-    let f = fit (goal.at.put_plan-requires c).Else-number-ne0 in let whole = omega (arith, f.0.nodes-fit, f.0.links-fit, f.0.events-fit, f.1.0, f.1.1, size (goal.at.put_plan-requires c).After-events_size, fits (goal.at.put_plan-requires c).Else-short-ne0) in record { nodes_bound = whole.0; links_in_bounds = whole.1.0; words_in_bounds = whole.1.1 }
+    let f = fit (goal.at.put_plan-requires c).Else-number-ne0 in record { nodes_bound = omega (arith, f.0.nodes-fit, f.0.links-fit, f.0.events-fit, f.1.0, f.1.1, size (goal.at.put_plan-requires c).After-events_size, fits (goal.at.put_plan-requires c).Else-short-ne0); links_in_bounds = omega (arith, f.0.nodes-fit, f.0.links-fit, f.0.events-fit, f.1.0, f.1.1, size (goal.at.put_plan-requires c).After-events_size, fits (goal.at.put_plan-requires c).Else-short-ne0); words_in_bounds = omega (arith, f.0.nodes-fit, f.0.links-fit, f.0.events-fit, f.1.0, f.1.1, size (goal.at.put_plan-requires c).After-events_size, fits (goal.at.put_plan-requires c).Else-short-ne0) }
 
 pub returns : goal.returns
 returns c =

@@ -2,7 +2,6 @@
 use mathlib.Core.Path.{ap, ◌∙◌}
 use Prim.Native.Nat.{ℕ}
 use native.Mathlib.Omega.{arith}
-use borrow.Author.Rules.{rules}
 use Rattle.plan.specs.Calls.{header_of, read_answer}
 use Rattle.plan_reading.proofs.ReaderLawsAnswer.{full-rooms}
 use Rattle.plan_reading.proofs.LoadedLaws.{bytes-each, left-same, left-loaded}

@@ -2,7 +2,7 @@
 -- the array is as with all of them. The measure is how many events are left. Assumes nothing.
 use mathlib.Core.Path.{◌≡◌, refl, ◌∙◌, ap, ap₂}
 use mathlib.Core.List.{List}
-use Prim.Native.Nat.{ℕ, ◌+◌, ◌-◌, ◌*◌, ◌/◌, ◌%◌, ◌^◌, ◌≤◌}
+use Prim.Native.Nat.{ℕ, ◌+◌, ◌-◌, ◌/◌, ◌%◌, ◌^◌, ◌≤◌}
 use native.Mathlib.Omega.{arith}
 use lib.ListN.{length, drop}
 use lib.Seq.{sets}
@@ -37,7 +37,7 @@ there c =
       arith,
       c.event_size-at.ensures,
       event-fits _ _ _ c.loop-left.at c.args.s.now ((let a = c.args in
-    events-accepted a.nodes a.links c.loop-left.invariant.1.0 c.loop-left.left c.loop-left.at a.s.now c.loop-left-test.true c.loop-left.invariant.1.1)).0,
+          events-accepted a.nodes a.links c.loop-left.invariant.1.0 c.loop-left.left c.loop-left.at a.s.now c.loop-left-test.true c.loop-left.invariant.1.1)).0,
     )
 
 pub overflow_add-at : goal.overflow_add-at

@@ -1,15 +1,11 @@
 -- `plan_reading::reader::fill_events` meets its contract. The loop's invariant: the events from `at` on are accepted, and with them laid down from `done` on
 -- the array is as with all of them. The measure is how many events are left. Assumes nothing.
-use mathlib.Core.Path.{◌≡◌, refl, ◌∙◌, ap, ap₂}
-use mathlib.Core.List.{List}
-use Prim.Native.Nat.{ℕ, ◌+◌, ◌-◌, ◌*◌, ◌/◌, ◌%◌, ◌^◌, ◌≤◌}
-use native.Mathlib.Omega.{arith}
-use lib.ListN.{length, drop}
+use mathlib.Core.Path.{◌≡◌}
+use Prim.Native.Nat.{ℕ, ◌+◌, ◌*◌, ◌≤◌}
+use lib.ListN.{drop}
 use lib.Seq.{sets}
 use Rattle.plan.specs.Lists.{event_words}
-use Rattle.plan.specs.File.{members_refusal, event_refusal, events_refusal, set_of, events_at, event_size, probability_in}
-use Rattle.plan.proofs.FileLawsAccepted.{event-head, event-accepted, event-fits, events-accepted}
-use Rattle.plan_reading.proofs.ReaderLaws.{events-fill, events-filled}
+use Rattle.plan.specs.File.{events_refusal, events_at}
 use Rattle.plan_reading.proofs.reader.fill_events.Given as goal
 
 abbrev pub invariant-loop-left : goal.invariant-loop-left

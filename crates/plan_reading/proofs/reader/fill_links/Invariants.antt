@@ -1,11 +1,9 @@
 -- `plan_reading::reader::fill_links` meets its contract. The loop's invariant: with the links from `at` on laid down from `done` on, the array is as with all
 -- of them. The measure is how many links are left. Assumes nothing.
-use mathlib.Core.Path.{◌≡◌, refl, ◌∙◌}
+use mathlib.Core.Path.{◌≡◌}
 use Prim.Native.Nat.{◌+◌, ◌*◌, ◌≤◌}
-use native.Mathlib.Omega.{arith}
 use lib.ListN.{length, drop}
 use lib.Seq.{sets}
-use Rattle.plan_reading.proofs.ReaderLaws.{links-fill, links-filled}
 use Rattle.plan.specs.Lists.{links_of, link_bytes}
 use Rattle.plan_reading.proofs.reader.fill_links.Given as goal
 

@@ -1,6 +1,5 @@
 -- `plan_reading::reader::header_in` meets its contract. Assumes nothing.
 use mathlib.Core.Path.{sym, ap}
-use borrow.Author.Rules.{rules}
 use Rattle.plan.specs.Calls.{header_in}
 use Rattle.plan_reading.proofs.reader.header_in.Goals as goal
 

@@ -2,11 +2,10 @@
 -- members from `at` on are the whole sets; and the sets so far hold no element of rank `least` or more. The measure is how many members are left.
 -- Assumes nothing.
 use mathlib.Core.Path.{◌≡◌, sym, ◌∙◌, ap}
-use Prim.Native.Nat.{ℕ, ◌+◌, ◌-◌, ◌^◌, ◌≤◌, ◌<◌}
+use Prim.Native.Nat.{ℕ, ◌+◌, ◌-◌, ◌≤◌, ◌<◌}
 use native.Mathlib.Omega.{arith}
 use lib.ListN.{length, get_or, drop}
 use Rattle.sets.specs.Sets.{joined}
-use borrow.Author.Rules.{rules}
 use Rattle.refusals.specs.Tests.{count_of_kind, rank}
 use Rattle.plan.specs.File.{member_refusal, members_refusal, set_of}
 use Rattle.plan_reading.specs.Members.{node_value, link_value}

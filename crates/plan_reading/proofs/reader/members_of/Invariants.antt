@@ -1,19 +1,11 @@
 -- `plan_reading::reader::members_of` meets its contract. The loop's invariant: the members from `at` on are accepted; the sets so far with those of the
 -- members from `at` on are the whole sets; and the sets so far hold no element of rank `least` or more. The measure is how many members are left.
 -- Assumes nothing.
-use mathlib.Core.Path.{◌≡◌, sym, ◌∙◌, ap}
-use Prim.Native.Nat.{ℕ, ◌+◌, ◌-◌, ◌^◌, ◌≤◌, ◌<◌}
-use native.Mathlib.Omega.{arith}
-use lib.ListN.{length, get_or, drop}
+use mathlib.Core.Path.{◌≡◌}
+use Prim.Native.Nat.{◌+◌, ◌-◌, ◌^◌, ◌<◌}
+use lib.ListN.{drop}
 use Rattle.sets.specs.Sets.{joined}
-use borrow.Author.Rules.{rules}
-use Rattle.refusals.specs.Tests.{count_of_kind, rank}
-use Rattle.plan.specs.File.{member_refusal, members_refusal, set_of}
-use Rattle.plan_reading.specs.Members.{node_value, link_value}
-use Rattle.plan.specs.Calls.{element_of}
-use Rattle.plan.specs.declared.Step.TheVariants as step
-use Rattle.plan.proofs.FileLawsAccepted.{member-fits, members-accepted, member-accepted, step-accepted, step-element, step-never}
-use Rattle.plan_reading.proofs.ReaderLaws.{rising, risen, node-set-step, link-set-step, set-none, low_word, high_word}
+use Rattle.plan.specs.File.{members_refusal, set_of}
 use Rattle.plan_reading.proofs.reader.members_of.Given as goal
 
 abbrev pub invariant-loop-left : goal.invariant-loop-left

@@ -1,5 +1,4 @@
 -- `plan_reading::reader::put_event` meets its contract. Assumes nothing.
-use borrow.Author.Rules.{rules}
 use Rattle.plan_reading.proofs.ReaderLaws.{event-put}
 use Rattle.plan_reading.proofs.reader.put_event.Goals as goal
 

@@ -4,7 +4,6 @@ use mathlib.Core.Path.{◌≡◌, sym, ◌∙◌, ap}
 use mathlib.Core.List.{List}
 use Prim.Native.Nat.{ℕ, ◌*◌, ◌/◌, ◌≤◌}
 use native.Mathlib.Omega.{arith}
-use borrow.Author.Rules.{rules}
 use lib.ListN.{length, take, replicate}
 use lib.Seq.{sets}
 use Rattle.plan.specs.Lists.{link_bytes, event_words}
@@ -76,11 +75,11 @@ returns c =
     record {
       answer = c.read_core-answer.ensures.answer;
       links = c.copy_bytes.ensures
-            ∙ ap (λ (l : List ℕ). sets a.links.now 0 (take (2 * c.header_in-header.result.links) l)) c.read_core-answer.ensures.links
-            ∙ read-links n k a.s.now c.header_in-header.result (header_is (goal.at.returns c).After-header_in-header) (replicate 256 0) a.links.now (omega arith)
-            ∙ ap (λ (x : ℕ). filled x (link_bytes (plan_of a.s.now).links) a.links.now) (sym own);
+          ∙ ap (λ (l : List ℕ). sets a.links.now 0 (take (2 * c.header_in-header.result.links) l)) c.read_core-answer.ensures.links
+          ∙ read-links n k a.s.now c.header_in-header.result (header_is (goal.at.returns c).After-header_in-header) (replicate 256 0) a.links.now (omega arith)
+          ∙ ap (λ (x : ℕ). filled x (link_bytes (plan_of a.s.now).links) a.links.now) (sym own);
       events = c.copy_words.ensures
-            ∙ ap (λ (l : List ℕ). sets a.events.now 0 (take (4 * c.header_in-header.result.events) l)) c.read_core-answer.ensures.words
-            ∙ read-events n k a.s.now c.header_in-header.result (header_is (goal.at.returns c).After-header_in-header) (replicate 512 0) a.events.now (omega arith)
-            ∙ ap (λ (x : ℕ). filled x (event_words (plan_of a.s.now).events) a.events.now) (sym own);
+          ∙ ap (λ (l : List ℕ). sets a.events.now 0 (take (4 * c.header_in-header.result.events) l)) c.read_core-answer.ensures.words
+          ∙ read-events n k a.s.now c.header_in-header.result (header_is (goal.at.returns c).After-header_in-header) (replicate 512 0) a.events.now (omega arith)
+          ∙ ap (λ (x : ℕ). filled x (event_words (plan_of a.s.now).events) a.events.now) (sym own);
     }

@@ -3,7 +3,6 @@
 use mathlib.Core.Path.{◌∙◌, ap}
 use mathlib.Core.List.{List}
 use Prim.Native.Nat.{ℕ}
-use borrow.Author.Rules.{rules}
 use Rattle.plan.specs.Lists.{link_bytes, event_words}
 use Rattle.plan.specs.File.{plan_of}
 use Rattle.plan.specs.Calls.{filled, header_of, read_number, read_answer}
@@ -14,7 +13,7 @@ pub returns : goal.returns
 returns c =
     let a = c.args in
     let e = from-smaller a.s.now a.at c.smaller-from.result c.smaller-from.ensures in
-    let number : List ℕ → ℕ = read_number a.link-room a.event-room in
+    let number : List ℕ → ℕ = read_number a.link_room a.event_room in
     record {
       answer = c.read_core.ensures.answer ∙ ap (λ (b : List ℕ). read_answer (number b) (header_of b)) e;
       links = c.read_core.ensures.links ∙ ap (λ (b : List ℕ). filled (number b) (link_bytes (plan_of b).links) a.links.now) e;

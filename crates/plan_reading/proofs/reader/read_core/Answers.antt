@@ -42,7 +42,7 @@ fill_links-requires c =
 
 links-there : (c : After-header_of-header) → 20 + 2 * c.header_of-header.result.links ≤ length c.args.s.now
 unfolding header_of
-links-there c = rw c.header_of-header.ensures (accepted-there _ ((read-accepted c.args.link_room c.args.event_room _ (none c))))
+links-there c = rw c.header_of-header.ensures (accepted-there _ ((read-accepted c.args.link_room c.args.event_room _ ((sym c.read_test-number.ensures ∙ c.if-number-ne0.false)))))
 
 pub overflow_mul-count : goal.overflow_mul-count
 overflow_mul-count c = omega (arith, links-there (goal.at.overflow_mul-count c).After-header_of-header)
@@ -67,9 +67,9 @@ returns c =
     record {
       answer = ap reading.Accepted c.header_of-header.ensures ∙ gives reading.Refused _ n;
       links = c.fill_links.ensures
-            ∙ ap (λ (x : Header). sets a.links.now 0 (link_bytes (links_of x.links (drop 20 s)))) c.header_of-header.ensures
-            ∙ filled-all (read_number a.link-room a.event-room s) _ a.links.now n;
+          ∙ ap (λ (x : Header). sets a.links.now 0 (link_bytes (links_of x.links (drop 20 s)))) c.header_of-header.ensures
+          ∙ filled-all (read_number a.link_room a.event_room s) _ a.links.now n;
       words = c.fill_events.ensures
-            ∙ ap (λ (x : Header). sets a.words.now 0 (event_words (events_at x.events (drop (20 + 2 * x.links) s)))) c.header_of-header.ensures
-            ∙ filled-all (read_number a.link-room a.event-room s) _ a.words.now n;
+          ∙ ap (λ (x : Header). sets a.words.now 0 (event_words (events_at x.events (drop (20 + 2 * x.links) s)))) c.header_of-header.ensures
+          ∙ filled-all (read_number a.link_room a.event_room s) _ a.words.now n;
     }

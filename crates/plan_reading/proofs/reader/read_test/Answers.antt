@@ -27,8 +27,8 @@ returns c =
     skip _ c.check-number.ensures c.if-number-ne0.false
     (c.first_of.ensures
     ∙ ap first
-    (also (on (λ (k : ℕ). room_test a.link-room (2 * k)) c.room_test.ensures c.byte_at.ensures.0)
-    (also (on (room_test a.event-room) c.room_test-2.ensures c.byte_at-2.ensures.0) refl)))
+    (also (on (λ (k : ℕ). room_test a.link_room (2 * k)) c.room_test.ensures c.byte_at.ensures.0)
+    (also (on (room_test a.event_room) c.room_test-2.ensures c.byte_at-2.ensures.0) refl)))
 
 pub byte_at-requires : goal.byte_at-requires
 byte_at-requires c = omega (arith, there c)

@@ -2,7 +2,6 @@
 use mathlib.Core.Path.{refl, subst}
 use Prim.Native.Nat.{◌^◌, ◌<◌}
 use native.Mathlib.Omega.{arith}
-use borrow.Author.Rules.{rules}
 use Rattle.sets.specs.Sets.{joined}
 use Rattle.plan_reading.specs.Members.{Above}
 use Rattle.plan.specs.declared.Element.{Element}
@@ -48,18 +47,18 @@ overflow_add-result-else-i-lt64 c =
 
 pub returns-in-Node : goal.returns-in-Node
 returns-in-Node c = rw (c.in-Node.is, shift_one _ (node-above (goal.at.returns-in-Node c).In-Node).0) (record {
-      nodes = refl;
-      links = omega arith;
-    })
+  nodes = refl;
+  links = omega arith;
+})
 
 pub returns-then-i-lt64 : goal.returns-then-i-lt64
 returns-then-i-lt64 c = rw c.in-Link.is (record {
-      nodes = omega arith;
-      links = low-more _ _ _ c.if-i-lt64.true;
-    })
+  nodes = omega arith;
+  links = low-more _ _ _ c.if-i-lt64.true;
+})
 
 pub returns-else-i-lt64 : goal.returns-else-i-lt64
 returns-else-i-lt64 c = rw c.in-Link.is (record {
-      nodes = omega arith;
-      links = high-more _ _ _ c.if-i-lt64.false (link-above (goal.at.returns-else-i-lt64 c).In-Link).0;
-    })
+  nodes = omega arith;
+  links = high-more _ _ _ c.if-i-lt64.false (link-above (goal.at.returns-else-i-lt64 c).In-Link).0;
+})

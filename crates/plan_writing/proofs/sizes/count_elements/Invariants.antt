@@ -1,10 +1,8 @@
 -- `plan_writing::sizes::count_elements` meets its contract: the elements counted and those of the bits that are left make all. Assumes nothing.
-use mathlib.Core.Path.{◌≡◌, ap}
-use Prim.Native.Nat.{◌+◌, ◌-◌, ◌/◌, ◌%◌, ◌≤◌}
-use native.Mathlib.Omega.{arith}
+use mathlib.Core.Path.{◌≡◌}
+use Prim.Native.Nat.{◌+◌, ◌≤◌}
 use lib.ListN.{length}
 use Rattle.plan.specs.Layout.{elements}
-use Rattle.plan_writing.proofs.ElementLaws.{length-left, length_most, elements-end}
 use Rattle.plan_writing.proofs.sizes.count_elements.Given as goal
 
 abbrev pub invariant-loop-left : goal.invariant-loop-left

@@ -1,12 +1,9 @@
 -- `plan_writing::sizes::events_size` meets its contract: the bytes counted and those of the events that are left make all. Assumes nothing.
-use mathlib.Core.Path.{◌≡◌, sym, ap, ◌∙◌}
-use Prim.Native.Nat.{ℕ, ◌+◌, ◌*◌, ◌-◌, ◌≤◌}
-use native.Mathlib.Omega.{arith}
+use mathlib.Core.Path.{◌≡◌}
+use Prim.Native.Nat.{◌+◌, ◌*◌}
 use lib.ListN.{length, drop}
 use Rattle.plan.specs.Lists.{events_of}
-use Rattle.plan.specs.Layout.{member_count, event_bytes}
-use Rattle.plan_layout.proofs.ListLaws.{length-events-of}
-use Rattle.plan_writing.proofs.SizeLaws.{size-next, events-most, bytes-end}
+use Rattle.plan.specs.Layout.{event_bytes}
 use Rattle.plan_writing.proofs.sizes.events_size.Given as goal
 
 abbrev pub invariant-loop-left : goal.invariant-loop-left
