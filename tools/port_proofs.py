@@ -161,12 +161,13 @@ class Resolver:
                     changed = True
                     break
                 path = re.fullmatch(r"(§?" + WORD + r")((?:\." + WORD + r")+)", m.group(2).strip())
-                if path and path.group(1) in env and re.search(r"\.(ensures|requires)(\.\d)*$", path.group(2)):
+                if path and path.group(1) in env and re.search(r"\.(ensures|requires|pre)(\.\d)*$", path.group(2)):
                     root, place = env[path.group(1)]
                     parts = path.group(2)[1:].split(".")
                     while parts[0] == "before":
                         place = fn.parent.get(place)
                         parts = parts[1:]
+                    parts[0] = "requires" if parts[0] == "pre" else parts[0]
                     there = self.clauses_of(parts, None) if parts[0] in FIXED else self.step(parts, place, m.group(2), place)
                     if "§whole" in there[-1]:
                         text = text[: m.start()] + re.sub(
