@@ -207,14 +207,19 @@ class Resolver:
             while k < len(parts) and parts[k] == "before":
                 k += 1
             here = self.up(place, k)
+            rest = parts[k:]
+            if here is None and rest and rest[0] in FIXED:
+                here = "Start"
             if here is None:
                 self.said.append(f"no place at {m.group()}")
                 return m.group()
-            rest = parts[k:]
             if not rest:
                 if root0 == root and k == 0 and not inlined:
                     return root
                 if need:
+                    h = self.helpers.get((re.findall(r"(" + WORD + r") $", text[: m.start()]) or [None])[0])
+                    if h and h["place"] != here and h["place"] in fn.chain(env[root][1] if root in env else here):
+                        here = h["place"]
                     self.places.add(here)
                     return f"(goal.at.{need} {root}).{here}"
                 return f"§bare:{root}:{here}§"
@@ -235,7 +240,7 @@ class Resolver:
 
     def step(self, rest, here, whole, own):
         fn = self.fn
-        for p in fn.chain(here):
+        for p in [*fn.chain(here), *fn.chain(own)]:
             i = fn.index[p]
             arm = fn.entry["arms"][i]
             if arm:
@@ -261,6 +266,8 @@ class Resolver:
         callee = entry["places"][i][3]
         if rest[:1] == ["type-inv"]:
             rest = ["type_inv"] + rest[1:]
+        if rest[:1] == ["kept"]:
+            rest = ["auto"] + rest[1:]
         if rest[:1] in (["new"], ["auto"]) and callee in entry["params"] and len(rest) > 1 and rest[1] in "01":
             k = 1
             while k < len(rest) and rest[k] == "1":

@@ -16,7 +16,7 @@ use Rattle.network.specs.Outage.{intact}
 use Rattle.walk.specs.Scenario.{Scenario}
 use Rattle.walk.specs.Ends.{End, sum_ends}
 use Rattle.walk.specs.Stack.{Stack}
-use Rattle.walk.specs.Walk.{plan_ends, count, mass_examined}
+use Rattle.walk.specs.Walk.{plan_ends, mass_examined}
 use Rattle.walk.proofs.EndsLaws.{sum_ends-append, count-sum}
 use Rattle.walk.proofs.PendingMass.{pending-covers}
 use Rattle.walk.proofs.Valid.{held-probable}

@@ -24,6 +24,8 @@ use Rattle.walk.proofs.EndsLaws.{count-sum}
 use Rattle.walk.proofs.Resume.{ends_some}
 use Rattle.bounds.specs.Bounds.{cuts, Encloses}
 use Rattle.bounds.specs.Calls.{totals_of, bounds_of}
+use Rattle.bounds.specs.declared.PairBounds.{PairBounds}
+use Rattle.bounds.specs.declared.Totals.{Totals}
 use Rattle.bounds.proofs.Answers.{enclosed}
 use Rattle.walk_state.specs.Sound.{sound}
 use Rattle.panel.specs.Walks.{capped, walk_plan, ends_left, WalkAt}
@@ -230,4 +232,8 @@ module _ (p : Plan) where
       → Encloses intact (capped p n) v x (look_pair_of w v x).lower (look_pair_of w v x).upper (look_of w).count
   look-encloses n w at some v x l k =
       let pair = pair-looked p n w at v x l k in
-      rw (pair, looked p n w at) (enclosed intact (capped p n) (capped-valid p n at.valid some at.under-cap) v x)
+      let shown : Encloses intact (capped p n) v x (bounds_of intact (capped p n) v x).lower (bounds_of intact (capped p n) v x).upper (totals_of (capped p n)).count =
+      enclosed intact (capped p n) (capped-valid p n at.valid some at.under-cap) v x in
+      subst (λ (b : PairBounds). Encloses intact (capped p n) v x b.lower b.upper (look_of w).count) (sym pair)
+      (subst (λ (t : Totals). Encloses intact (capped p n) v x (bounds_of intact (capped p n) v x).lower (bounds_of intact (capped p n) v x).upper t.count)
+      (sym (looked p n w at)) shown)

@@ -16,6 +16,7 @@ module _ (test : Scenario → Bool) where
   -- law: `some` says that the list has a scenario of which the test holds
   pub some-member : (s : Scenario) (list : List Scenario) → Memᴰ s list → test s ≡ true → some test list ≡ true
   unfolding some
+  some-member s [] x' h = elim x' [ ]
   some-member s (r ∷ list) (Memᴰ.head e) h = rw (sym e, h)
   some-member s (r ∷ list) (Memᴰ.tail m) h = rw (some-member s list m h, or-true)
 

@@ -1,0 +1,19 @@
+-- `text::rows::put_row` meets its contract: what is left, laid down from the position on, makes the whole row. Assumes nothing.
+use mathlib.Core.Path.{◌≡◌}
+use mathlib.Core.List.{List, ◌++◌}
+use Prim.Native.Nat.{ℕ, ◌+◌, ◌-◌, ◌<◌, ◌≤◌}
+use native.Mathlib.Omega.{arith}
+use Rattle.pairs.specs.Pairs as pairs
+use Rattle.text.specs.Sums.{sum_line, row_text}
+use Rattle.text.proofs.RowLaws.{Left, left-start, left-room, left-next, left_end, left-turn, row-end, line_at, place-first, place-next, place-fits}
+use Rattle.text.proofs.rows.put_row.Given as goal
+
+abbrev pub invariant-loop-w : goal.invariant-loop-w
+invariant-loop-w l =
+    (l.v < l.w)
+    × ((l.w ≤ l.n)
+    × ((l.place ≡ pairs.place l.n l.v l.w)
+    × Left l.initial.out l.at (row_text (sum_line l.n l.rest l.sums) l.v (l.v + 1) (l.n - (l.v + 1))) l.out l.i (row_text (sum_line l.n l.rest l.sums) l.v l.w (l.n - l.w))))
+
+abbrev pub decreases-loop-w : goal.decreases-loop-w
+decreases-loop-w l = l.n - l.w

@@ -1,0 +1,15 @@
+-- `text::rows::put_rows` meets its contract: what is left, laid down from the position on, makes the lines of all pairs. Assumes nothing.
+use mathlib.Core.List.{List}
+use Prim.Native.Nat.{ℕ, ◌+◌, ◌-◌, ◌≤◌}
+use native.Mathlib.Omega.{arith}
+use Rattle.text.specs.Listing.{pairs_text}
+use Rattle.text.specs.Sums.{sum_line, row_text, rows_text}
+use Rattle.text.proofs.RowLaws.{Left, left-room, left-next, left_end, left-row, rows_end, pairs_start}
+use Rattle.text.proofs.rows.put_rows.Given as goal
+
+abbrev pub invariant-loop-v : goal.invariant-loop-v
+invariant-loop-v l =
+    (l.v ≤ l.n) × Left l.initial.out l.at (pairs_text (sum_line l.n l.rest l.sums) l.n) l.out l.i (rows_text (sum_line l.n l.rest l.sums) l.n l.v (l.n - l.v))
+
+abbrev pub decreases-loop-v : goal.decreases-loop-v
+decreases-loop-v l = l.n - l.v
