@@ -1,7 +1,7 @@
 -- The laws of service credits: document 02, request U6. What started minutes are: laws `minutes-most` and `minutes-reach` of Minutes.
 -- Assumes nothing.
 use mathlib.Core.Path.{◌≡◌, refl, sym, subst}
-use Prim.Native.Nat.{ℕ, ◌+◌, ◌-◌, ◌*◌, ◌≤◌, ◌<◌}
+use Prim.Native.Nat.{ℕ, ◌-◌, ◌*◌, ◌≤◌, ◌<◌}
 use native.Mathlib.Decide.{dec_le}
 use native.Mathlib.Nat.{min-le_left, lt_of_not-le}
 use native.Mathlib.Omega.{arith}

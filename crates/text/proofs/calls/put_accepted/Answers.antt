@@ -7,7 +7,6 @@ use Rattle.plan_lists.proofs.Accepted.{plan-held}
 use Rattle.bounds.proofs.Zeros.{cleared}
 use Rattle.bounds.proofs.Answers.{giving}
 use Rattle.text.proofs.TextLaws.{sums-text, fits-as, laid_as}
-use borrow.Author.Rules.{rules}
 use Rattle.text.proofs.calls.put_accepted.Goals as goal
 
 pub walk_all-totals-requires : goal.walk_all-totals-requires

@@ -1,7 +1,6 @@
 -- `text::calls::put_listing` meets its contract: the line of a refused file, or the listing of its plan. Assumes nothing.
 use mathlib.Core.Path.{sym, ◌∙◌}
 use Rattle.text.proofs.TextLaws.{refused-listing, loaded-valid, accepted-listing, fits-as, laid_as}
-use borrow.Author.Rules.{rules}
 use Rattle.text.proofs.calls.put_listing.Goals as goal
 
 pub put_refused-requires : goal.put_refused-requires

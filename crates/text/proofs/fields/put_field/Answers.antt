@@ -1,7 +1,6 @@
 -- `text::fields::put_field` meets its contract. Assumes nothing.
 use native.Mathlib.Omega.{arith}
 use Rattle.text.proofs.FieldLaws.{field-long, field-laid}
-use borrow.Author.Rules.{rules}
 use Rattle.text.proofs.fields.put_field.Goals as goal
 
 pub put_decimal-last-requires : goal.put_decimal-last-requires

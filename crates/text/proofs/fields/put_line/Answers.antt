@@ -1,7 +1,6 @@
 -- `text::fields::put_line` meets its contract: each field is laid down where the one before it ends. Assumes nothing.
 use native.Mathlib.Omega.{arith}
 use Rattle.text.proofs.FieldLaws.{line-long, line-laid}
-use borrow.Author.Rules.{rules}
 use Rattle.text.proofs.fields.put_line.Goals as goal
 
 pub put_field-second-requires : goal.put_field-second-requires

@@ -1,7 +1,6 @@
 -- `text::rows::put_head` meets its contract: each part is laid down where the one before it ends. Assumes nothing.
 use native.Mathlib.Omega.{arith}
 use Rattle.text.proofs.FieldLaws.{head-long, head-laid}
-use borrow.Author.Rules.{rules}
 use Rattle.text.proofs.rows.put_head.Goals as goal
 
 pub put_field-second-requires : goal.put_field-second-requires

@@ -1,7 +1,6 @@
 -- `text::rows::put_plan_text` meets its contract: the rows are laid down where the first line ends. Assumes nothing.
 use native.Mathlib.Omega.{arith}
 use Rattle.text.proofs.TextLaws.{sums-long, sums-laid, listable}
-use borrow.Author.Rules.{rules}
 use Rattle.text.proofs.rows.put_plan_text.Goals as goal
 
 pub put_head-at-requires : goal.put_head-at-requires

@@ -1,9 +1,7 @@
 -- `text::rows::put_row` meets its contract: what is left, laid down from the position on, makes the whole row. Assumes nothing.
-use mathlib.Core.Path.{◌≡◌}
 use mathlib.Core.List.{List, ◌++◌}
-use Prim.Native.Nat.{ℕ, ◌+◌, ◌-◌, ◌<◌, ◌≤◌}
+use Prim.Native.Nat.{ℕ, ◌+◌, ◌-◌, ◌<◌}
 use native.Mathlib.Omega.{arith}
-use Rattle.pairs.specs.Pairs as pairs
 use Rattle.text.specs.Sums.{sum_line, row_text}
 use Rattle.text.proofs.RowLaws.{Left, left-start, left-room, left-next, left_end, left-turn, row-end, line_at, place-first, place-next, place-fits}
 use Rattle.text.proofs.rows.put_row.Goals.{In-loop-w}
@@ -42,11 +40,10 @@ pub overflow_add-w : goal.overflow_add-w
 overflow_add-w c = omega (arith, c.requires.listable.1, c.requires.listable.0.few)
 
 pub loop-w-init : goal.loop-w-init
-loop-w-init c =
-    (
-      omega arith,
-      (omega (arith, c.requires.listable.1), (place-first c.args.n c.args.v _ c.start_of-place.ensures, left-start _ _ _)),
-    )
+loop-w-init c = (
+  omega arith,
+  (omega (arith, c.requires.listable.1), (place-first c.args.n c.args.v _ c.start_of-place.ensures, left-start _ _ _)),
+)
 
 pub offset_bounds-sums-place : goal.offset_bounds-sums-place
 offset_bounds-sums-place c = omega (arith, inside (goal.at.offset_bounds-sums-place c).In-loop-w)

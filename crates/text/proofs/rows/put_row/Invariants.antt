@@ -1,11 +1,9 @@
 -- `text::rows::put_row` meets its contract: what is left, laid down from the position on, makes the whole row. Assumes nothing.
 use mathlib.Core.Path.{◌≡◌}
-use mathlib.Core.List.{List, ◌++◌}
-use Prim.Native.Nat.{ℕ, ◌+◌, ◌-◌, ◌<◌, ◌≤◌}
-use native.Mathlib.Omega.{arith}
+use Prim.Native.Nat.{◌+◌, ◌-◌, ◌<◌, ◌≤◌}
 use Rattle.pairs.specs.Pairs as pairs
 use Rattle.text.specs.Sums.{sum_line, row_text}
-use Rattle.text.proofs.RowLaws.{Left, left-start, left-room, left-next, left_end, left-turn, row-end, line_at, place-first, place-next, place-fits}
+use Rattle.text.proofs.RowLaws.{Left}
 use Rattle.text.proofs.rows.put_row.Given as goal
 
 abbrev pub invariant-loop-w : goal.invariant-loop-w

@@ -1,10 +1,8 @@
 -- `text::rows::put_rows` meets its contract: what is left, laid down from the position on, makes the lines of all pairs. Assumes nothing.
-use mathlib.Core.List.{List}
-use Prim.Native.Nat.{ℕ, ◌+◌, ◌-◌, ◌≤◌}
-use native.Mathlib.Omega.{arith}
+use Prim.Native.Nat.{◌-◌, ◌≤◌}
 use Rattle.text.specs.Listing.{pairs_text}
-use Rattle.text.specs.Sums.{sum_line, row_text, rows_text}
-use Rattle.text.proofs.RowLaws.{Left, left-room, left-next, left_end, left-row, rows_end, pairs_start}
+use Rattle.text.specs.Sums.{sum_line, rows_text}
+use Rattle.text.proofs.RowLaws.{Left}
 use Rattle.text.proofs.rows.put_rows.Given as goal
 
 abbrev pub invariant-loop-v : goal.invariant-loop-v

@@ -1,0 +1,15 @@
+-- `host_answers::calls::give_totals` meets its contract: case by case. Assumes nothing.
+use mathlib.Core.Path.{refl}
+use Rattle.host_answers.proofs.calls.give_totals.Goals as goal
+
+pub returns-in-Refused : goal.returns-in-Refused
+returns-in-Refused c = rw c.in-Refused.is (record {
+  number = refl;
+  res = c.give_three.ensures;
+})
+
+pub returns-in-Done : goal.returns-in-Done
+returns-in-Done c = rw c.in-Done.is (record {
+  number = refl;
+  res = c.give_three-in-Done.ensures;
+})
