@@ -1,6 +1,6 @@
 -- Several thresholds in one walk: document 02, request U8.
 -- Assumes nothing.
-use Rattle.std.specs.Prelude.{Bool, true, not, ◌&&◌, ◌||◌, List, [], ◌∷◌, ◌++◌, map, ℕ, suc, ◌+◌, ◌-◌, ◌*◌, ◌<◌, leb, ltb, length, get_or, drop, replicate}
+use Rattle.std.specs.Prelude.{Bool, true, not, ◌&&◌, ◌||◌, List, [], ◌∷◌, ◌++◌, map, ℕ, suc, ◌-◌, ◌*◌, ◌<◌, leb, ltb, length, get_or, drop, replicate}
 use Rattle.mass.specs.Refusal.{refuse, first, answered}
 use Rattle.mass.specs.Split.{whole}
 use Rattle.refusals.specs.Tests.{room_test}

@@ -1,10 +1,10 @@
 -- `thresholds::blocks::completes` meets its contract: the loop has set the first `i` flags. Assumes nothing.
 use borrow.Author.Rules.{rules}
 use mathlib.Core.Path.{◌≡◌, refl, sym, ◌∙◌}
-use Prim.Native.Nat.{ℕ, ◌-◌, ◌≤◌, ◌<◌}
+use Prim.Native.Nat.{◌<◌}
 use native.Mathlib.Omega.{arith}
 use lib.Dec.{ltb}
-use lib.ListN.{length, get_or, length-set}
+use lib.ListN.{length, length-set}
 use Rattle.sets.specs.Sets.{digit}
 use Rattle.thresholds.proofs.BlockLaws.{one-more-set, all_set}
 use Rattle.thresholds.proofs.blocks.completes.Goals as goal

@@ -1,12 +1,9 @@
 -- `thresholds::blocks::completes` meets its contract: the loop has set the first `i` flags. Assumes nothing.
-use borrow.Author.Rules.{rules}
-use mathlib.Core.Path.{◌≡◌, refl, sym, ◌∙◌}
+use mathlib.Core.Path.{◌≡◌}
 use Prim.Native.Nat.{ℕ, ◌-◌, ◌≤◌, ◌<◌}
-use native.Mathlib.Omega.{arith}
 use lib.Dec.{ltb}
-use lib.ListN.{length, get_or, length-set}
+use lib.ListN.{length, get_or}
 use Rattle.sets.specs.Sets.{digit}
-use Rattle.thresholds.proofs.BlockLaws.{one-more-set, all_set}
 use Rattle.thresholds.proofs.blocks.completes.Given as goal
 
 abbrev pub invariant-loop-i : goal.invariant-loop-i

@@ -1,5 +1,4 @@
 -- `thresholds::blocks::fill_blocks` meets its contract. Assumes nothing.
-use borrow.Author.Rules.{rules}
 use mathlib.Core.Path.{refl}
 use Rattle.thresholds.proofs.Filled.{may-raise, answers, lowers-laid, uppers-laid, blocks-enclosed}
 use Rattle.thresholds.proofs.blocks.fill_blocks.Goals as goal

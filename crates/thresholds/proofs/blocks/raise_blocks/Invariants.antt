@@ -1,9 +1,6 @@
 -- `thresholds::blocks::raise_blocks` meets its contract: the loop has raised the first `i` blocks. Assumes nothing.
-use mathlib.Core.Path.{◌≡◌}
 use Prim.Native.Nat.{◌-◌, ◌≤◌}
-use native.Mathlib.Omega.{arith}
 use Rattle.thresholds.specs.Steps.{Raised}
-use Rattle.thresholds.proofs.RaiseLaws.{none-raised, block-fits, entry-fits, start_fits, one_more}
 use Rattle.thresholds.proofs.blocks.raise_blocks.Given as goal
 
 abbrev pub invariant-loop-i : goal.invariant-loop-i

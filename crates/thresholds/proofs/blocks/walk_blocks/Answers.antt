@@ -1,5 +1,4 @@
 -- `thresholds::blocks::walk_blocks` meets its contract. Assumes nothing.
-use borrow.Author.Rules.{rules}
 use mathlib.Core.Path.{ap, ◌∙◌}
 use mathlib.Core.List.{List}
 use Prim.Native.Nat.{ℕ, ◌+◌, ◌*◌}
@@ -40,7 +39,7 @@ walk_thresholds-requires c =
       held = c.requires.held;
       falling_first = (falling-first a.list.now _ tested is, c.requires.cap_bound.0);
       fresh = fresh a.list.now _ tested is a.h _ _ _ _ a.lower.now _ c.requires.rooms_value c.copy_raised.ensures c.requires.list_in_bounds
-            (c.clear.ensures ∙ ap (λ (x : ℕ). sets a.lower.now 0 (replicate (x * length a.list.now) 0)) c.pair_count.ensures);
+          (c.clear.ensures ∙ ap (λ (x : ℕ). sets a.lower.now 0 (replicate (x * length a.list.now) 0)) c.pair_count.ensures);
     }
 
 pub returns : goal.returns

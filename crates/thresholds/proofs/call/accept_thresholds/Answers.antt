@@ -1,5 +1,4 @@
 -- `thresholds::call::accept_thresholds` meets its contract: the test that refuses first decides. Assumes nothing.
-use borrow.Author.Rules.{rules}
 use mathlib.Core.Path.{◌≡◌, sym, ap, subst, ◌∙◌}
 use native.Mathlib.Omega.{arith}
 use Rattle.plan.specs.LentLists.{Lent, in_words, lists_number}

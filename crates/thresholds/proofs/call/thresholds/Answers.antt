@@ -1,5 +1,4 @@
 -- `thresholds::call::thresholds` meets its contract: at each `return` the tests that led there decide the answer. Assumes nothing.
-use borrow.Author.Rules.{rules}
 use mathlib.Core.Path.{sym, ◌∙◌}
 use lib.ListN.{length}
 use Rattle.bounds.proofs.Outcome.{arrays-valid}

@@ -1,10 +1,8 @@
 -- `thresholds::lists::thresholds_test` meets its contract: the thresholds that are left fall as all do. Assumes nothing.
-use mathlib.Core.Path.{◌≡◌, refl, sym, ◌∙◌}
-use Prim.Native.Nat.{suc, ◌-◌, ◌≤◌}
+use mathlib.Core.Path.{refl, sym, ◌∙◌}
+use Prim.Native.Nat.{◌≤◌}
 use native.Mathlib.Omega.{arith}
-use lib.ListN.{length, drop}
-use Rattle.mass.specs.Split.{whole}
-use Rattle.thresholds.specs.Thresholds.{falls}
+use lib.ListN.{length}
 use Rattle.thresholds.proofs.TestLaws.{no-threshold, too_many, not-falling, test-passes, zero-stops, high-stops, falls-on, falls-end}
 use Rattle.thresholds.proofs.lists.thresholds_test.Goals as goal
 
