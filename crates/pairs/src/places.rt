@@ -27,6 +27,7 @@ pub fn place_of(n: usize, v: usize, w: usize) -> usize
 }
 
 // 13: a pair without v < w < N.
+#[tactic(auto, using(std::proofs::Common::tests))]
 pub fn pair_test(nodes: u64, v: u64, w: u64) -> u32
     ensures { result ≡ pair_test nodes v w }
 {

@@ -12,6 +12,7 @@ ghost use Rattle.refusals.specs.Tests.{ends_test, order_test, count_of_kind, mem
 pub use order::first_of;
 
 // 1: fewer than `need` bytes are left.
+#[tactic(auto, using(std::proofs::Common::tests))]
 pub fn short_test(left: usize, need: usize) -> u32
     ensures { result ≡ short_test left need }
 {
@@ -22,6 +23,7 @@ pub fn short_test(left: usize, need: usize) -> u32
 }
 
 // 2: the mark a b c is not x y z.
+#[tactic(auto, using(std::proofs::Common::tests))]
 pub fn mark_test(x: u64, y: u64, z: u64, a: u64, b: u64, c: u64) -> u32
     ensures { result ≡ mark_test x y z a b c }
 {
@@ -38,6 +40,7 @@ pub fn mark_test(x: u64, y: u64, z: u64, a: u64, b: u64, c: u64) -> u32
 }
 
 // 3: the version is not 1.
+#[tactic(auto, using(std::proofs::Common::tests))]
 pub fn version_test(version: u64) -> u32
     ensures { result ≡ version_test version }
 {
@@ -48,6 +51,7 @@ pub fn version_test(version: u64) -> u32
 }
 
 // 4: a count is out of range.
+#[tactic(auto, using(std::proofs::Common::tests))]
 pub fn counts_test(nodes: u64, links: u64, events: u64) -> u32
     ensures { result ≡ counts_test nodes links events }
 {
@@ -67,6 +71,7 @@ pub fn counts_test(nodes: u64, links: u64, events: u64) -> u32
 }
 
 // 5: the threshold is 0 or above one whole.
+#[tactic(auto, using(std::proofs::Common::tests))]
 pub fn threshold_test(t: u64) -> u32
     ensures { result ≡ threshold_test t }
 {
@@ -81,6 +86,7 @@ pub fn threshold_test(t: u64) -> u32
 }
 
 // 6: the cap is 0 or above 1,000,000.
+#[tactic(auto, using(std::proofs::Common::tests))]
 pub fn cap_test(cap: u64) -> u32
     ensures { result ≡ cap_test cap }
 {
@@ -94,6 +100,7 @@ pub fn cap_test(cap: u64) -> u32
 }
 
 // 7: a link end is N or more, or the first is not smaller than the second.
+#[tactic(auto, using(std::proofs::Common::tests))]
 pub fn ends_test(nodes: u64, low: u64, high: u64) -> u32
     ensures { result ≡ ends_test nodes low high }
 {
@@ -110,6 +117,7 @@ pub fn ends_test(nodes: u64, low: u64, high: u64) -> u32
 }
 
 // 9: a probability is above that of the event before.
+#[tactic(auto, using(std::proofs::Common::tests))]
 pub fn order_test(before: u64, q: u64) -> u32
     ensures { result ≡ order_test before q }
 {
@@ -174,6 +182,7 @@ pub fn reaches_wide(count: u64, low: u64, high: u64) -> bool
 }
 
 // 10, in a record: a set has a bit at or past the count.
+#[tactic(auto, using(std::proofs::Common::tests))]
 pub fn sets_test(nodes: u64, links: u64, set: u64, low: u64, high: u64) -> u32
     requires { (nodes ≤ 64) × (links ≤ 128) }
     ensures { result ≡ sets_test nodes links set (joined low high) }

@@ -36,6 +36,7 @@ fn product_test(fit: u64, hours: u64, extent: u64) -> u32
 }
 
 // 18: more than 128 lines.
+#[tactic(auto, using(std::proofs::Common::tests))]
 fn lines_test(lines: u64) -> u32
     ensures { result ≡ lines_test lines }
 {

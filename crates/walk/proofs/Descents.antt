@@ -383,3 +383,6 @@ delayed-some run at stack stack' some room laid =
 
     four : (count : ℕ) → Stack count at stack → drop (at - 4) stack' ≡ 129 ∷ run ∷ 0 ∷ 0 ∷ drop (at - 4 + 4) stack
     four count s = laid-words stack stack' (at - 4) 129 run 0 0 laid s.sized (omega (arith, s.within))
+
+-- for `delay`, whose goals have its test in their names
+pub ruleset delays = (delayed-none)

@@ -106,6 +106,7 @@ fn push(stack: &mut [u64; 512], at: usize, branch: StackEntry)
 }
 
 // The answer of a descent that stops at a mass.
+#[tactic(auto, using(std::proofs::Common::tests), unfolding(crate::specs::Steps::descent_of))]
 fn come_to(threshold: u64, at: usize, mass: u64, failing: Failing, run: u64) -> Descent
     ensures { result ≡ descent_of threshold at mass failing run }
 {
@@ -219,6 +220,7 @@ fn descend(
 }
 
 // Lays so many dropped ends down before those to come. Returns where the stack begins.
+#[tactic(auto, using(crate::proofs::Descents::delays))]
 fn delay(stack: &mut [u64; 512], at: usize, run: u64) -> usize
     requires { (at ≤ 512) × (0 < run → 4 ≤ at) }
     ensures { Delayed run at stack.old stack.new result }

@@ -12,6 +12,7 @@ ghost use Rattle.windows.specs.Windows.{window_test, minute_test, work_refusal};
 use network::Failed;
 
 // 21: the window breaks its range, or names a node or link that is not there.
+#[tactic(auto, using(std::proofs::Common::tests))]
 fn window_test(nodes: u64, links: u64, start: u64, end: u64, set: u64, low: u64, high: u64) -> u32
     requires { (nodes ≤ 64) × (links ≤ 128) }
     ensures { result ≡ window_test nodes links (window_of start end set low high) }
@@ -32,6 +33,7 @@ fn window_test(nodes: u64, links: u64, start: u64, end: u64, set: u64, low: u64,
 }
 
 // 22: the minute is above 10,079.
+#[tactic(auto, using(std::proofs::Common::tests))]
 fn minute_test(minute: u64) -> u32
     ensures { result ≡ minute_test minute }
 {
@@ -42,6 +44,7 @@ fn minute_test(minute: u64) -> u32
 }
 
 // 12: of so many words some are left over, which make no whole window.
+#[tactic(auto, using(std::proofs::Common::tests))]
 fn tail_test(words: usize) -> u32
     ensures { result ≡ refuse (not (eqb (words % 5) 0)) 12 }
 {
@@ -92,6 +95,7 @@ pub fn work_refusal(nodes: u64, links: u64, words: &[u64], minute: u64) -> u32
 }
 
 // Whether the minutes from `start` up to `end` hold a minute.
+#[tactic(auto, using(std::proofs::Common::tests))]
 fn in_window(start: u64, end: u64, minute: u64) -> bool
     ensures { result ≡ (leb start minute && ltb minute end) }
 {

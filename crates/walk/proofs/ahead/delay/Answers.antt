@@ -1,10 +1,8 @@
--- `walk::ahead::delay` meets its contract: no dropped end is laid down, or an entry that stands for so many. Assumes nothing.
+-- `walk::ahead::delay` meets its contract: no dropped end is laid down, or an entry that stands for so many. Where none is laid down, the check
+-- finds the proof. Assumes nothing.
 use native.Mathlib.Omega.{arith}
-use Rattle.walk.proofs.Descents.{delayed-none, delayed-some}
+use Rattle.walk.proofs.Descents.{delayed-some}
 use Rattle.walk.proofs.ahead.delay.Goals as goal
-
-pub returns-then-run-eq0 : goal.returns-then-run-eq0
-returns-then-run-eq0 c = delayed-none _ _ _ c.if-run-eq0.true
 
 pub overflow_sub-at : goal.overflow_sub-at
 overflow_sub-at c = omega (arith, c.requires.1 (omega arith))
