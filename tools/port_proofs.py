@@ -17,7 +17,7 @@ PATH = re.compile(r"(?<![\w.'·-])(" + WORD + r"|\))((?:\." + WORD + r")+)")
 
 
 def norm(word):
-    return re.sub(r"_lem$", "", re.sub(r"^(overflow|nonzero)-", "", re.sub("[-_]+", "-", word.replace("_lem", ""))))
+    return re.sub(r"^(overflow|nonzero)-", "", re.sub("[-_]+", "-", word.replace("_lem", ""))).lower()
 
 
 def blocks(text):
@@ -99,7 +99,7 @@ class Function:
             place = self.parent.get(place)
 
 
-FIXED = {"args", "requires", "ranges", "well_formed", "type_inv", "lifetimes", "pre", "fits"}
+FIXED = {"args", "requires", "ranges", "well_formed", "type_inv", "lifetimes", "pre", "fits", "well-formed"}
 SIMPLE = WORD
 
 
@@ -161,12 +161,13 @@ class Resolver:
                     changed = True
                     break
                 path = re.fullmatch(r"(§?" + WORD + r")((?:\." + WORD + r")+)", m.group(2).strip())
-                if path and path.group(1) in env and re.search(r"\.(ensures|requires)(\.\d)*$", path.group(2)):
+                if path and path.group(1) in env and re.search(r"\.(ensures|requires|pre)(\.\d)*$", path.group(2)):
                     root, place = env[path.group(1)]
                     parts = path.group(2)[1:].split(".")
                     while parts[0] == "before":
                         place = fn.parent.get(place)
                         parts = parts[1:]
+                    parts[0] = "requires" if parts[0] == "pre" else parts[0]
                     there = self.clauses_of(parts, None) if parts[0] in FIXED else self.step(parts, place, m.group(2), place)
                     if "§whole" in there[-1]:
                         text = text[: m.start()] + re.sub(
@@ -218,13 +219,16 @@ class Resolver:
                     return f"(goal.at.{need} {root}).{here}"
                 return f"§bare:{root}:{here}§"
             if rest[0] in FIXED:
-                rest = [{"pre": "requires", "fits": "ranges"}.get(rest[0], rest[0])] + rest[1:]
+                rest = [{"pre": "requires", "fits": "ranges", "well-formed": "well_formed"}.get(rest[0], rest[0])] + rest[1:]
                 if rest[0] in ("args", "ranges") and len(rest) > 1:
                     rest[1] = rest[1].replace("-", "_")
                 return ".".join([root] + self.clauses_of(rest, None))
             return ".".join([root] + self.step(rest, here, m.group(), env[root][1] if root in env else here))
 
         text = re.sub(r"(?<![\w.'·₀-₉-])(§?" + WORD + r")((?:\." + WORD + r")*)", sub, text)
+        # an array's elements stand as they are
+        text = re.sub(r"(?<![\w'-])length_unmapped ℕ " + WORD + r"(?:\." + WORD + r")* \d+ (?=" + WORD + r"\.)", "", text)
+        text = text.replace("elem_fits_field", "elem_Fits")
         # a test of `!b` says what b is
         text = re.sub(r"(?<![\w'-])not-(?:true|false) _ (" + WORD + r"\.if-not-" + WORD + r"\.(?:true|false))", r"\1", text)
         return text
@@ -501,7 +505,12 @@ def convert(path, entry, crate, func):
             body = res.turn(h["body"], {h["param"]: (root, h["place"])}, None, True)
             return "(" + in_helpers(body.strip(), depth + 1) + ")"
 
-        return re.sub(r"(?<![\w.'·-])(" + WORD + r") §bare:([^:]*):[^§]*§", sub, text)
+        text = re.sub(r"(?<![\w.'·-])(" + WORD + r") §bare:([^:]*):[^§]*§", sub, text)
+        # a tactic's list takes the facts of a tactic in it
+        inner = re.compile(r", \(omega \(\s*arith,\s*((?:[^()]|\((?:[^()]|\((?:[^()]|\([^()]*\))*\))*\))*)\)\)")
+        while inner.search(text):
+            text = inner.sub(lambda m: ", " + m.group(1).strip().rstrip(","), text)
+        return text
 
     head, uses, out, invs = [], [], [], []
     for item in items:
@@ -511,7 +520,7 @@ def convert(path, entry, crate, func):
             line = "\n".join(item[1])
             if re.search(r"\.(Statement\.\{statement\}|Tie as tie)", line):
                 continue
-            uses.append(line)
+            uses.append(line.replace("elem_fits_field", "elem_Fits"))
         elif item[0] == "raw":
             out.append("\n".join(item[1]))
             said.append("raw: " + item[1][0])
@@ -586,8 +595,31 @@ def convert(path, entry, crate, func):
         else:
             said.append(f"inline {new}: {a}")
             out.append(f"pub {new} : goal.{new}\n{new} c = {a} c")
+    pure = {}
+    for item in items:
+        if item[0] == "def" and item[3] in defs and "tie." not in item[4] and item[3] not in renamed:
+            pure[item[3]] = item
+    shared, text = [], "\n".join("\n".join(i[6]) for i in invs)
+    while True:
+        more = [n for n in pure if n not in shared and re.search(r"(?<![\w.'·-])" + re.escape(n) + r"(?![\w'-])", text)]
+        if not more:
+            break
+        shared += more
+        text += "\n".join("\n".join(pure[n][6]) + pure[n][4] for n in more)
+    kept = []
+    for n in pure:
+        if n in shared:
+            _, comment, marks, name, sig, unfold, eqs = pure[n]
+            whole = "\n".join(comment + [f"{marks}{name} : {sig}"] + ([unfold] if unfold else []) + eqs)
+            if whole in out:
+                out.remove(whole)
+            else:
+                said.append(f"{n} stands in both files")
+            kept.append("\n".join(comment + [f"{marks}pub {name} : {sig}"] + ([unfold] if unfold else []) + eqs))
+    res.shared = [n for n in shared if any(re.search(r"(?<![\w.'·-])" + re.escape(n) + r"(?![\w'-])", o) for o in out)]
+    res.kept = kept
     named = sorted({p for p in res.places if any(re.search(r"(?<![\w.-])" + re.escape(p) + r"(?![\w-])", o) for o in out)})
-    return (head, uses, out, invs, fn, named), said
+    return (head, uses, out, invs, fn, named, res), said
 
 
 def loop_of(fn, old):
@@ -597,9 +629,9 @@ def loop_of(fn, old):
     return None
 
 
-def write_invariants(folder, head, uses, invs, fn, base, said):
+def write_invariants(folder, head, uses, invs, fn, base, said, kept):
     """Invariants.antt: each parameter by position becomes a field of `l`."""
-    out = []
+    out = list(kept)
     for _, comment, marks, name, sig, unfold, eqs in invs:
         kind, old = re.match(r"(invariant|decreases)-(.*)", name).groups()
         found = loop_of(fn, old)
@@ -646,15 +678,17 @@ def main(argv):
             print(f"{func}: {s}")
         if got is None:
             continue
-        head, uses, out, invs, fn, named = got
+        head, uses, out, invs, fn, named, res = got
         base = f"Rattle.{os.path.basename(crate)}.proofs.{func.replace('/', '.')}"
         if invs:
             more = []
-            write_invariants(folder, head, uses, invs, fn, base, more)
+            write_invariants(folder, head, uses, invs, fn, base, more, res.kept)
             for s in more:
                 print(f"{func}: {s}")
         if out:
             text = "\n".join(head) + "\n" + "\n".join(uses) + ("\n" if uses else "")
+            if res.shared:
+                text += f"use {base}.Invariants.{{{', '.join(res.shared)}}}\n"
             if named:
                 text += f"use {base}.Goals.{{{', '.join(named)}}}\n"
             text += f"use {base}.Goals as goal\n\n" + "\n\n".join(out) + "\n"
