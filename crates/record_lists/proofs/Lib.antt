@@ -1,5 +1,3 @@
 -- Laws that the proofs of the crate `record_lists` share.
 pub mod EventLaws
 pub mod PlanLaws
-pub mod EventRow
-pub mod Lending

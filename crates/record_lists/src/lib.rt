@@ -1,5 +1,5 @@
-// Events as a lent list of records: document 01, section "Plan file". Every function that takes a list of records is proved by hand; each
-// is thin over covered functions on arrays and numbers. Assumes nothing.
+// Events as a lent list of records: document 01, section "Plan file". Every function that takes a list of records is thin over
+// functions on arrays and numbers. Assumes nothing.
 #![tactic(auto)]
 
 mod calls;

@@ -2,4 +2,3 @@
 pub mod ReadLaws
 pub mod StepLaws
 pub mod WholeLists
-pub mod Arrays

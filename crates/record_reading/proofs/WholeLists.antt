@@ -20,7 +20,10 @@ use Rattle.record_reading.specs.Filled.{event_records}
 use Rattle.record_lists.specs.declared.Event.{Event}
 use Rattle.record_lists.proofs.EventLaws.{length-words, words_append, drop-words}
 use Rattle.record_reading.proofs.ReadLaws.{words-event-records, length-event-words, length-events}
-use Rattle.record_lists.proofs.EventRow.{no-event}
+
+-- a record of zeros
+abbrev pub no-event : Event
+no-event = record { probability = 0; nodes = 0; links_low = 0; links_high = 0 }
 
 -- the lists before the reading
 abbrev pub no-links : List ℕ

@@ -1,6 +1,6 @@
 // A reader that keeps the caller's bytes and its position in them together, and hands the events over as a lent list of records: document
-// 01, section "Plan file". Every function that takes a list of records, or a reader, is proved by hand; each is thin over covered
-// functions on slices, arrays and numbers. Assumes nothing.
+// 01, section "Plan file". Every function that takes a list of records, or a reader, is thin over functions on slices, arrays and
+// numbers. Assumes nothing.
 #![tactic(auto)]
 
 mod members;
@@ -93,8 +93,7 @@ impl<'a> Reader<'a> {
     }
 }
 
-// A step of a reader made at a position, and the position of the reader after it: its contract says nothing of a reader, so whoever calls
-// it needs no walk by hand.
+// A step of a reader made at a position, and the position of the reader after it: its contract says nothing of a reader.
 pub fn read_member(s: &[u8], at: usize, nodes: u64, links: u64, least: u64) -> MemberRead
     ensures step { result.step ≡ step_of nodes links least (drop at s.now) }
     ensures position { result.at ≡ position_after (step_of nodes links least (drop at s.now)) at }

@@ -1,4 +1,4 @@
-// The members of an event, read by steps of the reader. No reader stands in this function, so it is no walk by hand.
+// The members of an event, read by steps of the reader. No reader stands in this function.
 ghost use Rattle.std.specs.Prelude.{◌≡◌, ◌+◌, ◌*◌, length, drop};
 ghost use Rattle.std.proofs.lemmas.List.Edits.{sets};
 ghost use Rattle.plan.specs.File.{members_refusal};

@@ -1,5 +1,5 @@
 // The run over all pairs with the events in a lent list of records: document 01, sections "Plan file" and "Bounds of a pair".
-// `run_records` is proved by hand, and is thin over `run_words`; `run_plan` takes a plan file in their place.
+// `run_records` is thin over `run_words`; `run_plan` takes a plan file in their place.
 // `copy_plan` reads a plan file into records and writes it again.
 // Assumes nothing.
 #![tactic(auto)]

@@ -1,5 +1,5 @@
-// Reading an equipment sheet into a lent list of records: document 02, request U2. The functions on lists of records are proved by hand;
-// each is thin over covered functions on arrays and numbers. Assumes nothing.
+// Reading an equipment sheet into a lent list of records: document 02, request U2. The functions on lists of records are thin
+// over functions on arrays and numbers. Assumes nothing.
 #![tactic(auto)]
 
 mod words;
