@@ -1,8 +1,8 @@
-// The test program of the run, and of the run with windows (`windows`). Each expected value stands beside its vector, taken from document
+// The test program of the run, and of the run with windows (`with_windows`). Each expected value stands beside its vector, taken from document
 // 01 or worked out by hand; a difference is printed, and `trials ended` is the last line. The stored output is that line alone.
 #![tactic(auto)]
 
-mod windows;
+mod with_windows;
 
 use bounds::Ran;
 use std::io;
@@ -14,7 +14,7 @@ fn main(rt: HostRuntime) -> io::Result<()> {
     halves(&rt, b"128 events of 1/2 at cap 1,000,000", 1_000_000)?;
     line(&rt)?;
     short(&rt)?;
-    windows::windows(&rt)?;
+    with_windows::windows(&rt)?;
     println!(rt; "trials ended")
 }
 

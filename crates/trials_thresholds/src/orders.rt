@@ -1,6 +1,6 @@
 // The tests of the plan, in their order: in each vector something of the plan that is tested later is wrong too. Every plan is refused with good
 // thresholds and room for the bounds, and with a threshold of 0 and no room. There is no 5.
-use crate::refusals::plan;
+use crate::refusing::plan;
 use std::io;
 
 // 4, 6, then 12: the list of links lacks a byte, that of events a word, link 0 falls, and event 0 is above 10^9.
