@@ -1,0 +1,14 @@
+-- `host_runs::run_at` meets its contract: the answer of the call is handed out. Assumes nothing.
+use mathlib.Core.Path.{refl}
+use Rattle.bounds.proofs.Answers.{ran-number}
+use Rattle.host_runs.proofs.run_at.Goals as goal
+
+pub returns : goal.returns
+returns c =
+    let e = c.run_at.ensures.answer in
+    let n = rw (e, ran-number) at c.give_totals.ensures.number in rw n (record {
+      number = refl;
+      lowers = rw (e, ran-number) at c.run_at.ensures.lowers;
+      uppers = rw (e, ran-number) at c.run_at.ensures.uppers;
+      res = rw e at c.give_totals.ensures.res;
+    })
