@@ -1,7 +1,6 @@
 -- `host_readings::downtime` meets its contract: the answer of the call is handed out. Assumes nothing.
 use mathlib.Core.Path.{refl}
 use Rattle.readings.proofs.NumberLaws.{timed-number}
-use borrow.Author.Rules.{rules}
 use Rattle.host_readings.proofs.downtime.Goals as goal
 
 pub returns : goal.returns

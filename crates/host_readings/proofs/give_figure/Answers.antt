@@ -1,7 +1,6 @@
 -- `host_readings::give_figure` meets its contract: a figure that was given has no NaN, so its bits may be taken. Assumes nothing.
 use mathlib.Core.Path.{refl}
 use Rattle.readings.proofs.FigureLaws.{given-numbers}
-use borrow.Author.Rules.{rules}
 use Rattle.host_readings.proofs.give_figure.Goals as goal
 
 pub give_bits-requires : goal.give_bits-requires
@@ -10,18 +9,18 @@ give_bits-requires c =
 
 pub returns-in-Refused : goal.returns-in-Refused
 returns-in-Refused c = rw c.in-Refused.is (record {
-      number = refl;
-      bits = c.give_three.ensures;
-    })
+  number = refl;
+  bits = c.give_three.ensures;
+})
 
 pub returns-in-NoFigure : goal.returns-in-NoFigure
 returns-in-NoFigure c = rw c.in-NoFigure.is (record {
-      number = refl;
-      bits = c.give_three-in-NoFigure.ensures;
-    })
+  number = refl;
+  bits = c.give_three-in-NoFigure.ensures;
+})
 
 pub returns-in-Given : goal.returns-in-Given
 returns-in-Given c = rw c.in-Given.is (record {
-      number = refl;
-      bits = c.give_bits.ensures;
-    })
+  number = refl;
+  bits = c.give_bits.ensures;
+})

@@ -1,6 +1,5 @@
 -- `host_readings::credit_words::credit` meets its contract: the answer of the call is handed out. Assumes nothing.
 use Rattle.credits.proofs.CreditPromise.{credited-number}
-use borrow.Author.Rules.{rules}
 use Rattle.host_readings.proofs.credit_words.credit.Goals as goal
 
 pub returns : goal.returns

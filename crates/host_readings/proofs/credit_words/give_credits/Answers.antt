@@ -9,9 +9,9 @@ use Rattle.host_readings.proofs.credit_words.give_credits.Goals as goal
 
 pub returns-in-Refused : goal.returns-in-Refused
 returns-in-Refused c = rw c.in-Refused.is (record {
-      number = refl;
-      res = c.give_three.ensures;
-    })
+  number = refl;
+  res = c.give_three.ensures;
+})
 
 pub returns-in-Given : goal.returns-in-Given
 returns-in-Given c =
