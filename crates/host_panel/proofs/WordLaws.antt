@@ -1,6 +1,6 @@
 -- What the calls on a walk in lent words answer, from what the calls below them gave.
 -- Assumes nothing.
-use mathlib.Core.Path.{◌≡◌, refl, sym, ◌∙◌}
+use mathlib.Core.Path.{◌≡◌, refl, sym, ap, ◌∙◌}
 use mathlib.Core.List.{List, [], ◌∷◌}
 use Prim.Native.Nat.{ℕ, zero, suc, ◌≤◌, ◌<◌}
 use native.Mathlib.Omega.{arith}
@@ -17,7 +17,9 @@ use Rattle.bounds.specs.Calls.{ran_answer, pair_answer}
 use Rattle.bounds.specs.declared.Totals.{Totals}
 use Rattle.bounds.specs.declared.PairBounds.{PairBounds}
 use Rattle.walk_state.specs.States.{walk_answer}
+use Rattle.panel.specs.Walks.{root_walk}
 use Rattle.panel.specs.Calls.{WentOn}
+use Rattle.walk_state.specs.declared.WalkAnswer.{WalkAnswer}
 use Rattle.walk_state.specs.declared.Walk.{Walk}
 use Rattle.panel.specs.declared.GoneOn.{GoneOn}
 use Rattle.walk_words.specs.WalkWords.{walk_length, walk_words, walk_of}
@@ -46,6 +48,15 @@ module _ (h : Header) (links events state : List ℕ) (lists : ℕ) (is : lists 
   pub room-decides : lists ≡ 0 → {r : ℕ} → r ≡ room_test (length state) walk_length → r ≡ begin_number (in_words h links events) (length state)
   unfolding begin_number
   room-decides none e = skip _ is none (last e)
+
+-- for `begin`, one of whose goals has its test in its name
+module _ (h : Header) (links events : List ℕ) (size : ℕ) (r : WalkAnswer) where
+  pub begin-refused : r ≡ walk_answer (lists_number (in_words h links events)) (root_walk h links events) → (r.number ≡ 0 → ⊥)
+      → r.number ≡ begin_number (in_words h links events) size
+  unfolding begin_number
+  begin-refused e some = stop _ (ap (λ (x : WalkAnswer). x.number) e ∙ answer-number _ _) some
+
+pub ruleset begins = (begin-refused)
 
 -- ---- go on
 

@@ -24,6 +24,7 @@ use walk_words::{WORDS, lay, pack, walk_of};
 
 // Begins the walk of a plan in lent lists, and lays it down in the state. Refused as the lists are, then with 12 where the state is too
 // short for a walk.
+#[tactic(auto, using(crate::proofs::WordLaws::begins))]
 pub fn begin(h: Header, links: &[u8], events: &[u64], state: &mut [u64]) -> u32
     ensures number { result ≡ begin_number (in_words h links.now events.now) (length state.old) }
     ensures state { state.new ≡ filled result (walk_words

@@ -16,6 +16,7 @@ use thresholds_walk::{WorksPath, ends_of};
 use walk::Failing;
 
 // 1 where a path's scenario, with its mass, is examined by the walk with a threshold of which so much room is left, else 0.
+#[tactic(auto, using(std::proofs::Common::tests))]
 fn examined_by(threshold: u64, room: u64, last: u64) -> u64
     ensures { result ≡ examined_by threshold room last }
 {

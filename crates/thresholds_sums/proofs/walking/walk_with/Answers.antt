@@ -1,7 +1,7 @@
 -- `thresholds_sums::walking::walk_with` meets its contract. The loop's invariant: for each threshold under way, what was reached and what is to
 -- come give its plan's answers; all else is untouched. The measure: how many ends of the lowest are to come, then how many branches are
--- pending. Assumes nothing.
-use mathlib.Core.Logic.{inl, inr}
+-- pending. Where the cap is reached, the check finds the proof. Assumes nothing.
+use mathlib.Core.Logic.{inr}
 use native.Mathlib.Omega.{arith}
 use Rattle.thresholds_sums.proofs.Turns.{path-fits, counts-fit, decided, all-counted-on, kept-begin, kept_on}
 use Rattle.thresholds_sums.proofs.walking.walk_with.Goals as goal
@@ -28,19 +28,6 @@ offset_bounds-rooms-active c = omega (arith, c.requires.falling_first.0.few)
 pub bounds-rooms-active : goal.bounds-rooms-active
 bounds-rooms-active c =
     omega (arith, c.requires.falling_first.0.few, c.requires.falling_first.1)
-
-pub shape_of-lower-then-rooms-active-eq0 : goal.shape_of-lower-then-rooms-active-eq0
-shape_of-lower-then-rooms-active-eq0 c = c.loop-at.invariant.2.sized
-
-pub returns-then-rooms-active-eq0 : goal.returns-then-rooms-active-eq0
-returns-then-rooms-active-eq0 c =
-    let inv = c.loop-at.invariant in
-    record {
-      shared_stack_2 = inv.0;
-      all_counted_so_far_2 = inv.1;
-      kept = inv.2;
-      fact = inl c.if-rooms-active-eq0.true;
-    }
 
 pub next_path-path-requires : goal.next_path-path-requires
 next_path-path-requires c =
