@@ -77,7 +77,8 @@ pub fn go_on(state: &mut [u64], quota: &mut [u64], k: u64, reached: &mut [u64]) 
     }
     let left = first_word(quota);
     let r = panel::go_on(walk_of(state), Quota { left }, k);
-    keep(r.reached, r.walk, state);
+    let walk = r.walk;
+    keep(r.reached, walk, state);
     put(quota, 0, r.quota.left);
     put(reached, 0, r.reached);
     r.number
