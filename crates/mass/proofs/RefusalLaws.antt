@@ -1,11 +1,13 @@
 -- Laws of the first refusal met, and of the answer that follows from its number.
 -- Assumes nothing.
-use mathlib.Core.Path.{◌≡◌, refl, ap, ◌∙◌}
+use mathlib.Core.Path.{◌≡◌, refl, sym, ap, ◌∙◌}
 use mathlib.Core.Bool.{Bool, true, false}
-use mathlib.Core.List.{List, ◌∷◌}
+use mathlib.Core.List.{List, [], ◌∷◌}
 use Prim.Native.Nat.{ℕ, zero, suc}
 use native.Mathlib.Omega.{arith}
-use Rattle.mass.specs.Refusal.{refuse, first, answered}
+use Rattle.mass.specs.Refusal.{refuse, first, number, number_in}
+use Rattle.mass.specs.declared.refusal.Refusal.{Refusal}
+use Rattle.mass.specs.declared.refusal.Refusal.TheVariants as refusal
 
 -- law: a test that does not refuse leaves the decision to the later ones
 pub first-skip : (number : ℕ) (later : List ℕ) → number ≡ 0 → first (number ∷ later) ≡ first later
@@ -35,22 +37,49 @@ refuse-none true number e = absurd (nothing e)
     nothing h = omega arith
 refuse-none false number e = refl
 
-module _ {A : Type 0} (refused : ℕ → A) (done : A) where
-  -- law: a number that is not 0 refuses
-  pub answered-refused : (number : ℕ) → (number ≡ 0 → ⊥) → refused number ≡ answered refused done number
-  answered-refused zero n = absurd (n refl)
-  answered-refused (suc number) n = refl
+-- law: a refusal has a number that is not 0
+pub number-some : (r : Refusal) → number r ≡ 0 → ⊥
+number-some refusal.BytesEnd e = absurd (omega arith)
+number-some refusal.Mark e = absurd (omega arith)
+number-some refusal.Version e = absurd (omega arith)
+number-some refusal.Counts e = absurd (omega arith)
+number-some refusal.Threshold e = absurd (omega arith)
+number-some refusal.Cap e = absurd (omega arith)
+number-some refusal.LinkEnds e = absurd (omega arith)
+number-some refusal.Probability e = absurd (omega arith)
+number-some refusal.Order e = absurd (omega arith)
+number-some refusal.Member e = absurd (omega arith)
+number-some refusal.BytesLeft e = absurd (omega arith)
+number-some refusal.Room e = absurd (omega arith)
+number-some refusal.Pair e = absurd (omega arith)
+number-some refusal.NoWitness e = absurd (omega arith)
+number-some refusal.ListFull e = absurd (omega arith)
+number-some refusal.Mass e = absurd (omega arith)
+number-some refusal.Product e = absurd (omega arith)
+number-some refusal.Lines e = absurd (omega arith)
+number-some refusal.Quota e = absurd (omega arith)
+number-some refusal.Terms e = absurd (omega arith)
+number-some refusal.Window e = absurd (omega arith)
+number-some refusal.Minute e = absurd (omega arith)
+number-some refusal.Thresholds e = absurd (omega arith)
 
-  -- law: the call refuses with the number of a test that is the call's
-  pub refuses : {number refusal : ℕ} → number ≡ refusal → (number ≡ 0 → ⊥) → refused number ≡ answered refused done refusal
-  refuses {number} e n = answered-refused number n ∙ ap (answered refused done) e
+-- ---- the order of tests, for code that ends with the first `Err`
 
-  -- law: the call gives what was asked for
-  pub gives : {number : ℕ} → number ≡ 0 → done ≡ answered refused done number
-  gives e = rw e refl
+-- law: a test that refuses decides
+pub stops : (r : Refusal) {n : ℕ} (later : List ℕ) → number r ≡ n → number r ≡ first (n ∷ later)
+stops r later e = e ∙ sym (first-stop _ later (λ z. number-some r (e ∙ z)))
 
-  -- law: the number of an answer is the number that it follows from
-  pub answered-number : (number_of : A → ℕ) → number_of done ≡ 0 → ((n : ℕ) → number_of (refused n) ≡ n) → (number : ℕ)
-      → number_of (answered refused done number) ≡ number
-  answered-number number_of d r zero = d
-  answered-number number_of d r (suc number) = r (suc number)
+-- law: a test that passes leaves the decision to the later ones
+pub passes : {x n : ℕ} (later : List ℕ) → 0 ≡ n → x ≡ first later → x ≡ first (n ∷ later)
+passes {n = n} later z e = e ∙ sym (first-skip n later (sym z))
+
+-- law: the last test decides
+pub last : {x n : ℕ} → x ≡ n → x ≡ first (n ∷ [])
+unfolding first
+last {x} {n} e = go n e
+  where
+    go : (n : ℕ) → x ≡ n → x ≡ first (n ∷ [])
+    go zero h = h
+    go (suc n) h = h
+
+pub ruleset refuses = (stops, passes, last)

@@ -1,11 +1,9 @@
 -- Units and the splitting of mass: document 01, section "Units and the splitting of mass".
 -- Assumes nothing.
 use Rattle.std.specs.Prelude.{[], ◌∷◌, ℕ, ◌-◌, ◌*◌, ◌/◌, ltb}
-use Rattle.mass.specs.Refusal.{refuse, first, answered}
+use Rattle.mass.specs.Refusal.{refuse, first}
 use Rattle.mass.specs.declared.Mass.{Mass}
 use Rattle.mass.specs.declared.BothParts.{BothParts}
-use Rattle.mass.specs.declared.Parts.{Parts}
-use Rattle.mass.specs.declared.Parts.TheVariants.{Refused, Split}
 
 -- an event probability of 1, in units of 10^-9
 abbrev pub certain : ℕ
@@ -42,11 +40,3 @@ units m = record { units = m }
 -- the split itself: both parts of the mass m at an event of probability q
 abbrev pub both_parts : ℕ → ℕ → BothParts
 both_parts m q = record { fails = units (failing m q); works = units (working m q) }
-
--- the answer of a split
-abbrev pub parts_answer : ℕ → BothParts → Parts
-parts_answer number parts = answered Refused (Split parts.fails parts.works) number
-
--- what splitting the mass m at an event of probability q answers
-unfoldable pub split_of : ℕ → ℕ → Parts
-split_of m q = parts_answer (split_refusal m q) (both_parts m q)

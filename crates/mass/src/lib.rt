@@ -2,8 +2,13 @@
 // Assumes nothing.
 #![tactic(auto)]
 
-ghost use Rattle.std.specs.Prelude.{◌≡◌, ◌*◌, ◌/◌, ◌≤◌};
-ghost use Rattle.mass.specs.Split.{certain, whole, both_parts, split_of, mass_test, probability_test};
+mod refusal;
+
+ghost use Rattle.std.specs.Prelude.{◌≡◌, ◌*◌, ◌/◌, ◌≤◌, IfOk};
+ghost use Rattle.mass.specs.Refusal.{number_in};
+ghost use Rattle.mass.specs.Split.{certain, whole, both_parts, split_refusal, mass_test, probability_test};
+
+pub use refusal::{Refusal, number_in};
 
 // An event probability of 1, in units of 10^-9.
 pub const CERTAIN: u64 = 1_000_000_000;
@@ -19,13 +24,6 @@ pub struct Mass {
 pub struct BothParts {
     pub fails: Mass,
     pub works: Mass,
-}
-
-// What a split answers: the number of the refusal, or the two parts.
-#[derive(Clone, Copy)]
-pub enum Parts {
-    Refused(u32),
-    Split { fails: Mass, works: Mass },
 }
 
 impl Mass {
@@ -58,41 +56,27 @@ impl Mass {
     }
 
     // The split of any mass at any probability: the tests, then the split itself.
-    pub fn split(self, q: u64) -> Parts
-        ensures { result ≡ split_of self.units q }
+    #[tactic(auto, using(crate::proofs::RefusalLaws::refuses))]
+    pub fn split(self, q: u64) -> Result<BothParts, Refusal>
+        ensures number { number_in result ≡ split_refusal self.units q }
+        ensures parts { IfOk result (λ b. b ≡ both_parts self.units q) }
     {
-        let heavy = mass_test(self.units);
-        if heavy != 0 {
-            return Parts::Refused(heavy);
-        }
-        let above = probability_test(q);
-        if above != 0 {
-            return Parts::Refused(above);
-        }
-        let both = self.both_parts(q);
-        let fails = both.fails;
-        let works = both.works;
-        Parts::Split { fails, works }
+        mass_test(self.units)?;
+        probability_test(q)?;
+        Ok(self.both_parts(q))
     }
 }
 
-// Refusal 16, or 0.
-pub fn mass_test(m: u64) -> u32
-    ensures { result ≡ mass_test m }
+// 16: the mass is above one whole.
+pub fn mass_test(m: u64) -> Result<(), Refusal>
+    ensures { number_in result ≡ mass_test m }
 {
-    let most = Mass::WHOLE.units;
-    if most < m {
-        return 16;
-    }
-    0
+    Refusal::Mass.when(Mass::WHOLE.units < m)
 }
 
-// Refusal 8, or 0.
-pub fn probability_test(q: u64) -> u32
-    ensures { result ≡ probability_test q }
+// 8: the probability is above 1.
+pub fn probability_test(q: u64) -> Result<(), Refusal>
+    ensures { number_in result ≡ probability_test q }
 {
-    if CERTAIN < q {
-        return 8;
-    }
-    0
+    Refusal::Probability.when(CERTAIN < q)
 }

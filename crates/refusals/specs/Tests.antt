@@ -1,7 +1,7 @@
 -- The tests of document 01's table "Refused", one definition each: the number, or 0. Number 8 is `probability_test` of the crate `mass`.
 -- Assumes nothing.
-use Rattle.std.specs.Prelude.{not, ◌||◌, ◌&&◌, ℕ, zero, suc, ◌+◌, ◌*◌, ◌^◌, ltb, leb, eqb}
-use Rattle.mass.specs.Refusal.{refuse}
+use Rattle.std.specs.Prelude.{[], ◌∷◌, not, ◌||◌, ◌&&◌, ℕ, zero, suc, ◌+◌, ◌*◌, ◌^◌, ltb, leb, eqb}
+use Rattle.mass.specs.Refusal.{refuse, first}
 use Rattle.mass.specs.Split.{whole}
 
 -- 1: fewer than `need` bytes are left
@@ -27,6 +27,10 @@ threshold_test t = refuse (ltb t 1 || ltb whole t) 5
 -- 6: the cap is 0 or above 1,000,000
 abbrev pub cap_test : ℕ → ℕ
 cap_test cap = refuse (ltb cap 1 || ltb 1000000 cap) 6
+
+-- "4 to 6"
+abbrev pub numbers_test : ℕ → ℕ → ℕ → ℕ → ℕ → ℕ
+numbers_test nodes links events t cap = first (counts_test nodes links events ∷ threshold_test t ∷ cap_test cap ∷ [])
 
 -- 7: a link end is N or more, or the first is not smaller than the second
 abbrev pub ends_test : ℕ → ℕ → ℕ → ℕ
