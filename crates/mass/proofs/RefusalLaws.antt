@@ -1,8 +1,11 @@
 -- Laws of the first refusal met, and of the answer that follows from its number.
 -- Assumes nothing.
+use Rattle.std.specs.Prelude.{Result, Ok, Err, OnOk}
+use Rattle.std.specs.Result.{IsErr, IsErrAnd}
+use Rattle.std.proofs.lemmas.Result.{err_from_is_err_and}
 use mathlib.Core.Path.{◌≡◌, refl, sym, ap, ◌∙◌}
 use mathlib.Core.Bool.{Bool, true, false}
-use mathlib.Core.List.{List, [], ◌∷◌}
+use mathlib.Core.List.{List, [], ◌∷◌, ◌++◌}
 use Prim.Native.Nat.{ℕ, zero, suc}
 use native.Mathlib.Omega.{arith}
 use Rattle.mass.specs.Refusal.{refuse, first, number, number_in}
@@ -81,5 +84,27 @@ last {x} {n} e = go n e
     go : (n : ℕ) → x ≡ n → x ≡ first (n ∷ [])
     go zero h = h
     go (suc n) h = h
+
+-- law: a `?` that hands a refusal on has its number
+pub hands-on : {T : Type 0} {n : ℕ} (r : Refusal) (result : Result T Refusal) → IsErr result × IsErrAnd result (λ y. y ≡ r) → number r ≡ n → number_in result ≡ n
+hands-on r result e h = let p = err_from_is_err_and result e.1 in rw (p.1, p.2) h
+
+-- law: what holds where the number is 0 holds of an answer that is given
+pub when-given : {T P : Type 0} (result : Result T Refusal) → (number_in result ≡ 0 → P) → OnOk result P
+when-given (Ok given) h = h refl
+when-given (Err r) h = tt
+
+-- law: a run of tests inside a longer list is one test: the first of the run
+pub first_run : (run rest : List ℕ) → first (first run ∷ rest) ≡ first (run ++ rest)
+unfolding first
+first_run [] rest = refl
+first_run (zero ∷ run) rest = first_run run rest
+first_run (suc n ∷ run) rest = refl
+
+pub stops-run : (r : Refusal) (run later : List ℕ) → number r ≡ first run → number r ≡ first (run ++ later)
+stops-run r run later e = stops r later e ∙ first_run run later
+
+pub passes-run : {x : ℕ} (run later : List ℕ) → 0 ≡ first run → x ≡ first later → x ≡ first (run ++ later)
+passes-run run later z e = passes later z e ∙ first_run run later
 
 pub ruleset refuses = (stops, passes, last)

@@ -14,12 +14,9 @@ use Rattle.mass.specs.Split.{certain}
 use Rattle.refusals.specs.Tests.{short_test, count_of_kind, rank, counts_test}
 use Rattle.plan.specs.File.{header_refusal, links_refusal, member_refusal, members_refusal, event_refusal, events_refusal, event_size}
 use Rattle.plan.specs.File.{probability_in, refusal, nodes_in, links_in, events_in}
-use Rattle.plan.specs.Calls.{element_of, step_of}
-use Rattle.plan.specs.declared.Element.{Element}
-use Rattle.plan.specs.declared.Step.TheVariants as step
 use Rattle.refusals.proofs.TestLaws.{or-none}
 use Rattle.plan.proofs.FileLaws.{suc-sub-one}
-use Rattle.plan.proofs.FileLawsSteps.{step-go, member-step, links-step, members_step, event-step, events-step}
+use Rattle.plan.proofs.FileLawsSteps.{member-step, links-step, members_step, event-step, events-step}
 
 -- ---- what acceptance says of the bytes that are there
 
@@ -102,17 +99,6 @@ member-accepted nodes links least at s e =
     let f = first-none _ _ (sym (member-step nodes links least at s) ∙ e) in
     let g = or-none _ _ (refuse-none _ 9 (first-none _ _ f.1).0) in
     (leb-false _ _ g.0, ltb-false _ _ g.1)
-
--- so it is read, and is never refused
-pub step-accepted : (nodes links least at : ℕ) (s : List ℕ) → member_refusal nodes links least (drop at s) ≡ 0
-    → step_of nodes links least (drop at s) ≡ step.Member (element_of (get_or s at 0) (get_or s (at + 1) 0))
-step-accepted nodes links least at s e = sym (step-go nodes links least at s (sym e) refl)
-
-pub step-element : (a b : Element) → step.Member a ≡ step.Member b → a ≡ b
-step-element a b e = cc
-
-pub step-never : (number : ℕ) (e : Element) → step.Refused number ≡ step.Member e → ⊥
-step-never number e h = let z : ◌≡◌ {A = ℕ} 0 1 = cc in omega arith
 
 -- ---- an accepted plan
 

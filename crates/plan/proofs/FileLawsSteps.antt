@@ -7,14 +7,11 @@ use native.Mathlib.Nat.{add-zero, not-suc-le-zero}
 use lib.ListN.{length, get_or, drop}
 use lib.Seq.{drop-drop, get_or-drop}
 use Rattle.mass.specs.Refusal.{first}
-use Rattle.mass.proofs.RefusalLaws.{refuses, answered-number}
 use Rattle.mass.specs.Split.{probability_test}
 use Rattle.refusals.specs.Tests.{short_test, ends_test, order_test, member_test, rank, left_test}
 use Rattle.plan.specs.File.{links_refusal, member_refusal, members_refusal, event_refusal, events_refusal, event_size, probability_in}
-use Rattle.plan.specs.Calls.{element_of, step_of, step_number}
-use Rattle.plan.specs.declared.Element.{Element}
+use Rattle.plan.specs.Calls.{element_of}
 use Rattle.plan.specs.declared.Element.TheVariants.{Link}
-use Rattle.plan.specs.declared.Step.TheVariants as step
 use Rattle.plan.proofs.FileLaws.{suc-sub-one}
 
 -- ---- a member
@@ -22,24 +19,6 @@ use Rattle.plan.proofs.FileLaws.{suc-sub-one}
 pub element-link : (kind number : ℕ) → (kind ≡ 0 → ⊥) → Link number ≡ element_of kind number
 element-link zero number h = absurd (h refl)
 element-link (suc kind) number h = refl
-
--- the number of a member's answer
-pub step-number : (nodes links least : ℕ) (b : List ℕ) → step_number (step_of nodes links least b) ≡ member_refusal nodes links least b
-unfolding step_of
-step-number nodes links least b = answered-number step.Refused _ step_number refl (λ n. refl) (member_refusal nodes links least b)
-
--- the answer of a member that is refused
-pub step-stop : (nodes links least : ℕ) (b : List ℕ) {r : ℕ} → r ≡ member_refusal nodes links least b → (r ≡ 0 → ⊥) → step.Refused r ≡ step_of nodes links least b
-unfolding step_of
-step-stop nodes links least b e h = refuses step.Refused _ e h
-
--- and of one that is not
-pub step-go : (nodes links least at : ℕ) (s : List ℕ) {element : Element}
-    → 0 ≡ member_refusal nodes links least (drop at s)
-    → element ≡ element_of (get_or s at 0) (get_or s (at + 1) 0)
-    → step.Member element ≡ step_of nodes links least (drop at s)
-unfolding step_of
-step-go nodes links least at s e h = rw (← e, get_or-drop at s 0 0, get_or-drop at s 1 0, add-zero, ← h)
 
 -- a member's tests, from its position on
 pub member-step : (nodes links least at : ℕ) (s : List ℕ)

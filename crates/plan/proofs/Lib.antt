@@ -4,4 +4,3 @@ pub mod FileLawsSteps
 pub mod FileLawsAccepted
 pub mod HeldLaws
 pub mod FilledLaws
-pub mod AnswerLaws

@@ -15,7 +15,8 @@ pub fn left_of(s: &[u8], at: usize) -> usize
 // The byte at a position.
 pub fn byte_at(s: &[u8], at: usize) -> u64
     requires { at < length s.now }
-    ensures { (result ≡ get_or s.now at 0) × (result < 256) }
+    ensures is { result ≡ get_or s.now at 0 }
+    ensures below { result < 256 }
 {
     s[at] as u64
 }

@@ -24,24 +24,3 @@ pub enum Element {
     Node(u64),
     Link(u64),
 }
-
-// What reading a member answers: the number of the refusal, or the member.
-#[derive(Clone, Copy)]
-pub enum Step {
-    Refused(u32),
-    Member(Element),
-}
-
-// What reading a plan answers.
-#[derive(Clone, Copy)]
-pub enum Reading {
-    Refused(u32),
-    Accepted(Header),
-}
-
-// What writing a plan answers: the number of the refusal, or how many bytes were laid down.
-#[derive(Clone, Copy)]
-pub enum Writing {
-    Refused(u32),
-    Written(usize),
-}

@@ -9,13 +9,14 @@ use native.Mathlib.Omega.{arith}
 use lib.ListN.{length, get_or, take, drop, set}
 use lib.Seq.{sets, take-suc, length-take-le, get_or-drop, drop-drop}
 use Rattle.mass.specs.Refusal.{first}
-use Rattle.mass.proofs.RefusalLaws.{first-skip, first-stop}
+use Rattle.mass.specs.Refusal.{number}
+use Rattle.mass.specs.declared.refusal.Refusal.{Refusal}
+use Rattle.mass.proofs.RefusalLaws.{first-skip, stops}
 use Rattle.mass.specs.Split.{probability_test}
 use Rattle.sets.specs.Sets.{joined}
 use Rattle.plan.specs.Plan.{Link, Event}
 use Rattle.plan.specs.Lists.{links_of, events_of}
 use Rattle.refusals.specs.Tests.{ends_test, order_test, sets_test}
-use Rattle.refusals.proofs.OrderLaws.{stop, skip, last, first_run}
 use Rattle.plan.specs.LentLists.{link_list_refusal, event_list_refusal}
 
 -- storing a, then b after it
@@ -63,21 +64,17 @@ unfolding events_of
 events-next words at zero h = absurd (omega arith)
 events-next words at (suc left) h = simp (get_or-drop, drop-drop, add-zero, less_one)
 
--- a number that is not 0 decides, under a test that it equals
-pub decides : (r number : ℕ) (later : List ℕ) → r ≡ number → (r ≡ 0 → ⊥) → r ≡ first (number ∷ later)
-decides r number later e n = e ∙ sym (first-stop number later (λ z. n (e ∙ z)))
-
 -- the next link decides, or leaves it to the others
 module _ (nodes : ℕ) (bytes : List ℕ) (at left : ℕ) (some : 0 < left) where
-  pub link-decides : (r : ℕ) → r ≡ ends_test nodes (get_or bytes at 0) (get_or bytes (at + 1) 0) → (r ≡ 0 → ⊥)
-      → r ≡ link_list_refusal nodes (links_of left (drop at bytes))
+  pub link-decides : (r : Refusal) → number r ≡ ends_test nodes (get_or bytes at 0) (get_or bytes (at + 1) 0)
+      → number r ≡ link_list_refusal nodes (links_of left (drop at bytes))
   unfolding link_list_refusal
-  link-decides r e n = rw (links-next bytes at left some) (stop _ e n)
+  link-decides r e = rw (links-next bytes at left some) (stops r _ e)
 
-  pub link-passes : ends_test nodes (get_or bytes at 0) (get_or bytes (at + 1) 0) ≡ 0
+  pub link-passes : 0 ≡ ends_test nodes (get_or bytes at 0) (get_or bytes (at + 1) 0)
       → link_list_refusal nodes (links_of (left - 1) (drop (at + 2) bytes)) ≡ link_list_refusal nodes (links_of left (drop at bytes))
   unfolding link_list_refusal
-  link-passes e = rw (links-next bytes at left some) (sym (first-skip _ _ e))
+  link-passes e = rw (links-next bytes at left some) (sym (first-skip _ _ (sym e)))
 
 -- no link is left, and none is refused
 pub links_end : (nodes left : ℕ) (bytes : List ℕ) → left ≤ 0 → 0 ≡ link_list_refusal nodes (links_of left bytes)
@@ -85,31 +82,17 @@ unfolding link_list_refusal links_of first
 links_end nodes zero bytes h = refl
 links_end nodes (suc left) bytes h = absurd (omega arith)
 
--- the tests 8, 9 and 10 of the event at a position
-abbrev pub event_tests : ℕ → ℕ → ℕ → List ℕ → ℕ → List ℕ
-event_tests nodes links before words at =
-    probability_test (get_or words at 0)
+-- the tests 8, 9 and 10 of the event at a position, then the events after it
+pub events-step : (nodes links before : ℕ) (words : List ℕ) (at left : ℕ) → 0 < left
+    → first
+    (probability_test (get_or words at 0)
     ∷ order_test before (get_or words at 0)
     ∷ sets_test nodes links (event_at words at).nodes (event_at words at).links
-    ∷ []
-
--- the next event decides by its tests, or leaves it to the others
-module _ (nodes links before : ℕ) (words : List ℕ) (at left : ℕ) (some : 0 < left) where
-  abbrev tests : List ℕ
-  tests = event_tests nodes links before words at
-
-  event-run : first (first tests ∷ event_list_refusal nodes links (get_or words at 0) (events_of (left - 1) (drop (at + 4) words)) ∷ [])
-      ≡ event_list_refusal nodes links before (events_of left (drop at words))
-  unfolding event_list_refusal
-  event-run = rw (events-next words at left some) (first_run tests _)
-
-  pub event-decides : (r : ℕ) → r ≡ first tests → (r ≡ 0 → ⊥) → r ≡ event_list_refusal nodes links before (events_of left (drop at words))
-  event-decides r e n = stop _ e n ∙ event-run
-
-  pub event-passes : first tests ≡ 0
-      → event_list_refusal nodes links (get_or words at 0) (events_of (left - 1) (drop (at + 4) words))
-      ≡ event_list_refusal nodes links before (events_of left (drop at words))
-  event-passes e = skip _ refl e (last refl) ∙ event-run
+    ∷ event_list_refusal nodes links (get_or words at 0) (events_of (left - 1) (drop (at + 4) words))
+    ∷ [])
+    ≡ event_list_refusal nodes links before (events_of left (drop at words))
+unfolding event_list_refusal
+events-step nodes links before words at left some = rw (events-next words at left some)
 
 -- no event is left, and none is refused
 pub events-end : (nodes links before left : ℕ) (words : List ℕ) → left ≤ 0 → 0 ≡ event_list_refusal nodes links before (events_of left words)

@@ -3,13 +3,15 @@
 // Assumes nothing.
 #![tactic(auto)]
 
-ghost use Rattle.std.specs.Prelude.{◌≡◌, ◌+◌, ◌*◌, ◌≤◌, min, length, take};
+ghost use Rattle.std.specs.Prelude.{◌≡◌, ◌+◌, ◌*◌, ◌≤◌, min, length, take, OnOk};
 ghost use Rattle.std.proofs.lemmas.List.Edits.{sets};
+ghost use Rattle.mass.specs.Refusal.{number_in};
 ghost use Rattle.mass.specs.Split.{certain};
 ghost use Rattle.plan.specs.Lists.{links_of, events_of};
 ghost use Rattle.plan.specs.LentLists.{link_list_refusal, event_list_refusal, in_words, lists_number};
 ghost use Rattle.plan_lists.specs.Taken.{Taken};
 
+use mass::Refusal;
 use plan::{Header, byte_at};
 
 // Lays the first `count` bytes of a list down from a position on.
@@ -69,90 +71,56 @@ pub fn smaller(a: usize, b: usize) -> usize
 }
 
 // Each link, 7.
-fn link_list_refusal(links: &[u8], count: u64, nodes: u64) -> u32
+fn link_list_refusal(links: &[u8], count: u64, nodes: u64) -> Result<(), Refusal>
     requires { (count ≤ 128) × (2 * count ≤ length links.now) }
-    ensures { result ≡ link_list_refusal nodes (links_of count links.now) }
+    ensures { number_in result ≡ link_list_refusal nodes (links_of count links.now) }
 {
-    let mut at = 0;
-    let mut left = count;
-    // The `left` links from `at` on are refused as all links are: those before them pass. Each turn takes one of the `left` links.
-    while 0 < left {
-        let ends = refusals::ends_test(nodes, byte_at(links, at), byte_at(links, at + 1));
-        if ends != 0 {
-            return ends;
-        }
-        at += 2;
-        left -= 1;
+    // The links from i on are refused as all links are: those before them pass.
+    for i in 0..count as usize {
+        refusals::ends_test(nodes, byte_at(links, 2 * i), byte_at(links, 2 * i + 1))?;
     }
-    0
+    Ok(())
 }
 
 // Each event, 8, 9, 10.
-fn event_list_refusal(words: &[u64], count: u64, nodes: u64, links: u64) -> u32
+fn event_list_refusal(words: &[u64], count: u64, nodes: u64, links: u64) -> Result<(), Refusal>
     requires { ((count ≤ 128) × (4 * count ≤ length words.now)) × ((nodes ≤ 64) × (links ≤ 128)) }
-    ensures { result ≡ event_list_refusal nodes links certain (events_of count words.now) }
+    ensures { number_in result ≡ event_list_refusal nodes links certain (events_of count words.now) }
 {
-    let mut at = 0;
-    let mut left = count;
     let mut before = mass::CERTAIN;
-    // The `left` events from `at` on, after the probability `before`, are refused as all events are: those before them pass.
-    // Each turn takes one of the `left` events.
-    while 0 < left {
+    // The events from i on, after the probability `before`, are refused as all events are: those before them pass.
+    for i in 0..count as usize {
+        let at = 4 * i;
         let q = words[at];
-        let tests = [
-            mass::probability_test(q),
-            refusals::order_test(before, q),
-            refusals::sets_test(nodes, links, words[at + 1], words[at + 2], words[at + 3]),
-        ];
-        let number = refusals::first_of(&tests);
-        if number != 0 {
-            return number;
-        }
+        mass::probability_test(q)?;
+        refusals::order_test(before, q)?;
+        refusals::sets_test(nodes, links, words[at + 1], words[at + 2], words[at + 3])?;
         before = q;
-        at += 4;
-        left -= 1;
     }
-    0
+    Ok(())
 }
 
-// The number with which a header and lent lists are refused: 4 to 6, 12 for the two lists, 7, then 8, 9, 10.
-pub fn lists_refusal(h: Header, links: &[u8], events: &[u64]) -> u32
-    ensures { result ≡ lists_number (in_words h links.now events.now) }
+// The refusal of a header and lent lists, if there is one: 4 to 6, 12 for the two lists, 7, then 8, 9, 10.
+pub fn lists_refusal(h: Header, links: &[u8], events: &[u64]) -> Result<(), Refusal>
+    ensures { number_in result ≡ lists_number (in_words h links.now events.now) }
 {
-    let numbers = [
-        refusals::counts_test(h.nodes, h.links, h.events),
-        refusals::threshold_test(h.threshold),
-        refusals::cap_test(h.cap),
-    ];
-    let header = refusals::first_of(&numbers);
-    if header != 0 {
-        return header;
-    }
-    let rooms = [
-        refusals::room_test(links.len(), 2 * (h.links as usize)),
-        refusals::room_test(events.len() / 4, h.events as usize),
-    ];
-    let short = refusals::first_of(&rooms);
-    if short != 0 {
-        return short;
-    }
-    let ends = link_list_refusal(links, h.links, h.nodes);
-    if ends != 0 {
-        return ends;
-    }
+    refusals::numbers_test(h.nodes, h.links, h.events, h.threshold, h.cap)?;
+    refusals::room_test(links.len(), 2 * (h.links as usize))?;
+    refusals::room_test(events.len() / 4, h.events as usize)?;
+    link_list_refusal(links, h.links, h.nodes)?;
     event_list_refusal(events, h.events, h.nodes, h.links)
 }
 
-// Takes a header and lent lists into the arrays, and answers the number with which they are refused.
+// Takes a header and lent lists into the arrays, and answers their refusal, if there is one.
 pub fn accept(
     h: Header,
     links: &[u8],
     events: &[u64],
     bytes: &mut [u8; 256],
     words: &mut [u64; 512],
-) -> u32
-    ensures number { result ≡ lists_number (in_words h links.now events.now) }
-    ensures taken { result ≡ 0 → Taken h links.now events.now bytes.new words.new }
+) -> Result<(), Refusal>
+    ensures number { number_in result ≡ lists_number (in_words h links.now events.now) }
+    ensures taken { OnOk result (Taken h links.now events.now bytes.new words.new) }
     ensures bytes { bytes.new ≡ sets bytes.old 0
         (take (min (length links.now) 256) links.now) }
     ensures words { words.new ≡ sets words.old 0

@@ -3,7 +3,7 @@
 // Assumes nothing.
 #![tactic(auto)]
 
-ghost use Rattle.std.specs.Prelude.{◌≡◌, ◌^◌, ◌≤◌, ◌<◌, leb};
+ghost use Rattle.std.specs.Prelude.{◌≡◌, ◌^◌, ◌≤◌, ◌<◌, leb, OnOk};
 ghost use Rattle.mass.specs.Refusal.{number_in};
 ghost use Rattle.sets.specs.Sets.{joined};
 ghost use Rattle.refusals.specs.Tests.{short_test, mark_test, version_test, counts_test, threshold_test, cap_test, numbers_test};
@@ -13,7 +13,8 @@ use mass::{Mass, Refusal};
 
 // 1: fewer than `need` bytes are left.
 pub fn short_test(left: usize, need: usize) -> Result<(), Refusal>
-    ensures { number_in result ≡ short_test left need }
+    ensures number { number_in result ≡ short_test left need }
+    ensures there { OnOk result (need ≤ left) }
 {
     Refusal::BytesEnd.when(left < need)
 }
@@ -34,7 +35,8 @@ pub fn version_test(version: u64) -> Result<(), Refusal>
 
 // 4: a count is out of range.
 pub fn counts_test(nodes: u64, links: u64, events: u64) -> Result<(), Refusal>
-    ensures { number_in result ≡ counts_test nodes links events }
+    ensures number { number_in result ≡ counts_test nodes links events }
+    ensures in_range { OnOk result ((nodes ≤ 64) × (links ≤ 128) × (events ≤ 128)) }
 {
     Refusal::Counts.when(nodes < 1 || 64 < nodes || 128 < links || 128 < events)
 }
@@ -62,7 +64,8 @@ pub fn numbers_test(
     threshold: u64,
     cap: u64,
 ) -> Result<(), Refusal>
-    ensures { number_in result ≡ numbers_test nodes links events threshold cap }
+    ensures number { number_in result ≡ numbers_test nodes links events threshold cap }
+    ensures in_range { OnOk result ((nodes ≤ 64) × (links ≤ 128) × (events ≤ 128)) }
 {
     counts_test(nodes, links, events)?;
     threshold_test(threshold)?;
@@ -148,7 +151,8 @@ pub fn left_test(left: usize) -> Result<(), Refusal>
 
 // 12: a lent list or buffer is too short.
 pub fn room_test(room: usize, need: usize) -> Result<(), Refusal>
-    ensures { number_in result ≡ room_test room need }
+    ensures number { number_in result ≡ room_test room need }
+    ensures there { OnOk result (need ≤ room) }
 {
     Refusal::Room.when(room < need)
 }

@@ -1,15 +1,11 @@
 -- `plan_lists::accept` meets its contract: accepted lists were taken. Assumes nothing.
 use mathlib.Core.Path.{sym, ◌∙◌}
+use Rattle.mass.proofs.RefusalLaws.{when-given}
 use Rattle.plan_lists.proofs.Accepted.{taken}
 use Rattle.plan_lists.proofs.accept.Goals as goal
 
-pub returns : goal.returns
-returns c =
+pub returns-clause-taken : goal.returns-clause-taken
+returns-clause-taken c =
     let a = c.args in
-    let number = c.lists_refusal.ensures in
-    record {
-      number = number;
-      taken = λ z. taken a.h a.links.now a.events.now a.bytes.now a.words.now c.load.ensures.bytes_len.0 c.load.ensures.bytes_len.1 _ _ c.load.ensures.bytes_after c.load.ensures.words_after (sym number ∙ z);
-      bytes = c.load.ensures.bytes_after;
-      words = c.load.ensures.words_after;
-    }
+    let load = c.load.ensures in
+    when-given _ (λ z. taken a.h a.links.now a.events.now a.bytes.now a.words.now load.bytes_len.0 load.bytes_len.1 _ _ load.bytes_after load.words_after (sym c.lists_refusal.ensures ∙ z))

@@ -1,40 +1,39 @@
 -- `plan_lists::event_list_refusal` meets its contract: the events that are left are refused as all are. Assumes nothing.
-use mathlib.Core.Path.{◌≡◌, refl, sym, ◌∙◌, ap}
+use mathlib.Core.Path.{◌≡◌, refl, ◌∙◌}
+use Prim.Native.Nat.{◌+◌, ◌-◌, ◌*◌}
 use native.Mathlib.Omega.{arith}
-use Rattle.mass.specs.Refusal.{first}
-use Rattle.refusals.proofs.OrderLaws.{also}
-use Rattle.plan_lists.proofs.ListLaws.{event_tests, event-decides, event-passes, events-end}
-use Rattle.plan_lists.proofs.event_list_refusal.Goals.{After-first_of-number}
+use Rattle.mass.proofs.RefusalLaws.{stops, passes, last, hands-on}
+use Rattle.plan_lists.proofs.ListLaws.{events-step, events-end}
 use Rattle.plan_lists.proofs.event_list_refusal.Goals as goal
 
-pub sets_test-requires : goal.sets_test-requires
-sets_test-requires c = c.requires.1
+pub returns-in_err-probability_test : goal.returns-in_err-probability_test
+returns-in_err-probability_test c =
+    hands-on _ _ c.from_residual.ensures
+    (stops _ _ c.in_err-probability_test.ensures ∙ events-step _ _ _ c.args.words.now (4 * c.loop-i.i) _ (omega arith) ∙ c.loop-i.invariant)
 
--- what the tests of the next event return
-tests-are : (c : After-first_of-number)
-    → (let a = c.args in
-    c.first_of-number.result ≡ first (event_tests a.nodes a.links c.loop-left.before a.words.now c.loop-left.at))
-tests-are c =
-    c.first_of-number.ensures
-    ∙ ap first (also c.probability_test.ensures (also c.order_test.ensures (also c.sets_test.ensures refl)))
+pub returns-in_err-order_test : goal.returns-in_err-order_test
+returns-in_err-order_test c =
+    hands-on _ _ c.from_residual-in_err-order_test.ensures
+    (passes _ c.in_ok-probability_test.ensures (stops _ _ c.in_err-order_test.ensures)
+    ∙ events-step _ _ _ c.args.words.now (4 * c.loop-i.i) _ (omega arith)
+    ∙ c.loop-i.invariant)
 
-pub returns-then-number-ne0 : goal.returns-then-number-ne0
-returns-then-number-ne0 c =
-    event-decides _ _ _ c.args.words.now c.loop-left.at _ c.loop-left-test.true _ (tests-are (goal.at.returns-then-number-ne0 c).After-first_of-number) c.if-number-ne0.true
-    ∙ c.loop-left.invariant.1
+pub returns-in_err-sets_test : goal.returns-in_err-sets_test
+returns-in_err-sets_test c =
+    hands-on _ _ c.from_residual-in_err-sets_test.ensures
+    (passes _ c.in_ok-probability_test.ensures (passes _ c.in_ok-order_test.ensures (stops _ _ c.in_err-sets_test.ensures))
+    ∙ events-step _ _ _ c.args.words.now (4 * c.loop-i.i) _ (omega arith)
+    ∙ c.loop-i.invariant)
 
-pub loop-left-preserved : goal.loop-left-preserved
-loop-left-preserved c = (
-  omega arith,
-  event-passes _ _ _ c.args.words.now c.loop-left.at _ c.loop-left-test.true (sym (tests-are (goal.at.loop-left-preserved c).After-first_of-number) ∙ c.if-number-ne0.false)
-      ∙ c.loop-left.invariant.1,
-)
+pub loop-i-preserved : goal.loop-i-preserved
+loop-i-preserved c =
+    let a = c.args in
+    let left : a.count - (c.loop-i.i + 1) ≡ a.count - c.loop-i.i - 1 = omega arith in
+    let at : 4 * (c.loop-i.i + 1) ≡ 4 * c.loop-i.i + 4 = omega arith in
+    rw (left, at)
+    (passes _ c.in_ok-probability_test.ensures (passes _ c.in_ok-order_test.ensures (passes _ c.in_ok-sets_test.ensures (last refl)))
+    ∙ events-step _ _ _ a.words.now (4 * c.loop-i.i) _ (omega arith)
+    ∙ c.loop-i.invariant)
 
 pub returns : goal.returns
-returns c = events-end _ _ _ _ _ c.loop-left-test.false ∙ c.loop-left.invariant.1
-
-pub loop-left-init : goal.loop-left-init
-loop-left-init c = (omega arith, refl)
-
-pub slice_bounds-first_of-end : goal.slice_bounds-first_of-end
-slice_bounds-first_of-end c = refl
+returns c = events-end _ _ _ _ _ (omega arith) ∙ c.loop-i.invariant

@@ -7,4 +7,4 @@ pub overflow_cast-result : goal.overflow_cast-result
 overflow_cast-result c = omega (arith, c.type_inv.s c.args.at)
 
 pub returns : goal.returns
-returns c = (refl, omega (arith, c.type_inv.s c.args.at))
+returns c = record { is = refl; below = omega (arith, c.type_inv.s c.args.at) }

@@ -23,9 +23,9 @@ overflow_add-sum c = omega (arith, sum_fits (goal.at.overflow_add-sum c).In-loop
 pub loop-i-preserved : goal.loop-i-preserved
 loop-i-preserved c = (
   omega arith,
-  ap₂ (λ (a b : ℕ). a + 256 * b) c.byte_at.ensures.0 c.loop-i.invariant.1
+  ap₂ (λ (a b : ℕ). a + 256 * b) c.byte_at.ensures.is c.loop-i.invariant.1
       ∙ number_step _ _ _ _ c.loop-i-test.true c.loop-i.invariant.0 c.requires.1,
-  number-below _ _ _ _ c.loop-i-test.true c.loop-i.invariant.0 c.byte_at.ensures.1 c.loop-i.invariant.2,
+  number-below _ _ _ _ c.loop-i-test.true c.loop-i.invariant.0 c.byte_at.ensures.below c.loop-i.invariant.2,
 )
 
 pub returns : goal.returns

@@ -7,9 +7,9 @@ unfolding header_of
 returns c =
     λ i.
     record {
-      nodes = c.byte_at.ensures.0 i;
-      links = c.byte_at-2.ensures.0 i;
-      events = c.byte_at-3.ensures.0 i;
+      nodes = c.byte_at.ensures.is i;
+      links = c.byte_at-2.ensures.is i;
+      events = c.byte_at-3.ensures.is i;
       threshold = c.number_at.ensures i;
       cap = c.number_at-2.ensures i;
     }
