@@ -13,7 +13,7 @@ use lib.Dec.{eqb}
 use lib.ListN.{length, get_or, drop}
 use lib.Seq.{get_or-drop}
 use borrow.Author.Tests.{eqb-true, eq-eqb}
-use Rattle.sets.specs.Sets.{bit, joined}
+use Rattle.sets.specs.Sets.{bit, joined, LowestTaken}
 use Rattle.sets.proofs.Laws.{bit-or, bit-none, bits-same, bit-shl, bit-shl-below, bit_below}
 use Rattle.sets.proofs.Bools.{and_left, and_both, or-either, or_left, or_right, which, clash, not-of, same_bool}
 use Rattle.plan.specs.Plan.{Event}
@@ -120,9 +120,9 @@ eqb-add k m t =
     (λ e. eq-eqb m t (omega (arith, eqb-true (k + m) (k + t) e)))
     (λ e. eq-eqb (k + m) (k + t) (ap (λ (x : ℕ). k + x) (eqb-true m t e)))
 
-module _ (k s r t found : ℕ) (is : found ≡ t) (law : (j : ℕ) → bit r j ≡ (bit s j && not (eqb j t))) where
+module _ (k : ℕ) {s found r : ℕ} (t : LowestTaken s found r) where
   shifted_at : (m : ℕ) → bit (r * 2 ^ k) (k + m) ≡ (bit (s * 2 ^ k) (k + m) && not (eqb (k + m) (k + found)))
-  shifted_at m = rw (is, bit-shl r k m, bit-shl s k m, eqb-add k m t) (law m)
+  shifted_at m = rw (bit-shl r k m, bit-shl s k m, eqb-add k m found) (t.rest m)
 
   pub rest-shifted : (j : ℕ) → bit (r * 2 ^ k) j ≡ (bit (s * 2 ^ k) j && not (eqb j (k + found)))
   rest-shifted j = at (dec_lt j k)

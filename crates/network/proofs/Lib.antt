@@ -1,7 +1,6 @@
 -- Laws that the proofs of the crate `network` share.
 pub mod Events
 pub mod LinkBytes
-pub mod Rest
 pub mod Words
 pub mod RowSets
 pub mod NodeLinks

@@ -30,9 +30,3 @@ pub link-below : (n count : ℕ) (bytes : List ℕ) (i : ℕ) → EndsBelow n (l
     → ((link_in bytes i).low < n) × ((link_in bytes i).high < n)
 link-below n count bytes i has_ends h =
     subst (λ (x : Link). (x.low < n) × (x.high < n)) (link-at count bytes i h) (has_ends i (omega (arith, length-links-of count bytes)))
-
-pub end_below : (n count : ℕ) (bytes : List ℕ) (i side : ℕ) → EndsBelow n (links_of count bytes) → i < count → side < 2
-    → get_or bytes (2 * i + side) 0 < n
-end_below n count bytes i zero has_ends h l = (link-below n count bytes i has_ends h).0
-end_below n count bytes i (suc zero) has_ends h l = (link-below n count bytes i has_ends h).1
-end_below n count bytes i (suc (suc side)) has_ends h l = absurd (omega arith)

@@ -4,14 +4,15 @@ use mathlib.Core.Path.{◌≡◌, refl, sym, ap, ap₂, ◌∙◌, subst}
 use mathlib.Core.Bool.{Bool, true, false, not, ◌&&◌, ◌||◌, and-true, and-false, or-false}
 use mathlib.Core.List.{List}
 use mathlib.Core.Logic.{⊎_elim}
-use Prim.Native.Nat.{ℕ, ◌+◌, ◌-◌, ◌*◌, ◌/◌, ◌%◌, ◌^◌, ◌≤◌, ◌<◌}
+use Prim.Native.Nat.{ℕ, ◌+◌, ◌-◌, ◌*◌, ◌/◌, ◌%◌, ◌^◌, ◌≤◌, ◌<◌, min}
 use native.Mathlib.Omega.{arith}
 use native.Mathlib.Decide.{dec_lt, ℕ_discrete}
 use lib.Dec.{eqb, ltb}
 use lib.ListN.{length, get_or, set, replicate}
 use lib.Seq.{get_or-set_same, get_or-set_other}
 use borrow.Author.Tests.{eqb-true, eq-eqb, ne_eqb, ltb-true, lt-ltb, le-ltb}
-use Rattle.sets.specs.Sets.{bit, joined}
+use Rattle.sets.specs.Sets.{bit, joined, LowestTaken}
+use Rattle.plan.specs.Plan.{Link}
 use Rattle.sets.proofs.Laws.{bit-none, bit_past, bit-joined-low, bit-joined-high}
 use Rattle.sets.proofs.Bools.{not_so, same_bool, and_left, and_right, and_both, or-either, or_left, or_right, any_found, any_here}
 use Rattle.plan.specs.Lists.{links_of}
@@ -19,7 +20,7 @@ use Rattle.plan_layout.proofs.ListLaws.{length-links-of}
 use Rattle.network.specs.Outage.{Outage}
 use Rattle.network.specs.Topology.{network_of, node_works, link_works}
 use Rattle.plan.specs.Held.{LinksHeld}
-use Rattle.network.specs.Table.{link_in, is_end, table_has, at_nodes, LinksAt}
+use Rattle.network.specs.Table.{ends_of, link_in, is_end, table_has, at_nodes, LinksAt}
 use Rattle.network.proofs.LinkBytes.{link-at, link-below}
 use Rattle.network.proofs.RowSets.{empty-row}
 use Rattle.network.proofs.Words.{any-rest, any_none, joined_by_lem}
@@ -79,21 +80,16 @@ module _ (bytes : List ℕ) where
           let past : i + 1 ≤ j = omega arith in
           rw (le-ltb j i (omega arith), le-ltb j (i + 1) past, ne_eqb j i d, and-false (eqb a u), and-false (eqb b u))
 
-  pub table-next : (i a b : ℕ) (table one two : List ℕ) → a ≡ (link_in bytes i).low → b ≡ (link_in bytes i).high
+  pub table-next : (i a b : ℕ) (table one two : List ℕ) → ends_of a b ≡ link_in bytes i
       → ((u j : ℕ) → u < 64 → j < 128 → table_has one u j ≡ (table_has table u j || (eqb a u && eqb j i)))
       → ((u j : ℕ) → u < 64 → j < 128 → table_has two u j ≡ (table_has one u j || (eqb b u && eqb j i)))
       → LinksAt bytes i table → LinksAt bytes (i + 1) two
-  table-next i a b table one two ea eb first second old = record {
+  table-next i a b table one two e first second old = record {
     each = λ u j h l.
         second u j h l
         ∙ ap (λ (x : Bool). x || (eqb b u && eqb j i)) (first u j h l ∙ ap (λ (x : Bool). x || (eqb a u && eqb j i)) (old.each u j h l))
-        ∙ end_more i j a b u ea eb;
+        ∙ end_more i j a b u (ap (λ (l : Link). l.low) e) (ap (λ (l : Link). l.high) e);
   }
-
-  pub table-all : (i count : ℕ) (table : List ℕ) → i ≤ count → count ≤ i → LinksAt bytes i table → LinksAt bytes count table
-  table-all i count table h l old =
-      let e : i ≡ count = omega arith in
-      subst (λ (x : ℕ). LinksAt bytes x table) e old
 
 -- ---- the first links in two words
 
@@ -113,13 +109,10 @@ module _ (count low high : ℕ) (fits : low < 2 ^ 64) where
           let e : 64 + (i - 64) ≡ i = omega arith in
           subst (λ (x : ℕ). bit (joined low high) x ≡ ltb x count) e (later (i - 64))
 
-  pub first-few : count < 64 → high ≡ 0 → ((i : ℕ) → bit low i ≡ ltb i count) → FirstLinks
-  first-few h e one = by-words (λ i l. one i) (λ m. ap (λ (x : ℕ). bit x m) e ∙ bit-none m ∙ sym (le-ltb (64 + m) count (omega arith)))
-
-  pub first-many : 64 ≤ count → ((i : ℕ) → bit low i ≡ ltb i 64) → ((i : ℕ) → bit high i ≡ ltb i (count - 64)) → FirstLinks
-  first-many h one other =
+  pub first-words : ((i : ℕ) → bit low i ≡ ltb i (min count 64)) → ((m : ℕ) → bit high m ≡ ltb m (count - 64)) → FirstLinks
+  first-words one other =
       by-words
-      (λ i l. one i ∙ lt-ltb i 64 l ∙ sym (lt-ltb i count (omega arith)))
+      (λ i l. one i ∙ same_bool _ _ (λ e. lt-ltb i count (omega (arith, ltb-true i (min count 64) e))) (λ e. lt-ltb i (min count 64) (omega (arith, ltb-true i count e))))
       (λ m. other m ∙ same_bool _ _ (λ e. lt-ltb (64 + m) count (omega (arith, ltb-true m (count - 64) e))) (λ e. lt-ltb m (count - 64) (omega (arith, ltb-true (64 + m) count e))))
 
 -- ---- the links at the nodes of a set taken out, node by node
@@ -150,17 +143,17 @@ module _ (table : List ℕ) where
   abbrev pub Apart : ℕ → ℕ → ℕ → ℕ → Type 0
   Apart start nodes set left = (i : ℕ) → i < 128 → (bit set i && not (at_nodes table left i)) ≡ (bit start i && not (at_nodes table nodes i))
 
-  pub apart_next : (start nodes low high low' high' c d left rest t found : ℕ) → low < 2 ^ 64 → c < 2 ^ 64 → low' < 2 ^ 64
-      → found ≡ t → found < 64 → bit left found ≡ true → ((j : ℕ) → bit rest j ≡ (bit left j && not (eqb j t)))
+  pub apart_next : (start nodes low high low' high' c d left rest found : ℕ) → low < 2 ^ 64 → c < 2 ^ 64 → low' < 2 ^ 64
+      → LowestTaken left found rest
       → c ≡ get_or table (2 * found) 0 → d ≡ get_or table (2 * found + 1) 0
       → ((j : ℕ) → bit low' j ≡ (bit low j && not (bit c j))) → ((j : ℕ) → bit high' j ≡ (bit high j && not (bit d j)))
       → Apart start nodes (joined low high) left → Apart start nodes (joined low' high') rest
-  apart_next start nodes low high low' high' c d left rest t found fl fc fl' is small there law ec ed one other old i h =
+  apart_next start nodes low high low' high' c d left rest found fl fc fl' t ec ed one other old i h =
       ap (λ (x : Bool). x && not (at_nodes table rest i))
       (joined_by_lem (λ x y. x && not y) low high c d low' high' fl fc fl' one other i
       ∙ ap (λ (x : Bool). bit (joined low high) i && not x) (node-words found c d fc ec ed i h))
       ∙ cut_twice (bit (joined low high) i) (table_has table found i) (at_nodes table rest i)
-      ∙ ap (λ (x : Bool). bit (joined low high) i && not x) (sym (any-rest (λ v. table_has table v i) left rest t found is small there law))
+      ∙ ap (λ (x : Bool). bit (joined low high) i && not x) (sym (any-rest (λ v. table_has table v i) t))
       ∙ old i h
 
   pub apart-all : (start nodes set left : ℕ) → left ≡ 0 → Apart start nodes set left

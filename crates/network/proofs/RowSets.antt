@@ -1,7 +1,7 @@
 -- The rows of neighbours, link by link.
 -- Assumes nothing.
-use mathlib.Core.Path.{◌≡◌, refl, sym, ap, ap₂, ◌∙◌}
-use mathlib.Core.Bool.{Bool, true, false, not, ◌&&◌, ◌||◌, or-false}
+use mathlib.Core.Path.{◌≡◌, refl, sym, ap, ◌∙◌}
+use mathlib.Core.Bool.{Bool, true, false, ◌&&◌, ◌||◌, or-false}
 use mathlib.Core.List.{List}
 use Prim.Native.Nat.{ℕ, zero, suc, ◌+◌, ◌<◌}
 use native.Mathlib.Omega.{arith}
@@ -10,11 +10,12 @@ use lib.Dec.{eqb}
 use lib.ListN.{length, get_or, set, replicate, length-set}
 use lib.Seq.{get_or-set_same, get_or-set_other}
 use borrow.Author.Tests.{eqb-true, eq-eqb, ne_eqb}
-use Rattle.sets.specs.Sets.{bit}
+use Rattle.sets.specs.Sets.{bit, LowestTaken}
 use Rattle.sets.proofs.Bools.{same_bool}
+use Rattle.sets.proofs.Taken.{other_in}
+use Rattle.plan.specs.Plan.{Link}
 use Rattle.network.specs.Topology.{has_ends}
 use Rattle.network.specs.Table.{ends_of, link_in, joined_by}
-use Rattle.network.proofs.Rest.{rest_in}
 use Rattle.network.proofs.Words.{any-rest, any_none}
 
 -- an array of empty sets
@@ -65,27 +66,23 @@ module _ (bytes : List ℕ) (base s : ℕ) (before : List ℕ) where
   putting-none h = record { size = h; within = λ i e. e; rest = λ v w. refl }
 
   -- the next link
-  module _ (rows after : List ℕ) (left rest t found a b : ℕ) (is : found ≡ t) (small : found < 64) (there : bit left found ≡ true)
-      (law : (j : ℕ) → bit rest j ≡ (bit left j && not (eqb j t)))
-      (ea : a ≡ (link_in bytes (base + found)).low)
-      (eb : b ≡ (link_in bytes (base + found)).high)
-    where
-      next : (v w : ℕ) → joined_by bytes base left v w ≡ (has_ends (ends_of a b) v w || joined_by bytes base rest v w)
-      next v w =
-          any-rest (λ i. has_ends (link_in bytes (base + i)) v w) left rest t found is small there law
-          ∙ ap₂ (λ (x y : ℕ). has_ends (ends_of x y) v w || joined_by bytes base rest v w) (sym ea) (sym eb)
+  module _ (rows after : List ℕ) {left found rest : ℕ} (a b : ℕ) (t : LowestTaken left found rest) (e : ends_of a b ≡ link_in bytes (base + found)) where
+    next : (v w : ℕ) → joined_by bytes base left v w ≡ (has_ends (ends_of a b) v w || joined_by bytes base rest v w)
+    next v w =
+        any-rest (λ i. has_ends (link_in bytes (base + i)) v w) t
+        ∙ ap (λ (l : Link). has_ends l v w || joined_by bytes base rest v w) (sym e)
 
-      pub putting-next : length after ≡ 64 → ((v w : ℕ) → bit (get_or after v 0) w ≡ (bit (get_or rows v 0) w || has_ends (ends_of a b) v w))
-          → Putting rows left → Putting after rest
-      putting-next sized one old = record {
-        size = sized;
-        within = λ i e. old.within i (rest_in left rest t found is law i e);
-        rest = λ v w.
-            ap (λ (x : Bool). x || joined_by bytes base rest v w) (one v w)
-            ∙ or-twice (bit (get_or rows v 0) w) (has_ends (ends_of a b) v w) (joined_by bytes base rest v w)
-            ∙ ap (λ (x : Bool). bit (get_or rows v 0) w || x) (sym (next v w))
-            ∙ old.rest v w;
-      }
+    pub putting-next : length after ≡ 64 → ((v w : ℕ) → bit (get_or after v 0) w ≡ (bit (get_or rows v 0) w || has_ends (ends_of a b) v w))
+        → Putting rows left → Putting after rest
+    putting-next sized one old = record {
+      size = sized;
+      within = λ i h. old.within i (other_in t i h);
+      rest = λ v w.
+          ap (λ (x : Bool). x || joined_by bytes base rest v w) (one v w)
+          ∙ or-twice (bit (get_or rows v 0) w) (has_ends (ends_of a b) v w) (joined_by bytes base rest v w)
+          ∙ ap (λ (x : Bool). bit (get_or rows v 0) w || x) (sym (next v w))
+          ∙ old.rest v w;
+    }
 
   -- with nothing left
   pub putting-all : (rows : List ℕ) (left : ℕ) → left ≡ 0 → Putting rows left

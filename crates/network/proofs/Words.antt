@@ -1,51 +1,48 @@
 -- The links that the elements of a word name: one element at a time, and the links of two words as one set.
 -- Assumes nothing.
 use mathlib.Core.Path.{◌≡◌, sym, ap, ap₂, ◌∙◌, subst}
-use mathlib.Core.Bool.{Bool, true, false, not, ◌&&◌, ◌||◌}
+use mathlib.Core.Bool.{Bool, true, false, ◌&&◌, ◌||◌}
 use mathlib.Core.List.{List}
 use mathlib.Core.Logic.{◌⊎◌, inl, inr, ⊎_elim}
 use Prim.Native.Nat.{ℕ, ◌+◌, ◌-◌, ◌^◌, ◌<◌}
 use native.Mathlib.Omega.{arith}
 use native.Mathlib.Decide.{dec_lt}
 use native.Mathlib.Nat.{zero-add}
-use lib.Dec.{eqb}
-use Rattle.sets.specs.Sets.{bit, joined, any_below}
+use Rattle.sets.specs.Sets.{bit, joined, any_below, LowestTaken}
 use Rattle.sets.proofs.Laws.{bit-none, bit_below, bit-joined-low, bit-joined-high}
 use Rattle.sets.proofs.Bools.{and_left, and_right, and_both, or-either, or_left, or_right, clash, not_so, same_bool, any_found, any_here}
+use Rattle.sets.proofs.Taken.{other_in, lowest_or}
 use Rattle.network.specs.Topology.{has_ends}
 use Rattle.network.specs.Table.{link_in, joined_by}
-use Rattle.network.proofs.Rest.{rest_in, rest-or}
 
 -- ---- one element of a word
 
-module _ (p : ℕ → Bool) (left rest t found : ℕ) (is : found ≡ t) (small : found < 64) (there : bit left found ≡ true)
-    (law : (j : ℕ) → bit rest j ≡ (bit left j && not (eqb j t)))
-  where
-    -- p holds of an element, exactly where it holds of the one taken out or of one of the others
-    pub any-rest : any_below (λ j. bit left j && p j) 64 ≡ (p found || any_below (λ j. bit rest j && p j) 64)
-    any-rest = same_bool _ _ out back
-      where
-        other : (j : ℕ) → j < 64 → p j ≡ true → (j ≡ found) ⊎ (bit rest j ≡ true) → (p found || any_below (λ j. bit rest j && p j) 64) ≡ true
-        other j l e (inl s) = or_left (p found) _ (ap p (sym s) ∙ e)
-        other j l e (inr r) = or_right (p found) _ (any_here (λ j. bit rest j && p j) 64 j l (and_both (bit rest j) (p j) r e))
+module _ (p : ℕ → Bool) {left found rest : ℕ} (t : LowestTaken left found rest) where
+  -- p holds of an element, exactly where it holds of the one taken out or of one of the others
+  pub any-rest : any_below (λ j. bit left j && p j) 64 ≡ (p found || any_below (λ j. bit rest j && p j) 64)
+  any-rest = same_bool _ _ out back
+    where
+      other : (j : ℕ) → j < 64 → p j ≡ true → (j ≡ found) ⊎ (bit rest j ≡ true) → (p found || any_below (λ j. bit rest j && p j) 64) ≡ true
+      other j l e (inl s) = or_left (p found) _ (ap p (sym s) ∙ e)
+      other j l e (inr r) = or_right (p found) _ (any_here (λ j. bit rest j && p j) 64 j l (and_both (bit rest j) (p j) r e))
 
-        out : any_below (λ j. bit left j && p j) 64 ≡ true → (p found || any_below (λ j. bit rest j && p j) 64) ≡ true
-        out e =
-            let f = any_found (λ j. bit left j && p j) 64 e in
-            other f.0 f.1 (and_right (bit left f.0) _ f.2) (rest-or left rest t found is law f.0 (and_left (bit left f.0) _ f.2))
+      out : any_below (λ j. bit left j && p j) 64 ≡ true → (p found || any_below (λ j. bit rest j && p j) 64) ≡ true
+      out e =
+          let f = any_found (λ j. bit left j && p j) 64 e in
+          other f.0 f.1 (and_right (bit left f.0) _ f.2) (lowest_or t f.0 (and_left (bit left f.0) _ f.2))
 
-        among : any_below (λ j. bit rest j && p j) 64 ≡ true → any_below (λ j. bit left j && p j) 64 ≡ true
-        among e =
-            let f = any_found (λ j. bit rest j && p j) 64 e in
-            any_here (λ j. bit left j && p j) 64 f.0 f.1
-            (and_both (bit left f.0) _ (rest_in left rest t found is law f.0 (and_left (bit rest f.0) _ f.2)) (and_right (bit rest f.0) _ f.2))
+      among : any_below (λ j. bit rest j && p j) 64 ≡ true → any_below (λ j. bit left j && p j) 64 ≡ true
+      among e =
+          let f = any_found (λ j. bit rest j && p j) 64 e in
+          any_here (λ j. bit left j && p j) 64 f.0 f.1
+          (and_both (bit left f.0) _ (other_in t f.0 (and_left (bit rest f.0) _ f.2)) (and_right (bit rest f.0) _ f.2))
 
-        back : (p found || any_below (λ j. bit rest j && p j) 64) ≡ true → any_below (λ j. bit left j && p j) 64 ≡ true
-        back e =
-            ⊎_elim
-            (λ h. any_here (λ j. bit left j && p j) 64 found small (and_both (bit left found) (p found) there h))
-            among
-            (or-either (p found) _ e)
+      back : (p found || any_below (λ j. bit rest j && p j) 64) ≡ true → any_below (λ j. bit left j && p j) 64 ≡ true
+      back e =
+          ⊎_elim
+          (λ h. any_here (λ j. bit left j && p j) 64 found t.within (and_both (bit left found) (p found) t.found h))
+          among
+          (or-either (p found) _ e)
 
 -- of the empty set it holds of none
 pub any_none : (p : ℕ → Bool) (left : ℕ) → left ≡ 0 → any_below (λ j. bit left j && p j) 64 ≡ false

@@ -1,20 +1,12 @@
 // What has failed in a scenario: the union over its failing events. Events are four words each: probability, nodes, links 0 to 63, links 64
 // to 127.
-ghost use Rattle.std.specs.Prelude.{◌≡◌, ◌*◌, ◌^◌, ◌≤◌, ◌<◌, get_or};
+ghost use Rattle.std.specs.Prelude.{◌≡◌, ◌*◌, ◌^◌, ◌≤◌, ◌<◌};
 ghost use Rattle.sets.specs.Sets.{joined};
 ghost use Rattle.plan.specs.Lists.{events_of};
 ghost use Rattle.network.specs.Outage.{beside, event_at, with_event, outage_of};
 ghost use Rattle.network.specs.Code.{outage};
 
 use crate::Failed;
-
-// Word k of the events.
-fn word(events: &[u64; 512], k: usize) -> u64
-    requires { k < 512 }
-    ensures { result ≡ get_or events.now k 0 }
-{
-    events[k]
-}
 
 // What has failed in either of two.
 pub fn beside(f: Failed, more: Failed) -> Failed
@@ -34,9 +26,9 @@ fn failed_with_event(events: &[u64; 512], i: usize, f: Failed) -> Failed
 {
     let at = 4 * i;
     let named = Failed {
-        nodes: word(events, at + 1),
-        low: word(events, at + 2),
-        high: word(events, at + 3),
+        nodes: events[at + 1],
+        low: events[at + 2],
+        high: events[at + 3],
     };
     beside(f, named)
 }
@@ -47,12 +39,9 @@ fn failed_word(events: &[u64; 512], count: usize, base: usize, set: u64, start: 
     ensures { outage result ≡ outage_of (outage start) (events_of count events.now) (set * 2 ^ base) }
 {
     let mut f = start;
-    let mut left = set;
-    // When the events of `left` fail beside f, what has failed is what the call is to return.
-    // Each turn takes the lowest element out of `left`, which falls as a number.
-    while left != 0 {
-        f = failed_with_event(events, base + sets::lowest(left), f);
-        left = sets::rest(left);
+    // When the events of the elements still to come fail beside f, what has failed is what the call is to return.
+    for i in sets::elements(set) {
+        f = failed_with_event(events, base + i, f);
     }
     f
 }

@@ -7,7 +7,7 @@ ghost use Rattle.plan.specs.Held.{LinksHeld};
 ghost use Rattle.network.specs.Table.{ends_of, joined_by, LinksAt};
 
 use crate::Failed;
-use crate::working::{end, working_links};
+use crate::working::{ends, working_links};
 
 // Puts a and b into each other's rows.
 fn join(rows: &mut [u64; 64], a: usize, b: usize)
@@ -30,17 +30,10 @@ fn put_in(rows: &mut [u64; 64], n: usize, links: &[u8; 256], count: usize, base:
     ensures rows { (v w : ℕ) →
         bit (get_or rows.new v 0) w ≡ (bit (get_or rows.old v 0) w || joined_by links.now base set v w) }
 {
-    let mut left = set;
-    // With the links of `left` put in, the rows are as with all links of the set. `left` has elements of the set only.
-    // Each turn takes the lowest element out of `left`, which falls as a number.
-    while left != 0 {
-        let i = base + sets::lowest(left);
-        join(
-            &mut *rows,
-            end(n, links, count, i, 0),
-            end(n, links, count, i, 1),
-        );
-        left = sets::rest(left);
+    // With the links of the elements still to come put in, the rows are as with all links of the set. Those elements are of the set.
+    for i in sets::elements(set) {
+        let (low, high) = ends(n, links, count, base + i);
+        join(&mut *rows, low, high);
     }
 }
 

@@ -3,7 +3,7 @@ ghost use Rattle.std.specs.Prelude.{◌≡◌, ◌&&◌, ◌||◌, ℕ, ◌<◌,
 ghost use Rattle.plan.specs.Held.{LinksHeld};
 ghost use Rattle.network.specs.Table.{table_has, LinksAt};
 
-use crate::working::end;
+use crate::working::ends;
 
 // Puts link i into the table at node v.
 fn put_at(table: &mut [u64; 128], v: usize, i: usize)
@@ -23,12 +23,11 @@ pub fn links_at(n: usize, links: &[u8; 256], count: usize) -> [u64; 128]
     ensures { LinksAt links.now count result }
 {
     let mut table = [0u64; 128];
-    let mut i = 0;
-    // The table has the first i links, each at its two ends, and no others. Each turn raises i, up to `count`.
-    while i < count {
-        put_at(&mut table, end(n, links, count, i, 0), i);
-        put_at(&mut table, end(n, links, count, i, 1), i);
-        i += 1;
+    // The table has the first i links, each at its two ends, and no others.
+    for i in 0..count {
+        let (low, high) = ends(n, links, count, i);
+        put_at(&mut table, low, i);
+        put_at(&mut table, high, i);
     }
     table
 }

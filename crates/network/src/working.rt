@@ -1,27 +1,21 @@
 // The working nodes and links. Links are two bytes each, their end nodes.
-ghost use Rattle.std.specs.Prelude.{◌≡◌, not, ◌&&◌, List, ℕ, ◌+◌, ◌*◌, ◌≤◌, ◌<◌, ltb, get_or};
+ghost use Rattle.std.specs.Prelude.{◌≡◌, not, ◌&&◌, List, ℕ, ◌≤◌, ◌<◌, ltb};
 ghost use Rattle.sets.specs.Sets.{bit, joined};
 ghost use Rattle.network.specs.Topology.{link_works};
 ghost use Rattle.network.specs.Code.{network_in};
 ghost use Rattle.plan.specs.Held.{LinksHeld};
-ghost use Rattle.network.specs.Table.{at_nodes, LinksAt};
+ghost use Rattle.network.specs.Table.{ends_of, link_in, at_nodes, LinksAt};
 
 use crate::{Failed, Links};
 
-fn wide(x: u8) -> usize
-    ensures { result ≡ x }
-{
-    x as usize
-}
-
-// An end node of link i: the smaller one for side 0, the other for side 1.
-pub fn end(n: usize, links: &[u8; 256], count: usize, i: usize, side: usize) -> usize
+// The two end nodes of link i, the smaller one first.
+pub fn ends(n: usize, links: &[u8; 256], count: usize, i: usize) -> (usize, usize)
     requires links_held { LinksHeld n links.now count }
-    requires i_lt_count { (i < count) × (side < 2) }
-    ensures is { result ≡ get_or links.now (2 * i + side) 0 }
-    ensures within { result < 64 }
+    requires i_lt_count { i < count }
+    ensures is { ends_of result.0 result.1 ≡ link_in links.now i }
+    ensures within { (result.0 < 64) × (result.1 < 64) }
 {
-    wide(links[2 * i + side])
+    (usize::from(links[2 * i]), usize::from(links[2 * i + 1]))
 }
 
 // The working nodes, of n.
@@ -32,28 +26,14 @@ pub fn working_nodes(n: usize, failed: u64) -> u64
     sets::less(sets::all_below(n), failed)
 }
 
-// Word k of a table of links.
-fn word(table: &[u64; 128], k: usize) -> u64
-    requires { k < 128 }
-    ensures { result ≡ get_or table.now k 0 }
-{
-    table[k]
-}
-
 // The first `count` links.
 fn first_links(count: usize) -> Links
     requires { count ≤ 128 }
     ensures { (i : ℕ) → bit (joined result.low result.high) i ≡ ltb i count }
 {
-    if count < 64 {
-        let low = sets::all_below(count);
-        return Links { low: low, high: 0 };
-    }
-    let low = sets::all_below(64);
-    let high = sets::all_below(count - 64);
     Links {
-        low: low,
-        high: high,
+        low: sets::all_below(count.min(64)),
+        high: sets::all_below(count.saturating_sub(64)),
     }
 }
 
@@ -62,21 +42,13 @@ fn apart_from(up: Links, nodes: u64, table: &[u64; 128]) -> Links
     ensures { (i : ℕ) → i < 128 →
         bit (joined result.low result.high) i ≡ (bit (joined up.low up.high) i && not (at_nodes table.now nodes i)) }
 {
-    let mut low = up.low;
-    let mut high = up.high;
-    let mut left = nodes;
-    // Without the links at the nodes of `left`, the links of `low` and `high` are those to be returned.
-    // Each turn takes the lowest element out of `left`, which falls as a number.
-    while left != 0 {
-        let v = sets::lowest(left);
-        low = sets::less(low, word(table, 2 * v));
-        high = sets::less(high, word(table, 2 * v + 1));
-        left = sets::rest(left);
+    let mut apart = up;
+    // Without the links at those nodes still to come, `apart` is the set to be returned.
+    for v in sets::elements(nodes) {
+        apart.low = sets::less(apart.low, table[2 * v]);
+        apart.high = sets::less(apart.high, table[2 * v + 1]);
     }
-    Links {
-        low: low,
-        high: high,
-    }
+    apart
 }
 
 // The working links, of `count`, of any network whose table of links this is: those that have not failed, and that are at no failed node.
@@ -86,11 +58,9 @@ pub fn working_links(failed: Failed, count: usize, table: &[u64; 128]) -> Links
         bit (joined result.low result.high) i ≡ link_works (network_in n failed bytes count) i }
 {
     let all = first_links(count);
-    let low = sets::less(all.low, failed.low);
-    let high = sets::less(all.high, failed.high);
     let up = Links {
-        low: low,
-        high: high,
+        low: sets::less(all.low, failed.low),
+        high: sets::less(all.high, failed.high),
     };
     apart_from(up, failed.nodes, table)
 }

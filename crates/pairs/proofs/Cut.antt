@@ -55,7 +55,7 @@ times mass b e = ap (λ (x : Bool). mass * digit x) e ∙ omega arith
 nothing : (mass : ℕ) (b : Bool) → b ≡ false → mass * digit b ≡ 0
 nothing mass b e = ap (λ (x : Bool). mass * digit x) e ∙ omega arith
 
-module _ (list₀ : List ℕ) (base n nodes mass : ℕ) (rows list : List ℕ) (left : ℕ) (g : CutTurn list₀ base n nodes mass rows list left)
+module _ {list₀ : List ℕ} {base n nodes mass : ℕ} {rows list : List ℕ} {left : ℕ} (g : CutTurn list₀ base n nodes mass rows list left)
     (all : ℕ) (alls : (w : ℕ) → bit all w ≡ ltb w n) where
   -- the component of a node that is left
   module _ (t part : ℕ) (found : bit left t ≡ true) (reached : Reached nodes rows t part) where
@@ -111,7 +111,7 @@ module _ (list₀ : List ℕ) (base n nodes mass : ℕ) (rows list : List ℕ) (
             fits = λ v w h k e. omega (arith, g.asked.fits v w h k, g.untouched v w h k (inl (part_left v e)));
           }
 
-      module _ (list' : List ℕ) (r : AddedRows base n part others mass list list') (left' : ℕ) (less : (v : ℕ) → bit left' v ≡ (bit left v && not (bit part v))) where
+      module _ {list' : List ℕ} (r : AddedRows base n part others mass list list') (left' : ℕ) (less : (v : ℕ) → bit left' v ≡ (bit left v && not (bit part v))) where
         still : (v : ℕ) → bit left' v ≡ true → (bit left v ≡ true) × (bit part v ≡ false)
         still v e =
             let both = sym (less v) ∙ e in
@@ -182,8 +182,8 @@ module _ (list₀ : List ℕ) (base n nodes mass : ℕ) (rows list : List ℕ) (
     not-up v e = of-not _ (and_right (bit all v) _ (sym (downs v) ∙ e))
 
     -- room for this mass, and for any smaller one
-    pub down-asked : (m : ℕ) → m ≤ mass → AddingRows base n down all m list
-    down-asked m most =
+    pub down-asked : {m : ℕ} → m ≤ mass → AddingRows base n down all m list
+    down-asked most =
         record {
           few = g.asked.few;
           low = g.asked.low;
@@ -193,7 +193,7 @@ module _ (list₀ : List ℕ) (base n nodes mass : ℕ) (rows list : List ℕ) (
           fits = λ v w h k e. omega (arith, g.asked.fits v w h k, g.untouched v w h k (inr (not-up v e)));
         }
 
-    module _ (list' : List ℕ) (r : AddedRows base n down all mass list list') (none : left ≡ 0) where
+    module _ {list' : List ℕ} (r : AddedRows base n down all mass list list') (none : left ≡ 0) where
       settled : (v w : ℕ) → v < w → w < n → (bit nodes v ≡ true) ⊎ (bit nodes v ≡ false)
           → Settled nodes mass rows v w (get_or list₀ (place n v w + base) 0) (get_or list' (place n v w + base) 0)
       settled v w h k (inl e) =

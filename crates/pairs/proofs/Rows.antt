@@ -12,9 +12,10 @@ use borrow.Author.Tests.{le-leb, lt-leb, le-ltb, eq-eqb, ne_eqb, ltb-false}
 use lib.Dec.{leb, ltb, eqb}
 use lib.ListN.{length, get_or}
 use Rattle.mass.specs.Split.{whole}
-use Rattle.sets.specs.Sets.{bit, digit}
+use Rattle.sets.specs.Sets.{bit, digit, LowestTaken}
 use Rattle.sets.proofs.Laws.{bit-none}
 use Rattle.sets.proofs.Bools.{and_left, and_right, and_both, of-not, not-of, not_so, clash, which}
+use Rattle.sets.proofs.Taken.{other_in}
 use Rattle.pairs.specs.Pairs.{start, place, pair_count}
 use Rattle.pairs.proofs.PairLaws.{start-suc, start-mono, start-most, place_is, place-before, place-lt}
 use Rattle.pairs.specs.Adding.{AddingRow, AddedRow, AddingRows, AddedRows}
@@ -41,7 +42,7 @@ rows-begin list base n all others mass a =
       past = λ i h. refl;
     }
 
-module _ (list₀ : List ℕ) (base n all others mass : ℕ) (list : List ℕ) (left : ℕ) (g : RowsTurn list₀ base n all others mass list left) where
+module _ {list₀ : List ℕ} {base n all others mass : ℕ} {list : List ℕ} {left : ℕ} (g : RowsTurn list₀ base n all others mass list left) where
   -- nothing is left
   pub rows-done : left ≡ 0 → AddedRows base n all others mass list₀ list
   rows-done e =
@@ -56,10 +57,10 @@ module _ (list₀ : List ℕ) (base n all others mass : ℕ) (list : List ℕ) (
       }
 
   -- the lowest node v of what is left, and the others after it
-  module _ (v : ℕ) (found : bit left v ≡ true) (low : ℕ) (lows : (w : ℕ) → bit low w ≡ ltb w (v + 1))
+  module _ {v left' : ℕ} (t : LowestTaken left v left') (low : ℕ) (lows : (w : ℕ) → bit low w ≡ ltb w (v + 1))
       (later : ℕ) (is : (w : ℕ) → bit later w ≡ (bit others w && not (bit low w))) where
     pub node : v < n
-    node = g.asked.nodes v (g.sub v found)
+    node = g.asked.nodes v (g.sub v t.found)
 
     after : (w : ℕ) → bit later w ≡ true → v < w
     after w e =
@@ -76,9 +77,9 @@ module _ (list₀ : List ℕ) (base n all others mass : ℕ) (list : List ℕ) (
     room : (w : ℕ) → v < w → w < n → get_or list (place n v w + base) 0 + mass * digit (bit others w) ≤ whole
     room w h k =
         let e = g.each v w h k in
-        let whole_row : mass * digit (bit all v && bit others w) ≡ mass * digit (bit others w) = ap (λ (b : Bool). mass * digit (b && bit others w)) (g.sub v found) in
-        let one : mass * digit (bit left v && bit others w) ≡ mass * digit (bit others w) = ap (λ (b : Bool). mass * digit (b && bit others w)) found in
-        omega (arith, g.asked.fits v w h k (g.sub v found), mul-le-mul_left mass (at_most (bit others w)))
+        let whole_row : mass * digit (bit all v && bit others w) ≡ mass * digit (bit others w) = ap (λ (b : Bool). mass * digit (b && bit others w)) (g.sub v t.found) in
+        let one : mass * digit (bit left v && bit others w) ≡ mass * digit (bit others w) = ap (λ (b : Bool). mass * digit (b && bit others w)) t.found in
+        omega (arith, g.asked.fits v w h k (g.sub v t.found), mul-le-mul_left mass (at_most (bit others w)))
 
     pub row-asked : AddingRow (start n v + base) (v + 1) later mass list
     row-asked =
@@ -100,8 +101,8 @@ module _ (list₀ : List ℕ) (base n all others mass : ℕ) (list : List ℕ) (
         }
 
     -- no other comes after v: none comes after what is left
-    pub rows-stopped : later ≡ 0 → ((j : ℕ) → j < v → bit left j ≡ false) → AddedRows base n all others mass list₀ list
-    rows-stopped e first =
+    pub rows-stopped : later ≡ 0 → AddedRows base n all others mass list₀ list
+    rows-stopped e =
         record {
           sized = g.sized;
           each = λ u w h k. omega (arith, g.each u w h k, ap (λ (b : Bool). mass * digit b) (nothing u w h (which (bit left u))));
@@ -114,14 +115,13 @@ module _ (list₀ : List ℕ) (base n all others mass : ℕ) (list : List ℕ) (
         nothing u w h (inl d) = ap (λ (b : Bool). b && bit others w) d ∙ not_so (bit others w) (λ o. clash (here o) (ap (λ (x : ℕ). bit x w) e ∙ bit-none w))
           where
             reached : Dec (u < v) → v ≤ u
-            reached (yes l) = absurd (clash d (first u l))
+            reached (yes l) = absurd (clash d (t.first u l))
             reached (no l) = omega arith
 
             here : bit others w ≡ true → bit later w ≡ true
             here o = is w ∙ and_both (bit others w) _ o (not-of (bit low w) (lows w ∙ le-ltb w (v + 1) (omega (arith, reached (dec_lt u v)))))
 
-    module _ (list' : List ℕ) (r : AddedRow (start n v + base) (v + 1) later mass list list')
-        (left' : ℕ) (rest : (j : ℕ) → bit left' j ≡ (bit left j && not (eqb j v))) where
+    module _ {list' : List ℕ} (r : AddedRow (start n v + base) (v + 1) later mass list list') where
       -- an entry before the row gains nothing
       ahead : (i : ℕ) → i < start n v + base → get_or list' i 0 ≡ get_or list i 0
       ahead i h =
@@ -167,16 +167,16 @@ module _ (list₀ : List ℕ) (base n all others mass : ℕ) (list : List ℕ) (
           (λ (x : ℕ). get_or list' (place n x w + base) 0 + mass * digit (bit left' x && bit others w) ≡ get_or list₀ (place n x w + base) 0 + mass * digit (bit all x && bit others w))
           (sym e)
           (let lt : v < w = omega arith in
-          let gone : bit left' v ≡ false = rest v ∙ ap (λ (b : Bool). bit left v && not b) (eq-eqb v v refl) ∙ and-false (bit left v) in
+          let gone : bit left' v ≡ false = t.rest v ∙ ap (λ (b : Bool). bit left v && not b) (eq-eqb v v refl) ∙ and-false (bit left v) in
           omega (
             arith,
             own w lt k,
             g.each v w lt k,
             ap (λ (b : Bool). mass * digit (b && bit others w)) gone,
-            ap (λ (b : Bool). mass * digit (b && bit others w)) found,
+            ap (λ (b : Bool). mass * digit (b && bit others w)) t.found,
           ))
       each_turn u w h k (no d) =
-          let same : bit left' u ≡ bit left u = rest u ∙ ap (λ (b : Bool). bit left u && not b) (ne_eqb u v d) ∙ and-true (bit left u) in
+          let same : bit left' u ≡ bit left u = t.rest u ∙ ap (λ (b : Bool). bit left u && not b) (ne_eqb u v d) ∙ and-true (bit left u) in
           omega (
             arith,
             other u w h k d (dec_lt u v),
@@ -189,7 +189,7 @@ module _ (list₀ : List ℕ) (base n all others mass : ℕ) (list : List ℕ) (
           record {
             asked = g.asked;
             sized = r.sized ∙ g.sized;
-            sub = λ u e. g.sub u (and_left (bit left u) _ (sym (rest u) ∙ e));
+            sub = λ u e. g.sub u (other_in t u e);
             each = λ u w h k. each_turn u w h k (ℕ_discrete u v);
             before = λ i h. ahead i (omega arith) ∙ g.before i h;
             past =

@@ -9,13 +9,9 @@ fn add_row(lower: &mut [u64], start: usize, skip: usize, set: u64, mass: u64)
     requires { AddingRow start skip set mass lower.old }
     ensures { AddedRow start skip set mass lower.old lower.new }
 {
-    let mut left = set;
-    // With the mass added for the elements of `left`, the entries are as with it added for the whole set.
-    // Each turn takes the lowest element out of `left`, which falls as a number.
-    while left != 0 {
-        let i = start + sets::lowest(left) - skip;
-        lower[i] = lower[i] + mass;
-        left = sets::rest(left);
+    // With the mass added for the elements still to come, the entries are as with it added for the whole set.
+    for w in sets::elements(set) {
+        lower[start + w - skip] += mass;
     }
 }
 
@@ -25,17 +21,13 @@ fn add_rows(lower: &mut [u64], base: usize, n: usize, set: u64, others: u64, mas
     requires { AddingRows base n set others mass lower.old }
     ensures { AddedRows base n set others mass lower.old lower.new }
 {
-    let mut left = set;
-    // With the mass added for the pairs of the nodes of `left`, the entries are as with it added for the whole set.
-    // Each turn takes the lowest element out of `left`, which falls as a number.
-    while left != 0 {
-        let v = sets::lowest(left);
+    // With the mass added for the pairs of the nodes still to come, the entries are as with it added for the whole set.
+    for v in sets::elements(set) {
         let later = sets::less(others, sets::all_below(v + 1));
         if later == 0 {
             return;
         }
         add_row(&mut *lower, start_of(n, v) + base, v + 1, later, mass);
-        left = sets::rest(left);
     }
 }
 

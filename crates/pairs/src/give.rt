@@ -12,12 +12,7 @@ pub fn clear(list: &mut [u64], count: usize)
     requires { count ≤ length list.old }
     ensures { list.new ≡ sets list.old 0 (replicate count 0) }
 {
-    let mut i = 0;
-    // The first i entries are 0, and no others are changed. Each turn raises i, up to `count`.
-    while i < count {
-        list[i] = 0;
-        i += 1;
-    }
+    list[..count].fill(0);
 }
 
 // Lays `count` entries down from a start on: those of another list at the same places, each with `rest` added.
@@ -27,12 +22,9 @@ pub fn copy_raised(from: &[u64], to: &mut [u64], start: usize, count: usize, res
     ensures { to.new ≡ sets to.old start
         (map (λ x. rest + x) (take count (drop start from.now))) }
 {
-    let mut done = 0;
-    // The first `done` of the entries are laid down, each with `rest` added, and no others. Each turn raises `done`, up to `count`.
-    while done < count {
-        let i = done + start;
+    // The entries before i are laid down, each with `rest` added, and no others.
+    for i in start..start + count {
         to[i] = rest + from[i];
-        done += 1;
     }
 }
 

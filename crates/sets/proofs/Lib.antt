@@ -5,3 +5,4 @@ pub mod LowestLaws
 pub mod Bools
 pub mod WhereLaws
 pub mod SearchLaws
+pub mod Taken

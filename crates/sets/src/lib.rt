@@ -2,9 +2,10 @@
 // Assumes nothing.
 #![tactic(auto)]
 
-ghost use Rattle.std.specs.Prelude.{◌≡◌, true, false, not, ◌&&◌, ◌||◌, ℕ, ◌<◌, ◌≤◌, eqb, ltb};
+ghost use Rattle.std.specs.Prelude.{◌≡◌, true, false, not, ◌&&◌, ◌||◌, ℕ, ◌<◌, ◌≤◌, eqb, ltb, MatchOption};
 ghost use Rattle.std.specs.Int.Count.{count_trailing_zeros};
-ghost use Rattle.sets.specs.Sets.{bit, digit};
+ghost use Rattle.std.specs.Iterator.{at_most};
+ghost use Rattle.sets.specs.Sets.{bit, digit, LowestTaken};
 
 // The digit of element i, below 64, in a set of one word.
 pub fn at(set: u64, i: usize) -> u64
@@ -72,4 +73,36 @@ pub fn rest(set: u64) -> u64
     ensures others { (j : ℕ) → bit result j ≡ (bit set j && not (eqb j (count_trailing_zeros 64 set))) }
 {
     set & (set - 1)
+}
+
+// The elements of a set, the lowest first.
+pub fn elements(set: u64) -> Iter
+    ensures { result.left ≡ set }
+{
+    Iter { left: set }
+}
+
+// Goes over the elements of a set: `left` has those that are still to come.
+#[derive(Clone, Copy)]
+pub struct Iter {
+    left: u64,
+}
+
+impl Iterator for Iter {
+    type Item = usize;
+
+    // `left` falls as a number with each element.
+    ghost remaining = { λ s. at_most s.left };
+
+    ghost next_gives = { λ s r t.
+        MatchOption r ((s.left ≡ 0) × (t.left ≡ 0)) (λ i. LowestTaken s.left i t.left) };
+
+    fn next(&mut self) -> Option<usize> {
+        if self.left == 0 {
+            return None;
+        }
+        let i = lowest(self.left);
+        self.left = rest(self.left);
+        Some(i)
+    }
 }

@@ -10,12 +10,9 @@ pub fn rows_of(rows: &[u64; 64], set: u64) -> u64
     ensures { (w : ℕ) → (bit result w ≡ true) ↔ InRows rows.now set w }
 {
     let mut all = 0;
-    let mut left = set;
-    // `all` has only elements of the set's rows, and has each of them that is not in a row of `left`.
-    // Each turn takes the lowest element out of `left`, which falls as a number.
-    while left != 0 {
-        all = sets::union(all, rows[sets::lowest(left)]);
-        left = sets::rest(left);
+    // `all` has only elements of the set's rows, and has each of them that is not in a row still to come.
+    for v in sets::elements(set) {
+        all = sets::union(all, rows[v]);
     }
     all
 }

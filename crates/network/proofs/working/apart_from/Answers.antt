@@ -1,39 +1,32 @@
--- `network::working::apart_from` meets its contract. The loop's invariant: with the links at the nodes left taken out, the set is what it is to be. Assumes nothing.
+-- `network::working::apart_from` meets its contract. The loop's invariant: with the links at the nodes still to come taken out, the set is what it
+-- is to be. Assumes nothing.
 use mathlib.Core.Path.{refl}
 use native.Mathlib.Omega.{arith}
 use Rattle.sets.specs.Sets.{joined}
 use Rattle.network.proofs.NodeLinks.{apart_next, apart-all}
 use Rattle.network.proofs.working.apart_from.Goals as goal
 
-pub loop-left-init : goal.loop-left-init
-loop-left-init c = (omega arith, λ i h. refl)
-
-pub loop-left-smaller : goal.loop-left-smaller
-loop-left-smaller c = c.rest-left.ensures.smaller
-
-pub loop-left-preserved : goal.loop-left-preserved
-loop-left-preserved c =
-    let loop = c.loop-left in
+pub loop-v-preserved : goal.loop-v-preserved
+loop-v-preserved c =
+    let loop = c.loop-v in
     let a = c.args in (
       omega arith,
-      apart_next a.table.now (joined a.up.low a.up.high) a.nodes loop.low loop.high c.less-low.result c.less-high.result
-          c.word.result c.word-in-loop-left.result loop.left c.rest-left.result _ c.lowest-v.result
+      apart_next a.table.now (joined a.up.low a.up.high) a.nodes loop.apart.low loop.apart.high c.less.result c.less-in-loop-v.result
+          _ _ _ _ _
           loop.invariant.0
+          (c.fits-table _)
           (omega arith)
-          (omega arith)
-          c.lowest-v.ensures.is
-          c.lowest-v.ensures.within
-          c.lowest-v.ensures.found
-          c.rest-left.ensures.others
-          c.word.ensures
-          c.word-in-loop-left.ensures
-          c.less-low.ensures
-          c.less-high.ensures
+          c.in-Some.ensures.steps
+          refl
+          refl
+          c.less.ensures
+          c.less-in-loop-v.ensures
           loop.invariant.1,
     )
 
 pub returns : goal.returns
 returns c =
-    let loop = c.loop-left in
+    let loop = c.loop-v in
     let a = c.args in
-    apart-all a.table.now (joined a.up.low a.up.high) a.nodes (joined loop.low loop.high) loop.left c.loop-left-test.false loop.invariant.1
+    apart-all a.table.now (joined a.up.low a.up.high) a.nodes (joined loop.apart.low loop.apart.high) loop.v-iterator.left c.in-None.ensures.steps.0
+    loop.invariant.1

@@ -13,8 +13,8 @@ pub returns : goal.returns
 returns c = λ n bytes held made.
     let initial = c.first_links-all in
     let a = c.args in
-    let low = c.less-low in
-    let high = c.less-high in
+    let low = c.less in
+    let high = c.less-2 in
     working-are n bytes a.count a.table.now held made (outage a.failed) c.apart_from.result.low c.apart_from.result.high (omega arith) (omega arith)
     (λ i h.
     c.apart_from.ensures i h

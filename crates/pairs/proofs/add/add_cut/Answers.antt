@@ -13,32 +13,29 @@ shape_of-lower-then-others-eq0 c = c.loop-left.invariant.sized
 
 pub returns-then-others-eq0 : goal.returns-then-others-eq0
 returns-then-others-eq0 c =
-    all-joined _ _ _ _ _ _ _ _ c.loop-left.invariant _ c.all_below-all.ensures _ _ c.lowest.ensures.found c.reach-part.ensures.paths _ c.less-others.ensures
-    c.if-others-eq0.true
+    all-joined c.loop-left.invariant _ c.all_below-all.ensures _ _ c.lowest.ensures.found c.reach-part.ensures.paths _ c.less-others.ensures c.if-others-eq0.true
 
 pub add_rows-requires : goal.add_rows-requires
 add_rows-requires c =
-    part-asked _ _ _ _ _ _ _ _ c.loop-left.invariant _ c.all_below-all.ensures _ _ c.lowest.ensures.found c.reach-part.ensures.paths _ c.less-others.ensures
+    part-asked c.loop-left.invariant _ c.all_below-all.ensures _ _ c.lowest.ensures.found c.reach-part.ensures.paths _ c.less-others.ensures
 
 pub loop-left-smaller : goal.loop-left-smaller
 loop-left-smaller c =
     let low = c.lowest in
     shrinks c.loop-left.left c.reach-part.result.set c.less-left.result low.result c.less-left.ensures low.ensures.found
-    (has_first _ _ _ _ _ _ _ _ c.loop-left.invariant _ c.all_below-all.ensures _ _ low.ensures.found c.reach-part.ensures.paths)
+    (has_first c.loop-left.invariant _ c.all_below-all.ensures _ _ low.ensures.found c.reach-part.ensures.paths)
 
 pub loop-left-preserved : goal.loop-left-preserved
 loop-left-preserved c =
-    cut-turned _ _ _ _ _ _ _ _ c.loop-left.invariant _ c.all_below-all.ensures _ _ c.lowest.ensures.found c.reach-part.ensures.paths _
-    c.less-others.ensures _ c.add_rows.ensures _ c.less-left.ensures
+    cut-turned c.loop-left.invariant _ c.all_below-all.ensures _ _ c.lowest.ensures.found c.reach-part.ensures.paths _ c.less-others.ensures c.add_rows.ensures _ c.less-left.ensures
 
 pub add_rows-requires-2 : goal.add_rows-requires-2
 add_rows-requires-2 c =
-    down-asked _ _ _ _ _ _ _ _ c.loop-left.invariant _ c.all_below-all.ensures _ c.less.ensures _ (omega arith)
+    down-asked c.loop-left.invariant _ c.all_below-all.ensures _ c.less.ensures (omega arith)
 
 pub shape_of-lower : goal.shape_of-lower
 shape_of-lower c = c.add_rows-2.ensures.sized ∙ c.loop-left.invariant.sized
 
 pub returns : goal.returns
 returns c =
-    cut-done _ _ _ _ _ _ _ _ c.loop-left.invariant _ c.all_below-all.ensures _ c.less.ensures _ c.add_rows-2.ensures
-    c.loop-left-test.false
+    cut-done c.loop-left.invariant _ c.all_below-all.ensures _ c.less.ensures c.add_rows-2.ensures c.loop-left-test.false
