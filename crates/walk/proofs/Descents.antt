@@ -9,8 +9,11 @@ use native.Mathlib.Nat.{pow-succ'}
 use native.Mathlib.Numerals.{add-one}
 use native.Mathlib.Omega.{arith}
 use lib.ListN.{length, get_or, drop, replicate, length-drop, drop_of_length-le}
-use lib.Pow.{pow_pos, pow_mono}
+use lib.Pow.{pow_mono}
 use lib.Seq.{sets, drop-cons}
+use Rattle.std.specs.Prelude.{Option, None, Some}
+use Rattle.std.specs.Option.{SomeIff}
+use Rattle.std.proofs.lemmas.Option.{none-some, same_Some}
 use Rattle.mass.specs.Split.{certain, whole, failing, working}
 use Rattle.mass.proofs.Theorems.{parts-le, fails-le, works-le}
 use Rattle.sets.specs.Sets.{joined}
@@ -23,10 +26,11 @@ use Rattle.walk.specs.Ends.{End, dropped, after, ends}
 use Rattle.walk.proofs.EndsLaws.{ends-cut, ends-leaf}
 use Rattle.walk.specs.Pending.{Branch, branch, branch_ends}
 use Rattle.walk.proofs.StackLaws.{branch-node, path_end-cut, path_end-enough, path-last, path-cut, path-on, words-run, words-branch}
-use Rattle.walk.proofs.StackLaws.{mass-run, mass-branch, descent-cut, descent-enough}
+use Rattle.walk.proofs.StackLaws.{mass-run, mass-branch}
 use Rattle.walk.specs.WorksPath.{path_steps, path_mass, path_end}
 use Rattle.walk.specs.Stack.{branch_of, SoundBranch, to_come, pending_mass, SoundEntry, SoundEntries, Stack}
-use Rattle.walk.specs.Steps.{Stopped, Pushed, Delayed, Descended, descent_of}
+use Rattle.walk.specs.Steps.{Stopped, Pushed, Delayed, Descended}
+use Rattle.walk.specs.declared.Examined.{Examined}
 use Rattle.walk.specs.declared.Failing.{Failing}
 use Rattle.walk.specs.declared.Stop.{Stop}
 use Rattle.walk.proofs.Branches.{events-length, events-probability, probability-le, next-works, next-fails}
@@ -39,6 +43,10 @@ none = record { probability = 0; nodes = 0; links = 0 }
 -- the events that are left at a depth
 pub left_at : (count : ℕ) (words : List ℕ) (depth : ℕ) → length (drop depth (events_of count words)) ≡ count - depth
 left_at count words depth = omega (arith, length-drop depth (events_of count words), events-length count words)
+
+-- the end of a descent that stops at a mass
+abbrev pub StopsAs : ℕ → ℕ → Failing → Option Examined → Type 0
+StopsAs threshold mass f end = SomeIff end (threshold ≤ mass) (record { mass = mass; failing = f })
 
 -- on a "works" path: it stops where it stops from the start, and the mass is not above that at the start
 pub record OnPath (count threshold : ℕ) (words : List ℕ) (depth₀ mass₀ depth mass : ℕ) : Type 0 where
@@ -73,12 +81,12 @@ module _ (count : ℕ) (words : List ℕ) (falls : Falling certain (events_of co
           lighter = on.lighter;
         }
 
-    pub path-ended : count ≤ depth → Stopped count threshold words depth₀ mass₀ (record { depth = depth; mass = mass })
+    pub path-ended : count ≤ depth → Stopped count threshold words depth₀ mass₀ (record { depth = count; mass = mass })
     path-ended h =
         record {
           steps = omega (arith, on.steps, ap (path_steps threshold mass) over, (path-last threshold mass).0);
           stops = omega (arith, on.stops, ap (path_mass threshold mass) over, (path-last threshold mass).1);
-          within = on.within;
+          within = omega arith;
           light = on.light;
           lighter = on.lighter;
         }
@@ -152,9 +160,10 @@ module _ (count threshold : ℕ) (words : List ℕ) where
     high = f.high
 
     -- the ends of the branch in hand are one end, which stops at the mass m, and n dropped ones
-    pub come : (m n : ℕ) → ends threshold mass (drop depth (events_of count words)) ≡ path_end threshold m (count - depth) ∷ replicate n dropped
-        → m ≤ mass → (0 < n → 4 ≤ top) → Descended count threshold words all pending stack (descent_of threshold top m f n)
-    come m n below less room = step (dec_lt m threshold)
+    come : (m n : ℕ) → ends threshold mass (drop depth (events_of count words)) ≡ path_end threshold m (count - depth) ∷ replicate n dropped
+        → m ≤ mass → (0 < n → 4 ≤ top) → (end : Option Examined) → StopsAs threshold m f end
+        → Descended count threshold words all pending stack (record { at = top; end = end; dropped = n })
+    come m n below less room = step
       where
         k : ℕ
         k = joined low high
@@ -171,42 +180,52 @@ module _ (count threshold : ℕ) (words : List ℕ) where
         whole-path : path ++ replicate (count - depth) false ≡ scenario_of count k
         whole-path = rw deep at (sym (scenario-works depth (count - depth) k g.hand.decided))
 
-        step : Dec (m < threshold) → Descended count threshold words all pending stack (descent_of threshold top m f n)
-        step (yes h) =
-            rw (descent-cut threshold top m f n h)
-            (record {
-              ends = initial ∙ rw (path_end-cut threshold m (count - depth) h);
+        found : Examined
+        found = record { mass = m; failing = f }
+
+        step : (end : Option Examined) → StopsAs threshold m f end → Descended count threshold words all pending stack (record { at = top; end = end; dropped = n })
+        step None h =
+            record {
+              ends = initial ∙ rw (path_end-cut threshold m (count - depth) (omega (arith, h)));
               held = g.held;
               room = room;
-              light = omega arith;
-              decided = omega (arith, pow_pos count);
+              light = λ x (clash : None ≡ Some x). absurd (none-some x clash);
+              decided = λ x (clash : None ≡ Some x). absurd (none-some x clash);
               lighter = omega (arith, g.lighter);
-            })
-        step (no h) =
-            rw (descent-enough threshold top m f n (omega arith))
+            }
+        step (Some x) (h, e) =
+            rw e
             (record {
-              ends = initial ∙ rw (path_end-enough threshold m (count - depth) (omega arith), whole-path);
+              ends = initial ∙ rw (path_end-enough threshold m (count - depth) h, whole-path);
               held = g.held;
               room = room;
-              light = omega (arith, g.hand.light);
-              decided = omega (arith, g.hand.decided, pow_mono {i = depth} {j = count} g.hand.deep);
+              light = λ y (same : Some found ≡ Some y). rw (← same_Some _ _ same) (omega (arith, g.hand.light));
+              decided = λ y (same : Some found ≡ Some y). rw (← same_Some _ _ same) (omega (arith, g.hand.decided, pow_mono {i = depth} {j = count} g.hand.deep));
               lighter = omega (arith, g.lighter);
             })
 
     -- a branch below the threshold
-    pub come-cut : mass < threshold → Descended count threshold words all pending stack (descent_of threshold top mass f 0)
+    pub come-cut : mass < threshold → (end : Option Examined) → StopsAs threshold mass f end
+        → Descended count threshold words all pending stack (record { at = top; end = end; dropped = 0 })
     come-cut h =
         come mass 0 (rw (ends-cut threshold mass (drop depth (events_of count words)) h, path_end-cut threshold mass (count - depth) h)) (omega arith) (λ (z : 0 < 0). omega arith)
 
     -- a branch with no event left
-    pub come-leaf : threshold ≤ mass → count ≤ depth → Descended count threshold words all pending stack (descent_of threshold top mass f 0)
-    come-leaf h l = come mass 0 (rw (over, nothing, ends-leaf threshold mass h, path_end-enough threshold mass 0 h)) (omega arith) (λ (z : 0 < 0). omega arith)
+    pub come-leaf : count ≤ depth → (end : Option Examined) → StopsAs threshold mass f end
+        → Descended count threshold words all pending stack (record { at = top; end = end; dropped = 0 })
+    come-leaf l = step (dec_lt mass threshold)
       where
         over : drop depth (events_of count words) ≡ []
         over = drop_of_length-le (events_of count words) {i = depth} (omega (arith, events-length count words))
 
         nothing : count - depth ≡ 0
         nothing = omega arith
+
+        step : Dec (mass < threshold) → (end : Option Examined) → StopsAs threshold mass f end
+            → Descended count threshold words all pending stack (record { at = top; end = end; dropped = 0 })
+        step (yes h) = come-cut h
+        step (no h) =
+            come mass 0 (rw (over, nothing, ends-leaf threshold mass (omega arith), path_end-enough threshold mass 0 (omega arith))) (omega arith) (λ (z : 0 < 0). omega arith)
 
     module _ (few : count ≤ 128) (falls : Falling certain (events_of count words)) (h : threshold ≤ mass) (l : depth < count) where
       pub room : 4 ≤ top
@@ -220,8 +239,8 @@ module _ (count threshold : ℕ) (words : List ℕ) where
 
       -- the "fails" side falls below the threshold
       pub come-straight : failing mass (get_or words (depth * 4) 0) < threshold → (works : ℕ) → works ≡ working mass (get_or words (depth * 4) 0)
-          → (s : Stop) → Stopped count threshold words (depth + 1) works s
-          → Descended count threshold words all pending stack (descent_of threshold top s.mass f (s.depth - depth))
+          → (s : Stop) → Stopped count threshold words (depth + 1) works s → (end : Option Examined) → StopsAs threshold s.mass f end
+          → Descended count threshold words all pending stack (record { at = top; end = end; dropped = s.depth - depth })
       come-straight less works worked s stopped =
           come s.mass (s.depth - depth) (rw (← left_at count words depth, stops, steps) path) (omega (arith, stopped.lighter, worked-less works worked))
           (λ (z : 0 < s.depth - depth). room)
@@ -342,7 +361,7 @@ module _ (count threshold : ℕ) (words : List ℕ) where
 
     pub taken-run : 128 < get_or stack at 0
         → Descended count threshold words (to_come count threshold words at stack) (pending_mass (drop at stack)) stack
-        (record { at = at + 4; relevant = false; mass = 0; low = 0; high = 0; dropped = get_or stack (at + 1) 0 - 1 })
+        (record { at = at + 4; end = None; dropped = get_or stack (at + 1) 0 - 1 })
     taken-run l =
         record {
           ends =
@@ -350,8 +369,8 @@ module _ (count threshold : ℕ) (words : List ℕ) where
               (ap (λ (n : ℕ). replicate n dropped ++ to_come count threshold words (at + 4) stack) more);
           held = under;
           room = λ (z : 0 < get_or stack (at + 1) 0 - 1). omega arith;
-          light = omega arith;
-          decided = omega (arith, pow_pos count);
+          light = λ x (clash : None ≡ Some x). absurd (none-some x clash);
+          decided = λ x (clash : None ≡ Some x). absurd (none-some x clash);
           lighter = rw (words-at stack at fits) (omega arith);
         }
       where

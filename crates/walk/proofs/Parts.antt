@@ -1,7 +1,7 @@
 -- A mass in two parts, high × 10^9 + low: what an event leaves of it.
 -- Assumes nothing.
 use mathlib.Core.Path.{◌≡◌, ap}
-use Prim.Native.Nat.{ℕ, ◌+◌, ◌-◌, ◌*◌, ◌/◌, ◌%◌, ◌^◌, ◌≤◌, ◌<◌}
+use Prim.Native.Nat.{ℕ, ◌+◌, ◌-◌, ◌*◌, ◌/◌, ◌%◌, ◌≤◌, ◌<◌}
 use native.Mathlib.Nat.{mul-le-mul}
 use native.Mathlib.Omega.{arith}
 use Rattle.mass.specs.Split.{certain, whole, working}
@@ -17,27 +17,11 @@ module _ (m : Parted) (q : ℕ) (t : TwoParts m.units m) (fits : q ≤ certain) 
   rest_le : certain - q ≤ certain
   rest_le = omega arith
 
-  -- the products and the sums are words
   first-le : m.high * (certain - q) ≤ whole
   first-le = omega (arith, mul-le-mul {n₁ = m.high} {n₂ = m.high} (omega arith) rest_le, t.parts, t.light)
 
   second-le : m.low * (certain - q) ≤ 16000000000000000000
   second-le = omega (arith, mul-le-mul {n₁ = m.low} {n₂ = 16 * certain} (omega (arith, t.small)) rest_le)
-
-  pub first_fits : m.high * (certain - q) < 2 ^ 64
-  first_fits = omega (arith, first-le)
-
-  pub second_fits : m.low * (certain - q) < 2 ^ 64
-  second_fits = omega (arith, second-le)
-
-  pub units-fit : m.high * (certain - q) + m.low * (certain - q) / certain < 2 ^ 64
-  units-fit = omega (arith, first-le, second-le)
-
-  pub low_fits : m.high * (certain - q) % certain + m.low * (certain - q) / certain < 2 ^ 64
-  low_fits = omega (arith, second-le)
-
-  pub high_fits : m.high * (certain - q) / certain + (m.high * (certain - q) % certain + m.low * (certain - q) / certain) / certain < 2 ^ 64
-  high_fits = omega (arith, first-le, second-le)
 
   -- together they are what the event leaves
   worked : m.high * (certain - q) + m.low * (certain - q) / certain ≡ working m.units q

@@ -3,6 +3,7 @@
 use mathlib.Core.Path.{◌≡◌, refl, ap, sym, ◌∙◌}
 use mathlib.Core.Bool.{Bool, true, false}
 use mathlib.Core.List.{List, [], ◌∷◌, ◌++◌, append-nil}
+use Rattle.std.specs.Prelude.{None, Some}
 use Prim.Native.Nat.{ℕ, zero, suc, ◌+◌, ◌≤◌, ◌<◌}
 use native.Mathlib.Decide.{dec_le, dec_lt}
 use native.Mathlib.Nat.{zero-add, suc-add}
@@ -25,6 +26,7 @@ use Rattle.walk.proofs.Words.{laid-size, laid-words}
 use Rattle.walk.specs.Walk.{plan_ends, complete}
 use Rattle.walk.specs.Stack.{Begun, SoundBranch, words_ends, stack_ends, to_come, pending_mass, SoundEntry, SoundEntries, Stack}
 use Rattle.walk.specs.Steps.{StepTaken}
+use Rattle.walk.specs.declared.Examined.{Examined}
 use Rattle.walk.specs.declared.WalkStep.{WalkStep}
 
 -- ---- the beginning
@@ -145,63 +147,68 @@ drop-run (suc n) k list = rw (suc-add n k) (drop-run n k list)
 
 module _ (count threshold : ℕ) (words : List ℕ) (at : ℕ) (stack : List ℕ) (allowed : ℕ) (stack' : List ℕ) (r : WalkStep)
     (s : StepTaken count threshold words at stack allowed stack' r) where
-  -- the ends to come before and after the step, and the end handed out
+  -- the ends to come before and after the step
   abbrev before : List End
   before = to_come count threshold words at stack
 
   abbrev next : List End
   next = to_come count threshold words r.at stack'
 
-  abbrev scenario : Scenario
-  scenario = scenario_of count (joined r.low r.high)
+  -- no scenario was handed out
+  module _ (e : r.found ≡ None) where
+    ends-none : before ≡ replicate s.passed dropped ++ next
+    ends-none = rw e at s.ends
 
-  ends_found : r.found ≡ true → before ≡ replicate s.passed dropped ++ (relevant scenario r.mass ∷ next)
-  ends_found e = rw e at s.ends
+    counted_none : allowed ≡ s.passed + r.left
+    counted_none = rw (e, zero-add) at s.counted
 
-  ends-none : r.found ≡ false → before ≡ replicate s.passed dropped ++ next
-  ends-none e = rw e at s.ends
+    -- no end is left that may be reached, or none at all
+    none-taken : (k : ℕ) → r.left ≡ k → take k next ≡ []
+    none-taken zero same = refl
+    none-taken (suc k) same = rw (s.ended e (omega arith), take-nil {A = End} (suc k))
 
-  counted-found : r.found ≡ true → allowed ≡ s.passed + suc r.left
-  counted-found e = rw (e, one-add) at s.counted
+    none_dropped : (k : ℕ) → r.left ≡ k → drop k next ≡ next
+    none_dropped zero same = refl
+    none_dropped (suc k) same = rw (s.ended e (omega arith), drop-nil {A = End} (suc k))
 
-  counted_none : r.found ≡ false → allowed ≡ s.passed + r.left
-  counted_none e = rw (e, zero-add) at s.counted
+    take_none : take allowed before ≡ replicate s.passed dropped ++ []
+    take_none =
+        rw (ends-none, counted_none)
+        (take-run s.passed r.left next ∙ ap (λ l. replicate s.passed dropped ++ l) (none-taken r.left refl))
 
-  -- fewer ends may be reached after a scenario was handed out
-  pub left_less : r.found ≡ true → r.left < allowed
-  left_less e = omega (arith, counted-found e)
+    -- law: how many ends are reached
+    pub left-none : r.left + length (take allowed before) ≡ allowed
+    left-none = rw (take_none, length-append, length-replicate s.passed dropped) (omega (arith, counted_none))
 
-  -- where none is handed out: no end is left that may be reached, or none at all
-  none-taken : r.found ≡ false → (k : ℕ) → r.left ≡ k → take k next ≡ []
-  none-taken e zero same = refl
-  none-taken e (suc k) same = rw (s.ended e (omega arith), take-nil {A = End} (suc k))
+    -- law: the ends after those that may be reached
+    pub drop-none : drop allowed before ≡ next
+    drop-none = rw (ends-none, counted_none) (drop-run s.passed r.left next ∙ none_dropped r.left refl)
 
-  none_dropped : r.found ≡ false → (k : ℕ) → r.left ≡ k → drop k next ≡ next
-  none_dropped e zero same = refl
-  none_dropped e (suc k) same = rw (s.ended e (omega arith), drop-nil {A = End} (suc k))
+  -- one was
+  module _ {x : Examined} (e : r.found ≡ Some x) where
+    abbrev scenario : Scenario
+    scenario = scenario_of count (joined x.failing.low x.failing.high)
 
-  -- law: the ends that are reached
-  take_found : r.found ≡ true → take allowed before ≡ replicate s.passed dropped ++ (relevant scenario r.mass ∷ take r.left next)
-  take_found e = rw (ends_found e, counted-found e) (take-run s.passed (suc r.left) (relevant scenario r.mass ∷ next))
+    ends_found : before ≡ replicate s.passed dropped ++ (relevant scenario x.mass ∷ next)
+    ends_found = rw e at s.ends
 
-  take_none : r.found ≡ false → take allowed before ≡ replicate s.passed dropped ++ []
-  take_none e =
-      rw (ends-none e, counted_none e)
-      (take-run s.passed r.left next ∙ ap (λ l. replicate s.passed dropped ++ l) (none-taken e r.left refl))
+    counted-found : allowed ≡ s.passed + suc r.left
+    counted-found = rw (e, one-add) at s.counted
 
-  -- law: how many there are
-  pub left-found : r.found ≡ true → length (take allowed before) + r.left ≡ allowed + length (take r.left next)
-  left-found e = rw (take_found e, length-append, length-replicate s.passed dropped) (omega (arith, counted-found e))
+    take_found : take allowed before ≡ replicate s.passed dropped ++ (relevant scenario x.mass ∷ take r.left next)
+    take_found = rw (ends_found, counted-found) (take-run s.passed (suc r.left) (relevant scenario x.mass ∷ next))
 
-  pub left-none : r.found ≡ false → r.left + length (take allowed before) ≡ allowed
-  left-none e = rw (take_none e, length-append, length-replicate s.passed dropped) (omega (arith, counted_none e))
+    -- law: fewer ends may be reached after it
+    pub left_less : r.left < allowed
+    left_less = omega (arith, counted-found)
 
-  -- law: the ends after those that may be reached
-  pub drop-found : r.found ≡ true → drop allowed before ≡ drop r.left next
-  drop-found e = rw (ends_found e, counted-found e) (drop-run s.passed (suc r.left) (relevant scenario r.mass ∷ next))
+    -- law: how many ends are reached
+    pub left-found : length (take allowed before) + r.left ≡ allowed + length (take r.left next)
+    left-found = rw (take_found, length-append, length-replicate s.passed dropped) (omega (arith, counted-found))
 
-  pub drop-none : r.found ≡ false → drop allowed before ≡ next
-  drop-none e = rw (ends-none e, counted_none e) (drop-run s.passed r.left next ∙ none_dropped e r.left refl)
+    -- law: the ends after those that may be reached
+    pub drop-found : drop allowed before ≡ drop r.left next
+    drop-found = rw (ends_found, counted-found) (drop-run s.passed (suc r.left) (relevant scenario x.mass ∷ next))
 
   -- law: any value of a list of ends that passes over dropped ones
   module _ {A : Type 0} (value : List End → A) (passes : (list : List End) → value (dropped ∷ list) ≡ value list) where
@@ -209,23 +216,25 @@ module _ (count threshold : ℕ) (words : List ℕ) (at : ℕ) (stack : List ℕ
     passes-run zero list = refl
     passes-run (suc n) list = passes (replicate n dropped ++ list) ∙ passes-run n list
 
-    pub value_found : r.found ≡ true → value (take allowed before) ≡ value (relevant scenario r.mass ∷ take r.left next)
-    value_found e = rw (take_found e) (passes-run s.passed (relevant scenario r.mass ∷ take r.left next))
+    pub value_found : {x : Examined} → r.found ≡ Some x
+        → value (take allowed before) ≡ value (relevant (scenario_of count (joined x.failing.low x.failing.high)) x.mass ∷ take r.left next)
+    value_found {x} e = rw (take_found e) (passes-run s.passed (relevant (scenario e) x.mass ∷ take r.left next))
 
-    pub value_none : r.found ≡ false → value (take allowed before) ≡ value []
+    pub value_none : r.found ≡ None → value (take allowed before) ≡ value []
     value_none e = rw (take_none e) (passes-run s.passed [])
 
   -- sums
-  pub sum-found : (f : Scenario → ℕ → ℕ) → r.found ≡ true
-      → sum_ends f (take allowed before) ≡ f scenario r.mass + sum_ends f (take r.left next)
-  sum-found f = value_found (sum_ends f) (λ list. refl)
+  pub sum-found : (f : Scenario → ℕ → ℕ) → {x : Examined} → r.found ≡ Some x
+      → sum_ends f (take allowed before) ≡ f (scenario_of count (joined x.failing.low x.failing.high)) x.mass + sum_ends f (take r.left next)
+  sum-found f e = value_found (sum_ends f) (λ list. refl) e
 
-  pub sum-none : (f : Scenario → ℕ → ℕ) → r.found ≡ false → sum_ends f (take allowed before) ≡ 0
+  pub sum-none : (f : Scenario → ℕ → ℕ) → r.found ≡ None → sum_ends f (take allowed before) ≡ 0
   sum-none f = value_none (sum_ends f) (λ list. refl)
 
   -- scenarios
-  pub scenarios-found : r.found ≡ true → scenarios (take allowed before) ≡ scenario ∷ scenarios (take r.left next)
-  scenarios-found = value_found scenarios (λ list. refl)
+  pub scenarios-found : {x : Examined} → r.found ≡ Some x
+      → scenarios (take allowed before) ≡ scenario_of count (joined x.failing.low x.failing.high) ∷ scenarios (take r.left next)
+  scenarios-found e = value_found scenarios (λ list. refl) e
 
-  pub scenarios-none : r.found ≡ false → scenarios (take allowed before) ≡ []
+  pub scenarios-none : r.found ≡ None → scenarios (take allowed before) ≡ []
   scenarios-none = value_none scenarios (λ list. refl)

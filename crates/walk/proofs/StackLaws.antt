@@ -15,8 +15,6 @@ use borrow.Author.Tests.{lt-ltb, le-ltb}
 use Rattle.mass.specs.Split.{working}
 use Rattle.walk.specs.WorksPath.{path_steps, path_mass, path_end}
 use Rattle.walk.specs.Stack.{branch_of, words_ends, entry_mass}
-use Rattle.walk.specs.Steps.{descent_of}
-use Rattle.walk.specs.declared.Failing.{Failing}
 
 -- law: where its mass is at least the threshold and events are left, a branch is its two parts at the next event, "works" before "fails"
 pub branch-node : (t : ℕ) (events : List Event) (b : Branch) (none : Event) → t ≤ b.mass → length b.path < length events
@@ -83,15 +81,3 @@ mass-run depth mass h = rw (lt-ltb 128 depth h, entry_mass)
 pub mass-branch : (depth mass : ℕ) → depth ≤ 128 → entry_mass depth mass ≡ mass
 unfolding entry_mass
 mass-branch depth mass h = rw (le-ltb 128 depth h, entry_mass)
-
-module _ (threshold at mass : ℕ) (f : Failing) (run : ℕ) where
-  pub descent-cut : mass < threshold
-      → descent_of threshold at mass f run ≡ record { at = at; relevant = false; mass = 0; low = 0; high = 0; dropped = run }
-  unfolding descent_of
-  descent-cut h = rw (lt-ltb mass threshold h, descent_of)
-
-  pub descent-enough : threshold ≤ mass
-      → descent_of threshold at mass f run
-      ≡ record { at = at; relevant = true; mass = mass; low = f.low; high = f.high; dropped = run }
-  unfolding descent_of
-  descent-enough h = rw (le-ltb mass threshold h, descent_of)

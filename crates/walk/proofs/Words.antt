@@ -5,7 +5,7 @@ use mathlib.Core.List.{List, [], ◌∷◌, ◌++◌, append_assoc}
 use Prim.Native.Nat.{ℕ, suc, ◌+◌, ◌-◌, ◌*◌, ◌%◌, ◌^◌, ◌≤◌, ◌<◌}
 use native.Mathlib.Numerals.{add-one, add-two, add-three, add-four}
 use native.Mathlib.Omega.{arith}
-use lib.ListN.{length, get_or, take, drop, set}
+use lib.ListN.{length, get_or, take, drop}
 use lib.Seq.{sets, drop-cons, drop_at, sets-eq, length-sets, length-take-le}
 use lib.Pow.{pow-add, pow_mono, shl_exact}
 use Rattle.sets.specs.Sets.{joined}
@@ -14,15 +14,7 @@ use Rattle.sets.specs.Sets.{joined}
 pub element : (i : ℕ) → i < 64 → (1 * 2 ^ i) % 2 ^ 64 ≡ 2 ^ i
 element i h = shl_exact {a = 1} 1 i 64 (omega arith) (omega arith) ∙ omega arith
 
--- one event more, in the low word
-module _ (low high event : ℕ) (fits : joined low high < 2 ^ event) (early : event < 64) where
-  pub low_fits : low + (1 * 2 ^ event) % 2 ^ 64 < 2 ^ 64
-  low_fits = rw (element event early) (omega (arith, pow_mono {i = event} {j = 63} (omega arith)))
-
-  pub low-joined : joined (low + (1 * 2 ^ event) % 2 ^ 64) high ≡ joined low high + 2 ^ event
-  low-joined = rw (element event early) (omega arith)
-
--- and in the high word
+-- one event more, in the high word
 module _ (low high event : ℕ) (fits : joined low high < 2 ^ event) (late : 64 ≤ event) (last : event < 128) where
   parted : 2 ^ event ≡ 2 ^ 64 * 2 ^ (event - 64)
   parted = ap (λ (n : ℕ). 2 ^ n) again ∙ pow-add 2 64 (event - 64)
@@ -53,10 +45,6 @@ words-at s at h =
     ∙ ap (λ (l : List ℕ). get_or s (suc at) 0 ∷ l)
     (drop-cons s (suc (suc at)) 0 (omega arith)
     ∙ ap (λ (l : List ℕ). get_or s (suc (suc at)) 0 ∷ l) (drop-cons s (suc (suc (suc at))) 0 (omega arith)))))
-
--- four words stored one by one, from `at` on
-pub words-put : (s : List ℕ) (at a b c d : ℕ) → set (set (set (set s at a) (at + 1) b) (at + 2) c) (at + 3) d ≡ sets s at (a ∷ b ∷ c ∷ d ∷ [])
-words-put s at a b c d = rw (add-one at, add-two at, add-three at)
 
 -- a stack with four words laid down from `at` on: its length, and what it holds from there on
 module _ (s s' : List ℕ) (at a b c d : ℕ) (laid : s' ≡ sets s at (a ∷ b ∷ c ∷ d ∷ [])) (size : length s ≡ 512) where

@@ -1,25 +1,33 @@
 -- What a step of the walk promises, and its parts.
 -- Assumes nothing.
-use Rattle.std.specs.Prelude.{◌≡◌, Bool, true, false, List, [], ◌∷◌, ◌++◌, ℕ, ◌+◌, ◌*◌, ◌^◌, ◌≤◌, ◌<◌, ltb, drop, replicate}
+use Rattle.std.specs.Prelude.{◌≡◌, Bool, true, false, List, [], ◌∷◌, ◌++◌, ℕ, ◌+◌, ◌*◌, ◌^◌, ◌≤◌, ◌<◌, drop, replicate, Option}
+use Rattle.std.specs.Option.{ForSome, ForNone, option_len, option_map, option_map_or, option_to_list}
 use Rattle.std.proofs.lemmas.List.Edits.{sets}
 use Rattle.mass.specs.Split.{certain, whole}
-use Rattle.sets.specs.Sets.{joined, digit}
+use Rattle.sets.specs.Sets.{joined}
 use Rattle.plan.specs.Lists.{events_of}
 use Rattle.walk.specs.Scenario.{scenario_of}
 use Rattle.walk.specs.Ends.{End, dropped, relevant}
 use Rattle.walk.specs.WorksPath.{path_steps, path_mass}
 use Rattle.walk.specs.Stack.{to_come, pending_mass, Stack}
 use Rattle.walk.specs.declared.Descent.{Descent}
-use Rattle.walk.specs.declared.Failing.{Failing}
+use Rattle.walk.specs.declared.Examined.{Examined}
 use Rattle.walk.specs.declared.Parted.{Parted}
 use Rattle.walk.specs.declared.StackEntry.{StackEntry}
 use Rattle.walk.specs.declared.WalkStep.{WalkStep}
 use Rattle.walk.specs.declared.Stop.{Stop}
 
+-- a relevant end, by its mass and its failing events
+abbrev pub relevant_end : ℕ → Examined → End
+relevant_end count x = relevant (scenario_of count (joined x.failing.low x.failing.high)) x.mass
+
 -- the scenario that a step hands out, with its mass; no end where it found none
-abbrev pub found_ends : ℕ → Bool → ℕ → ℕ → ℕ → List End
-found_ends count true mass low high = relevant (scenario_of count (joined low high)) mass ∷ []
-found_ends count false mass low high = []
+abbrev pub found_ends : ℕ → Option Examined → List End
+found_ends count found = option_to_list (option_map (relevant_end count) found)
+
+-- the mass of a relevant scenario, where there is one
+abbrev pub mass_of : Option Examined → ℕ
+mass_of found = option_map_or (λ x. x.mass) found 0
 
 -- A step, from a stack that begins at `at`, where so many ends as `allowed` may still be reached: the ends to come begin with `passed`
 -- dropped ones, then the one handed out; the ends then still to come, and how many may still be reached, are the rest. Where none is
@@ -27,14 +35,13 @@ found_ends count false mass low high = []
 pub record StepTaken (count threshold : ℕ) (words : List ℕ) (at : ℕ) (stack : List ℕ) (allowed : ℕ) (stack' : List ℕ) (r : WalkStep) : Type 0 where
   pub passed : ℕ
   pub ends : to_come count threshold words at stack
-      ≡ replicate passed dropped ++ (found_ends count r.found r.mass r.low r.high ++ to_come count threshold words r.at stack')
-  pub counted : allowed ≡ passed + (digit r.found + r.left)
-  pub ended : r.found ≡ false → 0 < r.left → to_come count threshold words r.at stack' ≡ []
+      ≡ replicate passed dropped ++ (found_ends count r.found ++ to_come count threshold words r.at stack')
+  pub counted : allowed ≡ passed + (option_len r.found + r.left)
+  pub ended : ForNone r.found (0 < r.left → to_come count threshold words r.at stack' ≡ [])
   pub held : Stack count r.at stack'
-  pub light : r.mass ≤ whole
-  pub decided : joined r.low r.high < 2 ^ count
-  pub nothing : r.found ≡ false → (r.mass ≡ 0) × (r.low ≡ 0) × (r.high ≡ 0)
-  pub lighter : r.mass + pending_mass (drop r.at stack') ≤ pending_mass (drop at stack)
+  pub light : ForSome r.found (λ x. x.mass ≤ whole)
+  pub decided : ForSome r.found (λ x. joined x.failing.low x.failing.high < 2 ^ count)
+  pub lighter : mass_of r.found + pending_mass (drop r.at stack') ≤ pending_mass (drop at stack)
 
 -- a mass in two parts
 pub record TwoParts (mass : ℕ) (m : Parted) : Type 0 where
@@ -66,7 +73,7 @@ pub record Delayed (run at : ℕ) (stack stack' : List ℕ) (r : ℕ) : Type 0 w
   pub held : (count : ℕ) → Stack count at stack → Stack count r stack'
   pub same : (count : ℕ) → Stack count at stack → pending_mass (drop r stack') ≡ pending_mass (drop at stack)
 
--- the end that a descent comes to
+-- an end, relevant or not
 abbrev pub end_of : ℕ → Bool → ℕ → ℕ → ℕ → End
 end_of count true mass low high = relevant (scenario_of count (joined low high)) mass
 end_of count false mass low high = dropped
@@ -75,18 +82,10 @@ end_of count false mass low high = dropped
 -- comes off `pending`, the mass that was pending before
 pub record Descended (count threshold : ℕ) (words : List ℕ) (all : List End) (pending : ℕ) (stack : List ℕ) (r : Descent) : Type 0 where
   pub ends : all
-      ≡ end_of count r.relevant r.mass r.low r.high
+      ≡ option_map_or (relevant_end count) r.end dropped
       ∷ (replicate r.dropped dropped ++ to_come count threshold words r.at stack)
   pub held : Stack count r.at stack
   pub room : 0 < r.dropped → 4 ≤ r.at
-  pub light : r.mass ≤ whole
-  pub decided : joined r.low r.high < 2 ^ count
-  pub lighter : r.mass + pending_mass (drop r.at stack) ≤ pending
-
--- the answer of a descent that stops at a mass: `run` dropped ends follow
-unfoldable pub descent_of : ℕ → ℕ → ℕ → Failing → ℕ → Descent
-descent_of threshold at mass f run =
-    elim (ltb mass threshold) [
-      | true ↦ record { at = at; relevant = false; mass = 0; low = 0; high = 0; dropped = run }
-      | false ↦ record { at = at; relevant = true; mass = mass; low = f.low; high = f.high; dropped = run }
-    ]
+  pub light : ForSome r.end (λ x. x.mass ≤ whole)
+  pub decided : ForSome r.end (λ x. joined x.failing.low x.failing.high < 2 ^ count)
+  pub lighter : mass_of r.end + pending_mass (drop r.at stack) ≤ pending

@@ -1,14 +1,14 @@
 // One step of the walk: the next relevant scenario.
-ghost use Rattle.std.specs.Prelude.{◌≡◌, ◌+◌, ◌*◌, ◌^◌, ◌≤◌, ◌<◌, min, length, get_or, drop, ◌++◌, false};
+ghost use Rattle.std.specs.Prelude.{◌≡◌, ◌+◌, ◌*◌, ◌^◌, ◌≤◌, ◌<◌, SomeIff, length, get_or, drop, ◌++◌};
 ghost use Rattle.mass.specs.Split.{certain, whole, both_parts, working};
 ghost use Rattle.sets.specs.Sets.{joined};
 ghost use Rattle.plan.specs.Lists.{events_of};
 ghost use Rattle.plan.specs.Held.{Falling};
 ghost use Rattle.walk.specs.Pending.{branch_ends};
 ghost use Rattle.walk.specs.Stack.{branch_of, SoundBranch, to_come, pending_mass, Stack};
-ghost use Rattle.walk.specs.Steps.{StepTaken, TwoParts, Stopped, Pushed, Delayed, Descended, descent_of};
+ghost use Rattle.walk.specs.Steps.{StepTaken, TwoParts, Stopped, Pushed, Delayed, Descended};
 
-use crate::{Descent, Failing, Parted, StackEntry, Stop, WalkStep, put, with_event};
+use crate::{Descent, Examined, Failing, Parted, StackEntry, Stop, WalkStep, put, with_event};
 
 // The first word of an entry that is a number of dropped ends, and no branch.
 const RUN: u64 = 129;
@@ -37,6 +37,7 @@ fn parted(mass: u64) -> Parted
 
 // What the event at a depth leaves of a mass where it works: the same as `split_at`. Each part is gone on with by itself, so that no division
 // waits for another; the low part may grow to 16 × 10^9 before it is carried over.
+#[tactic(auto, using(crate::proofs::Parts::kept, crate::proofs::Parts::carried))]
 fn works_on(events: &[u64; 512], depth: u64, m: Parted) -> Parted
     requires { (depth < 128) × TwoParts m.units m × (get_or events.now (depth * 4) 0 ≤ certain) }
     ensures { TwoParts (working m.units (get_or events.now (depth * 4) 0)) result }
@@ -65,25 +66,20 @@ pub fn straight(count: u64, threshold: u64, events: &[u64; 512], depth: u64, mas
     requires { (count ≤ 128) × (depth ≤ count) × (mass ≤ whole) × Falling certain (events_of count events.now) }
     ensures { Stopped count threshold events.now depth mass result }
 {
-    let mut d = depth;
     let mut m = parted(mass);
     // From depth d and mass m the "works" path stops where it stops from the start, and m is in two parts.
-    // Each turn raises d, up to `count`.
-    loop {
+    for d in depth..count {
         if m.units < threshold {
             return Stop {
                 depth: d,
                 mass: m.units,
             };
         }
-        if d >= count {
-            return Stop {
-                depth: d,
-                mass: m.units,
-            };
-        }
         m = works_on(events, d, m);
-        d += 1;
+    }
+    Stop {
+        depth: count,
+        mass: m.units,
     }
 }
 
@@ -93,41 +89,19 @@ fn push(stack: &mut [u64; 512], at: usize, branch: StackEntry)
         × (joined branch.failing.low branch.failing.high < 2 ^ branch.depth) × (at + 4 ≤ 512) }
     ensures { Pushed branch at stack.old stack.new }
 {
-    let failing = with_event(branch.failing, branch.depth);
-    put(
-        stack,
-        at,
-        StackEntry {
-            depth: branch.depth + 1,
-            mass: branch.mass,
-            failing,
-        },
-    );
+    let pushed = StackEntry {
+        depth: branch.depth + 1,
+        mass: branch.mass,
+        failing: with_event(branch.failing, branch.depth),
+    };
+    put(stack, at, &pushed.words());
 }
 
-// The answer of a descent that stops at a mass.
-#[tactic(auto, using(std::proofs::Common::tests), unfolding(crate::specs::Steps::descent_of))]
-fn come_to(threshold: u64, at: usize, mass: u64, failing: Failing, run: u64) -> Descent
-    ensures { result ≡ descent_of threshold at mass failing run }
+// The end of a descent that stops at a mass: dropped where the mass is below the threshold.
+fn end_at(threshold: u64, mass: u64, failing: Failing) -> Option<Examined>
+    ensures { SomeIff result (threshold ≤ mass) (record { mass = mass; failing = failing }) }
 {
-    if mass < threshold {
-        return Descent {
-            at,
-            relevant: false,
-            mass: 0,
-            low: 0,
-            high: 0,
-            dropped: run,
-        };
-    }
-    Descent {
-        at,
-        relevant: true,
-        mass,
-        low: failing.low,
-        high: failing.high,
-        dropped: run,
-    }
+    (mass >= threshold).then_some(Examined { mass, failing })
 }
 
 // Goes down from a branch to its first end, leaving each "fails" side pending. From where a "fails" side falls below the threshold it
@@ -150,24 +124,27 @@ fn go_down(
         (branch.mass + pending_mass (drop at stack.old)) stack.new result }
 {
     let mut top = at;
-    let mut d = branch.depth;
     let mut m = branch.mass;
     let failing = branch.failing;
     // The ends of the branch at depth d with mass m, then those of the entries from `top` on, are the ends to come at the start.
-    // Each turn raises d, up to `count`.
-    loop {
+    for d in branch.depth..count {
         if m < threshold {
-            return come_to(threshold, top, m, failing, 0);
-        }
-        if d >= count {
-            return come_to(threshold, top, m, failing, 0);
+            return Descent {
+                at: top,
+                end: None,
+                dropped: 0,
+            };
         }
         let parts = split_at(events, d, m);
         let f = parts.fails.units;
         let w = parts.works.units;
         if f < threshold {
             let stop = straight(count, threshold, events, d + 1, w);
-            return come_to(threshold, top, stop.mass, failing, stop.depth - d);
+            return Descent {
+                at: top,
+                end: end_at(threshold, stop.mass, failing),
+                dropped: stop.depth - d,
+            };
         }
         top -= 4;
         push(
@@ -180,7 +157,11 @@ fn go_down(
             },
         );
         m = w;
-        d += 1;
+    }
+    Descent {
+        at: top,
+        end: end_at(threshold, m, failing),
+        dropped: 0,
     }
 }
 
@@ -202,19 +183,18 @@ fn descend(
     if depth > 128 {
         return Descent {
             at: at + 4,
-            relevant: false,
-            mass: 0,
-            low: 0,
-            high: 0,
+            end: None,
             dropped: mass - 1,
         };
     }
-    let low = stack[at + 2];
-    let high = stack[at + 3];
+    let failing = Failing {
+        low: stack[at + 2],
+        high: stack[at + 3],
+    };
     let branch = StackEntry {
         depth,
         mass,
-        failing: Failing { low, high },
+        failing,
     };
     go_down(count, threshold, events, stack, at + 4, branch)
 }
@@ -233,32 +213,8 @@ fn delay(stack: &mut [u64; 512], at: usize, run: u64) -> usize
         mass: run,
         failing: Failing { low: 0, high: 0 },
     };
-    put(stack, at - 4, entry);
+    put(stack, at - 4, &entry.words());
     at - 4
-}
-
-// The answer of a step that finds no relevant scenario.
-fn none_at(at: usize, left: u64) -> WalkStep
-    ensures { result ≡ record { at = at; left = left; found = false; mass = 0; low = 0; high = 0 } }
-{
-    WalkStep {
-        at,
-        left,
-        found: false,
-        mass: 0,
-        low: 0,
-        high: 0,
-    }
-}
-
-// How many of a dropped end and the dropped ones that follow it may be reached.
-fn reachable(dropped: u64, left: u64) -> u64
-    ensures { result ≡ min (dropped + 1) left }
-{
-    if dropped < left {
-        return dropped + 1;
-    }
-    left
 }
 
 // The next relevant scenario among the ends that may still be reached: passes over dropped ends, counting each. Those of a descent's
@@ -278,25 +234,22 @@ pub fn next_relevant(
     let mut left = allowed;
     // So far `allowed` - `left` dropped ends were passed, and the ends to come from `top` on follow them. A turn that does not return
     // passes one end or more, so fewer are to come.
-    while top < 512 {
-        if left == 0 {
-            return none_at(top, 0);
-        }
+    while top < 512 && left > 0 {
         let r = descend(count, threshold, events, &mut *stack, top);
-        if r.relevant {
-            left -= 1;
+        if r.end.is_some() {
             return WalkStep {
                 at: delay(stack, r.at, r.dropped),
-                left,
-                found: true,
-                mass: r.mass,
-                low: r.low,
-                high: r.high,
+                left: left - 1,
+                found: r.end,
             };
         }
-        let passed = reachable(r.dropped, left);
+        let passed = r.dropped.saturating_add(1).min(left);
         top = delay(&mut *stack, r.at, r.dropped - (passed - 1));
         left -= passed;
     }
-    none_at(top, left)
+    WalkStep {
+        at: top,
+        left,
+        found: None,
+    }
 }

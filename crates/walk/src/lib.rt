@@ -2,7 +2,7 @@
 // Assumes nothing.
 #![tactic(auto)]
 
-ghost use Rattle.std.specs.Prelude.{◌≡◌, [], ◌∷◌, ◌+◌, ◌^◌, ◌≤◌, ◌<◌};
+ghost use Rattle.std.specs.Prelude.{◌≡◌, [], ◌∷◌, ◌+◌, ◌^◌, ◌≤◌, ◌<◌, length};
 ghost use Rattle.std.proofs.lemmas.List.Edits.{sets};
 ghost use Rattle.sets.specs.Sets.{joined};
 ghost use Rattle.walk.specs.Stack.{Begun};
@@ -27,16 +27,19 @@ pub struct StackEntry {
     pub failing: Failing,
 }
 
-// What a step hands out: where the stack now begins, how many ends may still be reached, whether a relevant scenario was found, its mass
-// and its failing events (0 where none was).
+// A relevant scenario that the walk comes to: its mass and its failing events.
+#[derive(Clone, Copy)]
+pub struct Examined {
+    pub mass: u64,
+    pub failing: Failing,
+}
+
+// What a step hands out: where the stack now begins, how many ends may still be reached, and the relevant scenario that was found.
 #[derive(Clone, Copy)]
 pub struct WalkStep {
     pub at: usize,
     pub left: u64,
-    pub found: bool,
-    pub mass: u64,
-    pub low: u64,
-    pub high: u64,
+    pub found: Option<Examined>,
 }
 
 // A mass on a "works" path: its units, and the same in two parts, high × 10^9 + low.
@@ -54,15 +57,11 @@ pub struct Stop {
     pub mass: u64,
 }
 
-// What a descent comes to: where the stack now begins, and one end: whether it is relevant, its mass and its failing events (0 where it is
-// dropped); so many dropped ends follow it.
+// What a descent comes to: where the stack now begins, and one end, a relevant scenario or a dropped one; so many dropped ends follow it.
 #[derive(Clone, Copy)]
 pub struct Descent {
     pub at: usize,
-    pub relevant: bool,
-    pub mass: u64,
-    pub low: u64,
-    pub high: u64,
+    pub end: Option<Examined>,
     pub dropped: u64,
 }
 
@@ -83,15 +82,21 @@ pub fn with_event(failing: Failing, event: u64) -> Failing
     }
 }
 
-// Lays an entry down in four words of the stack.
-fn put(stack: &mut [u64; 512], at: usize, e: StackEntry)
-    requires { at + 4 ≤ 512 }
-    ensures { stack.new ≡ sets stack.old at (e.depth ∷ e.mass ∷ e.failing.low ∷ e.failing.high ∷ []) }
+impl StackEntry {
+    // The words of the stack that hold it.
+    pub fn words(self) -> [u64; 4]
+        ensures { result ≡ self.depth ∷ self.mass ∷ self.failing.low ∷ self.failing.high ∷ [] }
+    {
+        [self.depth, self.mass, self.failing.low, self.failing.high]
+    }
+}
+
+// Lays the words of an entry down in a stack.
+pub fn put(stack: &mut [u64], at: usize, words: &[u64])
+    requires { at + length words.now ≤ length stack.old }
+    ensures { stack.new ≡ sets stack.old at words.now }
 {
-    stack[at] = e.depth;
-    stack[at + 1] = e.mass;
-    stack[at + 2] = e.failing.low;
-    stack[at + 3] = e.failing.high;
+    stack[at..at + words.len()].copy_from_slice(words);
 }
 
 // Begins a walk at the root, with no event decided and one whole: the only branch on the stack. Returns where the stack begins.
@@ -103,6 +108,6 @@ pub fn begin(stack: &mut [u64; 512]) -> usize
         mass: mass::Mass::WHOLE.units,
         failing: Failing { low: 0, high: 0 },
     };
-    put(stack, 508, root);
+    put(stack, 508, &root.words());
     508
 }

@@ -4,11 +4,5 @@ use native.Mathlib.Omega.{arith}
 use Rattle.walk.proofs.Descents.{delayed-some}
 use Rattle.walk.proofs.ahead.delay.Goals as goal
 
-pub overflow_sub-at : goal.overflow_sub-at
-overflow_sub-at c = omega (arith, c.requires.1 (omega arith))
-
-pub overflow_sub-result : goal.overflow_sub-result
-overflow_sub-result c = omega (arith, c.requires.1 (omega arith))
-
 pub returns : goal.returns
-returns c = delayed-some _ _ _ _ (omega arith) (c.requires.1 (omega arith)) c.put.ensures
+returns c = delayed-some _ _ _ _ (omega arith) (c.requires.1 (omega arith)) (rw c.words.ensures at c.put.ensures)
