@@ -1,13 +1,12 @@
 -- Laws of lent lists: runs of stores, the first entries of a list, and the refusals of a list of links or events, entry by entry.
 -- Assumes nothing.
 use mathlib.Core.Path.{◌≡◌, refl, sym, ap, ◌∙◌}
-use mathlib.Core.List.{List, [], ◌∷◌, ◌++◌}
+use mathlib.Core.List.{List, [], ◌∷◌, ◌++◌, append_assoc}
 use Prim.Native.Nat.{ℕ, zero, suc, ◌+◌, ◌-◌, ◌≤◌, ◌<◌}
 use native.Mathlib.Nat.{add-zero}
-use native.Mathlib.Numerals.{add-one}
 use native.Mathlib.Omega.{arith}
 use lib.ListN.{length, get_or, take, drop, set}
-use lib.Seq.{sets, take-suc, length-take-le, get_or-drop, drop-drop}
+use lib.Seq.{sets, sets-eq, length-take-le, get_or-drop, drop-drop}
 use Rattle.mass.specs.Refusal.{first}
 use Rattle.mass.proofs.RefusalLaws.{first-skip, first-stop}
 use Rattle.mass.specs.Split.{probability_test}
@@ -30,12 +29,27 @@ sets-append (x ∷ a) b l i =
 pub sets_then : (a b l l' : List ℕ) (i i' : ℕ) → l' ≡ sets l i a → i' ≡ i + length a → sets l' i' b ≡ sets l i (a ++ b)
 sets_then a b l l' i i' e n = rw (e, n) (sym (sets-append a b l i))
 
--- one more element copied
-pub copy-next : (from to out : List ℕ) (at i : ℕ) → out ≡ sets to at (take i from) → i < length from
-    → set out (at + i) (get_or from i 0) ≡ sets to at (take (i + 1) from)
-copy-next from to out at i e h =
-    let n : length (take i from) ≡ i = length-take-le i from (omega arith) in
-    rw (e, add-one, take-suc from i 0, sets-append, n)
+-- a part of a list, with the first elements of another in its place
+pub part-laid : {A : Type 0} (from to new : List A) (at count : ℕ) → count ≤ length from → at + count ≤ length to → new ≡ take count from
+    → take at to ++ (new ++ drop (at + count - at) (drop at to)) ≡ sets to at (take count from)
+part-laid from to new at count h k e =
+    let n : length (take count from) ≡ count = length-take-le count from h in
+    let d : at + count - at ≡ count = omega arith in
+    let room : at + length (take count from) ≤ length to = omega arith in
+    rw (e, d, drop-drop, sets-eq (take count from) to at room, n, append_assoc)
+
+-- what a loop that counts i up to n has left
+pub all_left : (n : ℕ) → n - 0 ≡ n
+all_left n = omega arith
+
+pub some_left : (i n : ℕ) → i < n → 0 < n - i
+some_left i n h = omega arith
+
+pub one_fewer : (i n : ℕ) → n - (i + 1) ≡ n - i - 1
+one_fewer i n = omega arith
+
+pub none_left : (i n : ℕ) → n ≤ i → n - i ≤ 0
+none_left i n h = omega arith
 
 -- the link at a position of a list of bytes, and the event at a position of a list of words
 abbrev pub link_at : List ℕ → ℕ → Link

@@ -91,16 +91,6 @@ unfolding event_bytes events_of
 bytes-end words zero h = refl
 bytes-end words (suc left) h = absurd (omega arith)
 
--- the bytes of the links are the first bytes of their list
-pub link_bytes-take : (count : ℕ) (bytes : List ℕ) → 2 * count ≤ length bytes → link_bytes (links_of count bytes) ≡ take (2 * count) bytes
-unfolding link_bytes links_of
-link_bytes-take zero bytes h = refl
-link_bytes-take (suc count) [] h = absurd (omega arith)
-link_bytes-take (suc count) (a ∷ []) h = absurd (omega arith)
-link_bytes-take (suc count) (a ∷ b ∷ bytes) h =
-    let e : 2 * suc count ≡ suc (suc (2 * count)) = omega arith in
-    rw (e, link_bytes-take count bytes (omega arith))
-
 pub length-link_bytes : (links : List Link) → length (link_bytes links) ≡ 2 * length links
 unfolding link_bytes
 length-link_bytes [] = refl

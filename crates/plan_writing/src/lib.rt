@@ -13,7 +13,7 @@ ghost use Rattle.plan.specs.LentLists.{plan_of_lists, in_words};
 ghost use Rattle.plan.specs.Calls.{filled, write_number, write_answer, written_number};
 
 use plan::{Header, Writing};
-use plan_lists::{lists_refusal, put_bytes};
+use plan_lists::{copy_first, lists_refusal};
 use refusals::room_test;
 use sizes::{events_size, member_count};
 
@@ -132,7 +132,7 @@ fn put_plan(h: Header, links: &[u8], words: &[u64], out: &mut [u8])
 {
     let count = 2 * (h.links as usize);
     put_header(out, h);
-    put_bytes(links, out, 20, count);
+    copy_first(links, out, 20, count);
     put_events(out, 20 + count, words, h.events);
 }
 
