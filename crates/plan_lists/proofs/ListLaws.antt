@@ -1,12 +1,12 @@
 -- Laws of lent lists: runs of stores, the first entries of a list, and the refusals of a list of links or events, entry by entry.
 -- Assumes nothing.
 use mathlib.Core.Path.{◌≡◌, refl, sym, ap, ◌∙◌}
-use mathlib.Core.List.{List, [], ◌∷◌, ◌++◌, append_assoc}
+use mathlib.Core.List.{List, [], ◌∷◌, ◌++◌, append-nil, append_assoc}
 use Prim.Native.Nat.{ℕ, zero, suc, ◌+◌, ◌-◌, ◌≤◌, ◌<◌}
-use native.Mathlib.Nat.{add-zero}
+use native.Mathlib.Nat.{add-zero, zero-add}
 use native.Mathlib.Omega.{arith}
-use lib.ListN.{length, get_or, take, drop, set}
-use lib.Seq.{sets, sets-eq, length-take-le, get_or-drop, drop-drop}
+use lib.ListN.{length, get_or, take, drop, set, length-drop}
+use lib.Seq.{sets, sets-eq, take_all, drop-length, length-take-le, get_or-drop, drop-drop}
 use Rattle.mass.specs.Refusal.{first}
 use Rattle.mass.proofs.RefusalLaws.{first-skip, first-stop}
 use Rattle.mass.specs.Split.{probability_test}
@@ -37,6 +37,23 @@ part-laid from to new at count h k e =
     let d : at + count - at ≡ count = omega arith in
     let room : at + length (take count from) ≤ length to = omega arith in
     rw (e, d, drop-drop, sets-eq (take count from) to at room, n, append_assoc)
+
+-- a list laid down over one of its own length
+pub sets-all : (l vs : List ℕ) → length vs ≡ length l → sets l 0 vs ≡ vs
+sets-all l vs e =
+    let d : drop (length l) l ≡ [] = drop-length l in
+    rw (sets-eq vs l 0 (omega arith), zero-add, e, d, append-nil)
+
+-- a list laid down whole over a part of its length
+pub part-whole : (from to new : List ℕ) (at count : ℕ) → length from ≡ count → at + count ≤ length to
+    → new ≡ sets (take (at + count - at) (drop at to)) 0 from
+    → take at to ++ (new ++ drop (at + count - at) (drop at to)) ≡ sets to at from
+part-whole from to new at count n k e =
+    let all : take count from ≡ from = take_all count from (omega arith) in
+    let d : at + count - at ≡ count = omega arith in
+    let long : length from ≡ length (take (at + count - at) (drop at to)) = rw (d, length-take-le count (drop at to) (omega (arith, length-drop at to))) n in
+    let same : new ≡ take count from = e ∙ sets-all (take (at + count - at) (drop at to)) from long ∙ sym all in
+    rw all at (part-laid {A = ℕ} from to new at count (omega arith) k same)
 
 -- what a loop that counts i up to n has left
 pub all_left : (n : ℕ) → n - 0 ≡ n

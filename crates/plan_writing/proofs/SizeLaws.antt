@@ -4,12 +4,12 @@ use mathlib.Core.Path.{◌≡◌, refl, ap, ◌∙◌}
 use mathlib.Core.List.{List, [], ◌∷◌, ◌++◌, append-nil, append_assoc}
 use Prim.Native.Nat.{ℕ, zero, suc, ◌+◌, ◌-◌, ◌*◌, ◌/◌, ◌^◌, ◌≤◌, ◌<◌}
 use native.Mathlib.Omega.{arith}
-use lib.ListN.{length, take, drop, length-append}
+use lib.ListN.{length, drop, length-append}
 use Rattle.plan_layout.proofs.ListLaws.{length-links-of}
 use Rattle.plan_lists.proofs.ListLaws.{event_at, events-next}
 use Rattle.sets.specs.Sets.{joined}
 use Rattle.plan.specs.Plan.{Plan, Link, Event}
-use Rattle.plan.specs.Lists.{links_of, event_of, events_of, link_bytes}
+use Rattle.plan.specs.Lists.{event_of, events_of, link_bytes}
 use Rattle.plan.specs.LentLists.{plan_of_lists}
 use Rattle.plan.specs.declared.Header.{Header}
 use Rattle.plan.specs.Layout.{little, elements, member_bytes, members, member_count, event_bytes, header_bytes, layout}
