@@ -36,6 +36,6 @@ pub fn give_bounds(n: usize, mass: u64, sums: &[u64; 2016], lower: &mut [u64], u
         (map (λ x. (whole - mass) + x) (take (pair_count n) sums.now)) }
 {
     let pairs = pair_count(n);
-    plan_lists::copy_words(sums, lower, pairs);
+    plan_lists::copy_first(sums, lower, 0, pairs);
     copy_raised(sums, upper, 0, pairs, mass::Mass::WHOLE.units - mass);
 }

@@ -26,12 +26,10 @@ pub fn number_at(s: &[u8], at: usize, width: usize) -> u64
     requires { (width ≤ 8) × (at + width ≤ length s.now) }
     ensures { result ≡ value (take width (drop at s.now)) }
 {
-    let mut i = width;
     let mut sum = 0;
-    // `sum` is the number in the last `width` - i of the bytes, those from `at` + i on. Each turn lowers i.
-    while 0 < i {
-        i -= 1;
-        sum = byte_at(s, at + i) + 256 * sum;
+    // `sum` is the number in the bytes taken so far, which are the last ones.
+    for byte in s[at..at + width].iter().rev() {
+        sum = u64::from(*byte) + 256 * sum;
     }
     sum
 }

@@ -7,7 +7,7 @@ use native.Mathlib.Omega.{arith}
 use lib.ListN.{length, take}
 use lib.Seq.{sets, sets-eq, take-take, take-append-le, length-take-le}
 use Rattle.mass.proofs.RefusalLaws.{first-none}
-use Rattle.plan.specs.Lists.{links_of, events_of}
+use Rattle.plan.specs.Lists.{links_of, link_bytes, events_of}
 use Rattle.plan.specs.LentLists.{Lent, plan_of_lists, in_words, lists_number}
 use Rattle.plan.specs.declared.Header.{Header}
 use Rattle.refusals.proofs.TestLaws.{Ranges, counts-none, room-none}
@@ -34,6 +34,16 @@ events_of-prefix (suc count) (a ∷ []) = rw (four count)
 events_of-prefix (suc count) (a ∷ b ∷ []) = rw (four count)
 events_of-prefix (suc count) (a ∷ b ∷ c ∷ []) = rw (four count)
 events_of-prefix (suc count) (a ∷ b ∷ c ∷ d ∷ words) = rw (four count, ← events_of-prefix count words)
+
+-- the bytes of the links are the first bytes of their list
+pub link_bytes-take : (count : ℕ) (bytes : List ℕ) → 2 * count ≤ length bytes → link_bytes (links_of count bytes) ≡ take (2 * count) bytes
+unfolding link_bytes links_of
+link_bytes-take zero bytes h = refl
+link_bytes-take (suc count) [] h = absurd (omega arith)
+link_bytes-take (suc count) (a ∷ []) h = absurd (omega arith)
+link_bytes-take (suc count) (a ∷ b ∷ bytes) h =
+    let e : 2 * suc count ≡ suc (suc (2 * count)) = omega arith in
+    rw (e, link_bytes-take count bytes (omega arith))
 
 pub same-plan : (h : Header) (links links' words words' : List ℕ)
     → take (2 * h.links) links ≡ take (2 * h.links) links'

@@ -1,13 +1,12 @@
 -- Laws of lent lists: runs of stores, the first entries of a list, and the refusals of a list of links or events, entry by entry.
 -- Assumes nothing.
 use mathlib.Core.Path.{◌≡◌, refl, sym, ap, ◌∙◌}
-use mathlib.Core.List.{List, [], ◌∷◌, ◌++◌}
+use mathlib.Core.List.{List, [], ◌∷◌, ◌++◌, append-nil, append_assoc}
 use Prim.Native.Nat.{ℕ, zero, suc, ◌+◌, ◌-◌, ◌≤◌, ◌<◌}
-use native.Mathlib.Nat.{add-zero}
-use native.Mathlib.Numerals.{add-one}
+use native.Mathlib.Nat.{add-zero, zero-add}
 use native.Mathlib.Omega.{arith}
-use lib.ListN.{length, get_or, take, drop, set}
-use lib.Seq.{sets, take-suc, length-take-le, get_or-drop, drop-drop}
+use lib.ListN.{length, get_or, take, drop, set, length-drop}
+use lib.Seq.{sets, sets-eq, take_all, drop-length, length-take-le, get_or-drop, drop-drop}
 use Rattle.mass.specs.Refusal.{first}
 use Rattle.mass.specs.Refusal.{number}
 use Rattle.mass.specs.declared.refusal.Refusal.{Refusal}
@@ -31,12 +30,44 @@ sets-append (x ∷ a) b l i =
 pub sets_then : (a b l l' : List ℕ) (i i' : ℕ) → l' ≡ sets l i a → i' ≡ i + length a → sets l' i' b ≡ sets l i (a ++ b)
 sets_then a b l l' i i' e n = rw (e, n) (sym (sets-append a b l i))
 
--- one more element copied
-pub copy-next : (from to out : List ℕ) (at i : ℕ) → out ≡ sets to at (take i from) → i < length from
-    → set out (at + i) (get_or from i 0) ≡ sets to at (take (i + 1) from)
-copy-next from to out at i e h =
-    let n : length (take i from) ≡ i = length-take-le i from (omega arith) in
-    rw (e, add-one, take-suc from i 0, sets-append, n)
+-- a part of a list, with the first elements of another in its place
+pub part-laid : {A : Type 0} (from to new : List A) (at count : ℕ) → count ≤ length from → at + count ≤ length to → new ≡ take count from
+    → take at to ++ (new ++ drop (at + count - at) (drop at to)) ≡ sets to at (take count from)
+part-laid from to new at count h k e =
+    let n : length (take count from) ≡ count = length-take-le count from h in
+    let d : at + count - at ≡ count = omega arith in
+    let room : at + length (take count from) ≤ length to = omega arith in
+    rw (e, d, drop-drop, sets-eq (take count from) to at room, n, append_assoc)
+
+-- a list laid down over one of its own length
+pub sets-all : (l vs : List ℕ) → length vs ≡ length l → sets l 0 vs ≡ vs
+sets-all l vs e =
+    let d : drop (length l) l ≡ [] = drop-length l in
+    rw (sets-eq vs l 0 (omega arith), zero-add, e, d, append-nil)
+
+-- a list laid down whole over a part of its length
+pub part-whole : (from to new : List ℕ) (at count : ℕ) → length from ≡ count → at + count ≤ length to
+    → new ≡ sets (take (at + count - at) (drop at to)) 0 from
+    → take at to ++ (new ++ drop (at + count - at) (drop at to)) ≡ sets to at from
+part-whole from to new at count n k e =
+    let all : take count from ≡ from = take_all count from (omega arith) in
+    let d : at + count - at ≡ count = omega arith in
+    let long : length from ≡ length (take (at + count - at) (drop at to)) = rw (d, length-take-le count (drop at to) (omega (arith, length-drop at to))) n in
+    let same : new ≡ take count from = e ∙ sets-all (take (at + count - at) (drop at to)) from long ∙ sym all in
+    rw all at (part-laid {A = ℕ} from to new at count (omega arith) k same)
+
+-- what a loop that counts i up to n has left
+pub all_left : (n : ℕ) → n - 0 ≡ n
+all_left n = omega arith
+
+pub some_left : (i n : ℕ) → i < n → 0 < n - i
+some_left i n h = omega arith
+
+pub one_fewer : (i n : ℕ) → n - (i + 1) ≡ n - i - 1
+one_fewer i n = omega arith
+
+pub none_left : (i n : ℕ) → n ≤ i → n - i ≤ 0
+none_left i n h = omega arith
 
 -- the link at a position of a list of bytes, and the event at a position of a list of words
 abbrev pub link_at : List ℕ → ℕ → Link

@@ -14,38 +14,12 @@ ghost use Rattle.plan_lists.specs.Taken.{Taken};
 use mass::Refusal;
 use plan::{Header, byte_at};
 
-// Lays the first `count` bytes of a list down from a position on.
-pub fn put_bytes(from: &[u8], to: &mut [u8], at: usize, count: usize)
+// Lays the first `count` items of a list down from a position on.
+pub fn copy_first<T: Copy>(from: &[T], to: &mut [T], at: usize, count: usize)
     requires { (count ≤ length from.now) × (at + count ≤ length to.old) }
     ensures { to.new ≡ sets to.old at (take count from.now) }
 {
-    let mut i = 0;
-    // The first i bytes are laid down, and no others. Each turn raises i, up to `count`.
-    while i < count {
-        to[at + i] = from[i];
-        i += 1;
-    }
-}
-
-// Copies the first `count` bytes.
-pub fn copy_bytes(from: &[u8], to: &mut [u8], count: usize)
-    requires { (count ≤ length from.now) × (count ≤ length to.old) }
-    ensures { to.new ≡ sets to.old 0 (take count from.now) }
-{
-    put_bytes(from, to, 0, count);
-}
-
-// Copies the first `count` words.
-pub fn copy_words(from: &[u64], to: &mut [u64], count: usize)
-    requires { (count ≤ length from.now) × (count ≤ length to.old) }
-    ensures { to.new ≡ sets to.old 0 (take count from.now) }
-{
-    let mut i = 0;
-    // The first i words are copied, and no others. Each turn raises i, up to `count`.
-    while i < count {
-        to[i] = from[i];
-        i += 1;
-    }
+    to[at..at + count].copy_from_slice(&from[..count]);
 }
 
 // Takes the first bytes and words of lent lists into the arrays, and says how long the arrays are.
@@ -56,18 +30,8 @@ fn load(links: &[u8], events: &[u64], bytes: &mut [u8; 256], words: &mut [u64; 5
     ensures words_after { words.new ≡ sets words.old 0
         (take (min (length events.now) 512) events.now) }
 {
-    copy_bytes(links, bytes, smaller(links.len(), 256));
-    copy_words(events, words, smaller(events.len(), 512));
-}
-
-// The smaller of two numbers.
-pub fn smaller(a: usize, b: usize) -> usize
-    ensures { result ≡ min a b }
-{
-    if a < b {
-        return a;
-    }
-    b
+    copy_first(links, bytes, 0, links.len().min(256));
+    copy_first(events, words, 0, events.len().min(512));
 }
 
 // Each link, 7.

@@ -1,5 +1,5 @@
--- Laws of reading a plan file into lent lists: members rise, so that the sets of an event are put together by sums; and one step of each loop that
--- lays down.
+-- Laws of reading a plan file into lent lists: members rise, so that the sets of an event are put together by sums; and one step of the loop that
+-- lays the events down.
 -- Assumes nothing.
 use mathlib.Core.Path.{◌≡◌, refl, sym, ◌∙◌, ap}
 use mathlib.Core.Bool.{cond}
@@ -16,7 +16,7 @@ use Rattle.sets.specs.Sets.{joined}
 use Rattle.refusals.specs.Tests.{count_of_kind, rank}
 use Rattle.plan.specs.File.{event_size, probability_in, set_of, events_at}
 use Rattle.plan.specs.Calls.{element_of}
-use Rattle.plan.specs.Lists.{links_of, link_bytes, event_words}
+use Rattle.plan.specs.Lists.{event_words}
 use Rattle.plan_reading.specs.Members.{node_value, link_value, Above}
 use Rattle.refusals.proofs.ReachLaws.{high-power}
 use Rattle.plan.proofs.FileLaws.{suc-sub-one}
@@ -109,20 +109,7 @@ low_word lo hi h = sym (low hi 64 h)
 pub high_word : (lo hi : ℕ) → lo < 2 ^ 64 → hi ≡ joined lo hi / 2 ^ 64
 high_word lo hi h = sym (high hi 64 h)
 
--- ---- one step of each loop that lays down, from a position on
-
-pub links-fill : (l s : List ℕ) (at done left : ℕ) → 0 < left
-    → sets (set (set l done (get_or s at 0)) (done + 1) (get_or s (at + 1) 0)) (done + 2) (link_bytes (links_of (left - 1) (drop (at + 2) s)))
-    ≡ sets l done (link_bytes (links_of left (drop at s)))
-unfolding link_bytes links_of
-links-fill l s at done zero h = absurd (not-suc-le-zero h)
-links-fill l s at done (suc left) h =
-    rw (get_or-drop at s 0 0, get_or-drop at s 1 0, add-zero, drop-drop 2 at s, suc-sub-one left, add-one done, add-two done)
-
-pub links-filled : (l b : List ℕ) (done left : ℕ) → left ≤ 0 → l ≡ sets l done (link_bytes (links_of left b))
-unfolding link_bytes links_of
-links-filled l b done zero h = refl
-links-filled l b done (suc left) h = absurd (not-suc-le-zero h)
+-- ---- one step of the loop that lays the events down, from a position on
 
 -- the four words of an event, stored one by one
 pub event-put : (l : List ℕ) (at q n lo hi : ℕ)

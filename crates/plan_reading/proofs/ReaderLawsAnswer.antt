@@ -21,14 +21,14 @@ use Rattle.plan.proofs.FileLawsAccepted.{accepted-counts}
 
 -- ---- a reading from a position on: past the end there is nothing
 
-pub from-smaller : (s : List ℕ) (at from : ℕ) → from ≡ min at (length s) → take (length s - from) (drop from s) ≡ drop at s
+pub from-smaller : (s : List ℕ) (at from : ℕ) → from ≡ min (length s) at → take (length s - from) (drop from s) ≡ drop at s
 from-smaller s at from e = take_all (length s - from) (drop from s) (omega (arith, length-drop from s)) ∙ ap (λ (n : ℕ). drop n s) e ∙ go (dec_le at (length s))
   where
-    go : Dec (at ≤ length s) → drop (min at (length s)) s ≡ drop at s
-    go (yes h) = ap (λ (n : ℕ). drop n s) (min-eq_left h)
+    go : Dec (at ≤ length s) → drop (min (length s) at) s ≡ drop at s
+    go (yes h) = ap (λ (n : ℕ). drop n s) (min-eq_right h)
     go (no h) =
         let l : length s ≤ at = omega arith in
-        ap (λ (n : ℕ). drop n s) (min-eq_right l) ∙ drop-length s ∙ sym (drop_of_length-le s l)
+        ap (λ (n : ℕ). drop n s) (min-eq_left l) ∙ drop-length s ∙ sym (drop_of_length-le s l)
 
 -- ---- an accepted reading: there is room
 

@@ -9,7 +9,7 @@ ghost use Rattle.plan_reading.specs.Members.{node_value, link_value, Above};
 ghost use Rattle.plan.specs.Calls.{filled, header_of, read_number, read_answer, reading_number, header_in};
 
 use plan::{Element, Header, Reading, Step, byte_at, number_at};
-use plan_lists::{copy_bytes, copy_words};
+use plan_lists::copy_first;
 
 // The sets of an event: its nodes, links 0 to 63 and links 64 to 127.
 #[derive(Clone, Copy)]
@@ -58,16 +58,15 @@ pub fn members_of(s: &[u8], start: usize, count: u64, nodes: u64, links: u64) ->
     ensures high { result.high ≡ set_of 1 count (drop start s.now) / 2 ^ 64 }
 {
     let mut at = start;
-    let mut left = count;
     let mut least = 0;
     let mut sets = Members {
         nodes: 0,
         low: 0,
         high: 0,
     };
-    // The `left` members from `at` on are accepted, and with theirs the sets are the whole sets. No element so far has rank `least`
-    // or more, so the next one is not in the sets yet. Each turn takes one of the `left` members.
-    while 0 < left {
+    // The members that are left stand from `at` on and are accepted, and with theirs the sets are the whole sets. No element so far has
+    // rank `least` or more, so the next one is not in the sets yet.
+    for _ in 0..count {
         let answer = plan::member_at(s, at, nodes, links, least);
         let Step::Member(element) = answer else {
             return sets;
@@ -75,7 +74,6 @@ pub fn members_of(s: &[u8], start: usize, count: u64, nodes: u64, links: u64) ->
         sets = with_element(sets, element);
         least = plan::rank_at(s, at) + 1;
         at += 2;
-        left -= 1;
     }
     sets
 }
@@ -98,16 +96,12 @@ fn fill_events(s: &[u8], start: usize, count: u64, nodes: u64, links: u64, words
     ensures { words.new ≡ sets words.old 0 (event_words (events_at count (drop start s.now))) }
 {
     let mut at = start;
-    let mut left = count;
-    let mut done = 0;
-    // The `left` events from `at` on are accepted, and with their words laid down from `done` on the array is as with all events.
-    // Each turn takes one of the `left` events.
-    while 0 < left {
+    // The events from event i on stand from `at` on and are accepted, and with their words laid down in their places the array is as with
+    // all events.
+    for i in 0..count as usize {
         let members = members_of(s, at + 5, byte_at(s, at + 4), nodes, links);
-        put_event(&mut *words, done, number_at(s, at, 4), members);
+        put_event(&mut *words, 4 * i, number_at(s, at, 4), members);
         at += plan::event_size(s, at);
-        done += 4;
-        left -= 1;
     }
 }
 
@@ -116,18 +110,7 @@ fn fill_links(s: &[u8], start: usize, count: u64, links: &mut [u8; 256])
     requires { (count ≤ 128) × (start + 2 * count ≤ length s.now) }
     ensures { links.new ≡ sets links.old 0 (link_bytes (links_of count (drop start s.now))) }
 {
-    let mut at = start;
-    let mut left = count;
-    let mut done = 0;
-    // With the bytes of the `left` links from `at` on laid down from `done` on, the array is as with all links.
-    // Each turn takes one of the `left` links.
-    while 0 < left {
-        links[done] = s[at];
-        links[done + 1] = s[at + 1];
-        at += 2;
-        done += 2;
-        left -= 1;
-    }
+    copy_first(&s[start..], links, 0, 2 * (count as usize));
 }
 
 // The tests of a reading: 1 to 11, then 12 for the two lists.
@@ -195,7 +178,7 @@ pub fn read_at(
     ensures words { words.new ≡ filled (read_number link_room event_room (drop at s.now))
         (event_words (plan_of (drop at s.now)).events) words.old }
 {
-    let from = plan_lists::smaller(at, s.len());
+    let from = s.len().min(at);
     read_core(&s[from..], link_room, event_room, links, words)
 }
 
@@ -228,7 +211,7 @@ pub fn read(s: &[u8], links: &mut [u8], events: &mut [u64]) -> Reading
     let mut words = [0u64; 512];
     let answer = read_core(s, links.len(), events.len() / 4, &mut bytes, &mut words);
     let header = header_in(answer);
-    copy_bytes(&bytes, links, 2 * (header.links as usize));
-    copy_words(&words, events, 4 * (header.events as usize));
+    copy_first(&bytes, links, 0, 2 * (header.links as usize));
+    copy_first(&words, events, 0, 4 * (header.events as usize));
     answer
 }

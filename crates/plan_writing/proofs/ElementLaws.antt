@@ -49,10 +49,6 @@ pub elements-left : (left from s : ℕ) → 0 < left → elements left from s �
 elements-left zero from s h = absurd (omega arith)
 elements-left (suc left) from s h = rw (less_one, add-one) (elements-next left from s)
 
-pub length-left : (left s : ℕ) → 0 < left → length (elements left 0 s) ≡ s % 2 + length (elements (left - 1) 0 (s / 2))
-length-left zero s h = absurd (omega arith)
-length-left (suc left) s h = rw less_one (length-next left 0 s ∙ ap (λ (n : ℕ). s % 2 + n) (length_from left 1 0 (s / 2)))
-
 pub elements-end : (left from s : ℕ) → left ≤ 0 → elements left from s ≡ []
 unfolding elements
 elements-end zero from s h = refl

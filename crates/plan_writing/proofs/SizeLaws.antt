@@ -4,12 +4,12 @@ use mathlib.Core.Path.{◌≡◌, refl, ap, ◌∙◌}
 use mathlib.Core.List.{List, [], ◌∷◌, ◌++◌, append-nil, append_assoc}
 use Prim.Native.Nat.{ℕ, zero, suc, ◌+◌, ◌-◌, ◌*◌, ◌/◌, ◌^◌, ◌≤◌, ◌<◌}
 use native.Mathlib.Omega.{arith}
-use lib.ListN.{length, take, drop, length-append}
+use lib.ListN.{length, drop, length-append}
 use Rattle.plan_layout.proofs.ListLaws.{length-links-of}
 use Rattle.plan_lists.proofs.ListLaws.{event_at, events-next}
 use Rattle.sets.specs.Sets.{joined}
 use Rattle.plan.specs.Plan.{Plan, Link, Event}
-use Rattle.plan.specs.Lists.{links_of, event_of, events_of, link_bytes}
+use Rattle.plan.specs.Lists.{event_of, events_of, link_bytes}
 use Rattle.plan.specs.LentLists.{plan_of_lists}
 use Rattle.plan.specs.declared.Header.{Header}
 use Rattle.plan.specs.Layout.{little, elements, member_bytes, members, member_count, event_bytes, header_bytes, layout}
@@ -90,16 +90,6 @@ pub bytes-end : (words : List ℕ) (left : ℕ) → left ≤ 0 → event_bytes (
 unfolding event_bytes events_of
 bytes-end words zero h = refl
 bytes-end words (suc left) h = absurd (omega arith)
-
--- the bytes of the links are the first bytes of their list
-pub link_bytes-take : (count : ℕ) (bytes : List ℕ) → 2 * count ≤ length bytes → link_bytes (links_of count bytes) ≡ take (2 * count) bytes
-unfolding link_bytes links_of
-link_bytes-take zero bytes h = refl
-link_bytes-take (suc count) [] h = absurd (omega arith)
-link_bytes-take (suc count) (a ∷ []) h = absurd (omega arith)
-link_bytes-take (suc count) (a ∷ b ∷ bytes) h =
-    let e : 2 * suc count ≡ suc (suc (2 * count)) = omega arith in
-    rw (e, link_bytes-take count bytes (omega arith))
 
 pub length-link_bytes : (links : List Link) → length (link_bytes links) ≡ 2 * length links
 unfolding link_bytes

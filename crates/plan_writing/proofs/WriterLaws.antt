@@ -15,7 +15,8 @@ use Rattle.plan.specs.LentLists.{plan_of_lists}
 use Rattle.plan.specs.declared.Header.{Header}
 use Rattle.plan.specs.Layout.{little, elements, member_bytes, event_bytes, header_bytes, layout}
 use Rattle.plan_writing.proofs.ElementLaws.{elements-left, elements-end, one_none, one-some, member_bytes-append, length-member_bytes}
-use Rattle.plan_writing.proofs.SizeLaws.{length-little, one-event, length-one-event, bytes_next, bytes-end, link_bytes-take}
+use Rattle.plan_lists.proofs.CopyLaws.{link_bytes-take}
+use Rattle.plan_writing.proofs.SizeLaws.{length-little, one-event, length-one-event, bytes_next, bytes-end}
 
 -- one more byte of a number laid down
 pub number-next : (out : List ℕ) (i left x : ℕ) → 0 < left

@@ -13,7 +13,7 @@ ghost use Rattle.plan.specs.LentLists.{plan_of_lists, in_words};
 ghost use Rattle.plan.specs.Calls.{filled, write_number, write_answer, written_number};
 
 use plan::{Header, Writing};
-use plan_lists::{lists_refusal, put_bytes};
+use plan_lists::{copy_first, lists_refusal};
 use refusals::room_test;
 use sizes::{events_size, member_count};
 
@@ -22,15 +22,11 @@ pub fn put_number(out: &mut [u8], at: usize, width: usize, x: u64)
     requires { at + width ≤ length out.old }
     ensures { out.new ≡ sets out.old at (little width x) }
 {
-    let mut i = at;
-    let mut left = width;
     let mut rest = x;
-    // With the lowest `left` bytes of `rest` laid down from i on, the number is laid down whole. Each turn lowers `left`.
-    while 0 < left {
-        out[i] = (rest % 256) as u8;
-        rest = rest / 256;
-        i += 1;
-        left -= 1;
+    // With the lowest bytes of `rest` laid down from the next byte on, the number is laid down whole.
+    for byte in out[at..at + width].iter_mut() {
+        *byte = (rest % 256) as u8;
+        rest /= 256;
     }
 }
 
@@ -54,19 +50,15 @@ fn put_members(out: &mut [u8], at: usize, kind: u8, first: u8, set: u64) -> usiz
     ensures { (out.new ≡ sets out.old at (member_bytes kind (elements 64 first set)))
         × (result ≡ at + 2 * length (elements 64 first set)) }
 {
-    let mut i = at;
-    let mut left: u64 = 64;
-    let mut number = first;
+    let mut next = at;
     let mut rest = set;
-    // With the members among the lowest `left` bits of `rest` laid down from i on, all members are laid down. The lowest bit stands for
-    // `number`. Each turn lowers `left`.
-    while 0 < left {
-        i = put_member(out, i, kind, number, rest);
-        number += 1;
-        rest = rest / 2;
-        left -= 1;
+    // With the members that `rest` has from `number` on laid down from `next` on, all members are laid down. The lowest bit of `rest`
+    // stands for `number`.
+    for number in first..first + 64 {
+        next = put_member(out, next, kind, number, rest);
+        rest /= 2;
     }
-    i
+    next
 }
 
 // Lays down an event, and says where the next one goes.
@@ -88,21 +80,17 @@ fn put_events(out: &mut [u8], start: usize, words: &[u64], count: u64)
         × (start + length (event_bytes (events_of count words.now)) ≤ length out.old) }
     ensures { out.new ≡ sets out.old start (event_bytes (events_of count words.now)) }
 {
-    let mut i = start;
-    let mut at = 0;
-    let mut left = count;
-    // With the `left` events from word `at` on laid down from i on, all events are laid down. Each turn takes one of the `left` events.
-    while 0 < left {
-        i = put_event(
+    let mut next = start;
+    // With the events from event i on laid down from `next` on, all events are laid down.
+    for i in 0..count as usize {
+        next = put_event(
             out,
-            i,
-            words[at],
-            words[at + 1],
-            words[at + 2],
-            words[at + 3],
+            next,
+            words[4 * i],
+            words[4 * i + 1],
+            words[4 * i + 2],
+            words[4 * i + 3],
         );
-        at += 4;
-        left -= 1;
     }
 }
 
@@ -132,7 +120,7 @@ fn put_plan(h: Header, links: &[u8], words: &[u64], out: &mut [u8])
 {
     let count = 2 * (h.links as usize);
     put_header(out, h);
-    put_bytes(links, out, 20, count);
+    copy_first(links, out, 20, count);
     put_events(out, 20 + count, words, h.events);
 }
 

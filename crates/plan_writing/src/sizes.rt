@@ -8,17 +8,7 @@ ghost use Rattle.plan.specs.Layout.{elements, event_bytes};
 fn count_elements(set: u64) -> u64
     ensures { (result ≡ length (elements 64 0 set)) × (result ≤ 64) }
 {
-    let mut left: u64 = 64;
-    let mut rest = set;
-    let mut count = 0;
-    // `count` and the number of ones among the lowest `left` bits of `rest` make the number of elements of the set.
-    // Each turn lowers `left`.
-    while 0 < left {
-        count += rest % 2;
-        rest = rest / 2;
-        left -= 1;
-    }
-    count
+    u64::from(set.count_ones())
 }
 
 // How many members an event has.
@@ -33,15 +23,11 @@ pub fn events_size(words: &[u64], count: u64) -> usize
     requires { (count ≤ 128) × (4 * count ≤ length words.now) }
     ensures { result ≡ length (event_bytes (events_of count words.now)) }
 {
-    let mut at = 0;
-    let mut left = count;
     let mut size = 0;
-    // `size` and the bytes of the `left` events from word `at` on make the bytes of all events. Each turn takes one of those events.
-    while 0 < left {
-        let members = member_count(words[at + 1], words[at + 2], words[at + 3]);
+    // `size` and the bytes of the events from event i on make the bytes of all events.
+    for i in 0..count as usize {
+        let members = member_count(words[4 * i + 1], words[4 * i + 2], words[4 * i + 3]);
         size += 5 + 2 * (members as usize);
-        at += 4;
-        left -= 1;
     }
     size
 }

@@ -47,7 +47,7 @@ pub fn fill(words: &[u64; 512], events: &mut [Event], count: usize)
 pub fn flatten(events: &[Event], words: &mut [u64; 512])
     ensures { words.new ≡ sets words.old 0 (words_of (take 128 events.now)) }
 {
-    let count = plan_lists::smaller(events.len(), 128);
+    let count = events.len().min(128);
     let mut i = 0;
     // The words of the first i records are laid down, and no others. Each turn raises i, up to `count`.
     while i < count {
@@ -61,7 +61,7 @@ pub fn flatten(events: &[Event], words: &mut [u64; 512])
 pub fn used_words(words: &[u64; 512], count: usize) -> &[u64]
     ensures { result.now ≡ words_used count words.now }
 {
-    let used = 4 * plan_lists::smaller(count, 128);
+    let used = 4 * count.min(128);
     let all = &words[..];
     &all[0..used]
 }

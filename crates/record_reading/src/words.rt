@@ -25,7 +25,7 @@ pub fn read_words_at(
     let mut bytes = [0u8; 256];
     let answer = plan_reading::read_at(s, at, links.len(), event_room, &mut bytes, words);
     let header = plan_reading::header_in(answer);
-    plan_lists::copy_bytes(&bytes, links, 2 * (header.links as usize));
+    plan_lists::copy_first(&bytes, links, 0, 2 * (header.links as usize));
     answer
 }
 

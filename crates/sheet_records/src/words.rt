@@ -36,6 +36,6 @@ pub fn hand_over(answer: SheetReading, words: &[u64; 512], events: &mut [u64]) -
     if number != 0 {
         return SheetReading::Refused(number);
     }
-    plan_lists::copy_words(words, events, 4 * lines_in(answer));
+    plan_lists::copy_first(words, events, 0, 4 * lines_in(answer));
     SheetReading::Accepted(sheets::counts_in(answer))
 }

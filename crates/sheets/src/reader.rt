@@ -120,6 +120,6 @@ pub fn read(s: &[u8], events: &mut [u64]) -> SheetReading
     let mut words = [0u64; 512];
     let answer = read_core(s, events.len() / 4, &mut words);
     let counts = counts_in(answer);
-    plan_lists::copy_words(&words, events, 4 * (counts.lines as usize));
+    plan_lists::copy_first(&words, events, 0, 4 * (counts.lines as usize));
     answer
 }

@@ -55,6 +55,6 @@ pub fn listing_text(plan: &[u8], out: &mut [u8]) -> Formatted
     if out.len() < size {
         return Formatted::Refused(12);
     }
-    plan_lists::copy_bytes(&text, out, size);
+    plan_lists::copy_first(&text, out, 0, size);
     Formatted::Text(size)
 }

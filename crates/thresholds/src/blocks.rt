@@ -37,7 +37,7 @@ fn walk_blocks(
     let count = list.len();
     let n = h.nodes as usize;
     let mut falling = [0u64; 16];
-    plan_lists::copy_words(list, &mut falling, count);
+    plan_lists::copy_first(list, &mut falling, 0, count);
     // Zeros, raised by one more than the cap where there is a threshold.
     copy_raised(masses, &mut *rooms, 0, count, h.cap + 1);
     pairs::clear(&mut *lower, pair_count(n) * count);

@@ -19,7 +19,7 @@ pub fn links(bytes: &[u8]) -> [u8; 256]
 {
     let mut all = [0u8; 256];
     if bytes.len() <= 256 {
-        plan_lists::copy_bytes(bytes, &mut all, bytes.len());
+        plan_lists::copy_first(bytes, &mut all, 0, bytes.len());
     }
     all
 }

@@ -1,6 +1,6 @@
 // Pairs that are disconnected or not: document 01, "Effective topology". A set has node or link i as its bit i, of value 2^i.
 use crate::pairs::pair;
-use plan_lists::put_bytes;
+use plan_lists::copy_first;
 use std::io;
 use trials_network_vectors::{failed, links};
 use trials_vectors::many_links;
@@ -54,7 +54,7 @@ pub fn parallel_pairs(rt: &impl Print) -> io::Result<()> {
 // 18,446,735,277,616,529,406.
 pub fn parallel_words(rt: &impl Print) -> io::Result<()> {
     let mut l = many_links();
-    put_bytes(b"\x00\x2b", &mut l, 254, 2);
+    copy_first(b"\x00\x2b", &mut l, 254, 2);
     let down = 18_446_735_277_616_529_406;
     let last = 9_223_372_036_854_775_808;
     pair(

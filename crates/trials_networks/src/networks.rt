@@ -1,7 +1,7 @@
 // Working nodes and links of networks, and what has failed in a scenario: document 01, "Effective topology". A set has node or link i as
 // its bit i, of value 2^i.
 use crate::working::works;
-use plan_lists::{copy_words, put_bytes};
+use plan_lists::copy_first;
 use std::io;
 use trials_network_vectors::{failed, links};
 use trials_vectors::{many_links, same};
@@ -98,7 +98,7 @@ pub fn ring_nodes(rt: &impl Print) -> io::Result<()> {
 // 2^62 + 2^63 = 13,835,058,055,282,163,712.
 pub fn top_bits(rt: &impl Print) -> io::Result<()> {
     let mut l = many_links();
-    put_bytes(b"\x3e\x3f", &mut l, 254, 2);
+    copy_first(b"\x3e\x3f", &mut l, 254, 2);
     let down = 4_611_686_018_427_387_903;
     works(
         rt,
@@ -134,7 +134,7 @@ pub fn word_ends(rt: &impl Print) -> io::Result<()> {
 // What has failed, over the failing events and beside what had failed at the start.
 pub fn outages(rt: &impl Print) -> io::Result<()> {
     let mut events = [0u64; 512];
-    copy_words(&[9, 1, 6, 0, 8, 2, 8, 0, 7, 4, 2, 1], &mut events, 12);
+    copy_first(&[9, 1, 6, 0, 8, 2, 8, 0, 7, 4, 2, 1], &mut events, 0, 12);
     // events 0 and 2 of three, beside node 5: nodes 0, 2, 5 (1 + 4 + 32), links 1, 2 (2 + 4) and 64
     let two = network::failed_by(&events, 3, 5, 0, failed(32, 0, 0));
     same(rt, b"nodes of events 0 and 2", two.nodes, 37)?;

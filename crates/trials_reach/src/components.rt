@@ -1,6 +1,6 @@
 // Networks of several components, and the last node and link: document 01, "Effective topology". A set has node or link i as its bit i, of
 // value 2^i.
-use plan_lists::put_bytes;
+use plan_lists::copy_first;
 use std::io;
 use trials_network_vectors::{failed, links, parts};
 use trials_vectors::many_links;
@@ -99,7 +99,7 @@ pub fn islands(rt: &impl Print) -> io::Result<()> {
 // 2^62 + 2^63 = 13,835,058,055,282,163,712.
 pub fn top_bits(rt: &impl Print) -> io::Result<()> {
     let mut l = many_links();
-    put_bytes(b"\x3e\x3f", &mut l, 254, 2);
+    copy_first(b"\x3e\x3f", &mut l, 254, 2);
     let down = 4_611_686_018_427_387_903;
     parts(
         rt,

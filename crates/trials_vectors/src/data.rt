@@ -4,7 +4,7 @@ ghost use Rattle.trials_vectors.specs.Data.{LinksUpTo, LargeFile, FullEvents};
 
 use crate::compare::{same, same_part};
 use plan::{Header, Reading, Writing};
-use plan_lists::put_bytes;
+use plan_lists::copy_first;
 use std::io;
 
 // What a lent list holds before a call.
@@ -45,14 +45,14 @@ pub fn large_file() -> [u8; 302]
 {
     let links = many_links();
     let mut file = [0u8; 302];
-    put_bytes(
+    copy_first(
         b"RSG\x01\x00\x40\x80\x02\x00\x00\x64\xa7\xb3\xb6\xe0\x0d\x40\x42\x0f\x00",
         &mut file,
         0,
         20,
     );
-    put_bytes(&links, &mut file, 20, 256);
-    put_bytes(
+    copy_first(&links, &mut file, 20, 256);
+    copy_first(
         b"\x00\xca\x9a\x3b\x07\x00\x00\x00\x3f\x01\x00\x01\x3f\x01\x40\x01\x42\x01\x7f\x02\x01\x00\x00\x01\x01\x41",
         &mut file,
         276,

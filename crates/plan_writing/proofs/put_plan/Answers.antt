@@ -7,7 +7,7 @@ use Rattle.plan.specs.Lists.{events_of}
 use Rattle.plan.specs.Layout.{event_bytes}
 use Rattle.plan_writing.proofs.SizeLaws.{plan-size}
 use Rattle.plan_writing.proofs.WriterLaws.{plan-laid}
-use Rattle.plan_writing.proofs.put_plan.Goals.{After-put_bytes, After-put_header, Start}
+use Rattle.plan_writing.proofs.put_plan.Goals.{After-copy_first, After-put_header, Start}
 use Rattle.plan_writing.proofs.put_plan.Goals as goal
 
 -- the output has room for the three parts
@@ -19,30 +19,30 @@ room c = omega (arith, plan-size c.args.h c.args.links.now c.args.words.now, c.r
 long₁ : (c : After-put_header) → length c.put_header.new.out ≡ length c.args.out.now
 long₁ c = c.put_header.auto.out
 
-long₂ : (c : After-put_bytes) → length c.put_bytes.new.to ≡ length c.args.out.now
-long₂ c = c.put_bytes.auto.to ∙ (c.put_header.auto.out)
+long₂ : (c : After-copy_first) → length c.copy_first.new.to ≡ length c.args.out.now
+long₂ c = c.copy_first.auto.to ∙ (c.put_header.auto.out)
 
 pub put_header-requires : goal.put_header-requires
 put_header-requires c = omega (arith, room (goal.at.put_header-requires c).Start, c.requires.nodes_bound, c.requires.links_in_bounds, c.requires.words_in_bounds)
 
-pub put_bytes-requires : goal.put_bytes-requires
-put_bytes-requires c =
-    omega (arith, room (goal.at.put_bytes-requires c).Start, c.requires.nodes_bound, c.requires.links_in_bounds, c.requires.words_in_bounds, long₁ (goal.at.put_bytes-requires c).After-put_header)
+pub copy_first-requires : goal.copy_first-requires
+copy_first-requires c =
+    omega (arith, room (goal.at.copy_first-requires c).Start, c.requires.nodes_bound, c.requires.links_in_bounds, c.requires.words_in_bounds, long₁ (goal.at.copy_first-requires c).After-put_header)
 
 pub overflow_add-count : goal.overflow_add-count
 overflow_add-count c = omega (arith, c.requires.nodes_bound, c.requires.links_in_bounds, c.requires.words_in_bounds)
 
 pub put_events-requires : goal.put_events-requires
 put_events-requires c =
-    omega (arith, room (goal.at.put_events-requires c).Start, c.requires.nodes_bound, c.requires.links_in_bounds, c.requires.words_in_bounds, long₂ (goal.at.put_events-requires c).After-put_bytes)
+    omega (arith, room (goal.at.put_events-requires c).Start, c.requires.nodes_bound, c.requires.links_in_bounds, c.requires.words_in_bounds, long₂ (goal.at.put_events-requires c).After-copy_first)
 
 pub shape_of-out : goal.shape_of-out
-shape_of-out c = c.put_events.auto.out ∙ long₂ (goal.at.shape_of-out c).After-put_bytes
+shape_of-out c = c.put_events.auto.out ∙ long₂ (goal.at.shape_of-out c).After-copy_first
 
 pub returns : goal.returns
 returns c =
     plan-laid c.args.h c.args.links.now c.args.words.now c.args.out.now _ _ _
     c.requires.links_in_bounds.0
     c.put_header.ensures
-    c.put_bytes.ensures
+    c.copy_first.ensures
     c.put_events.ensures

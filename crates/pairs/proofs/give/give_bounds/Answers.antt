@@ -12,8 +12,8 @@ use Rattle.pairs.proofs.give.give_bounds.Goals as goal
 pub pair_count-pairs-requires : goal.pair_count-pairs-requires
 pair_count-pairs-requires c = c.requires.few
 
-pub copy_words-requires : goal.copy_words-requires
-copy_words-requires c =
+pub copy_first-requires : goal.copy_first-requires
+copy_first-requires c =
     let g = c.requires in
     let e = c.pair_count-pairs.ensures in
     (omega (arith, e, g.sized, pairs-most _ g.few), omega (arith, e, g.lower-room))
@@ -31,7 +31,7 @@ copy_raised-requires c =
     }
 
 pub shape_of-lower : goal.shape_of-lower
-shape_of-lower c = c.copy_words.auto.to
+shape_of-lower c = c.copy_first.auto.to
 
 pub shape_of-upper : goal.shape_of-upper
 shape_of-upper c = c.copy_raised.auto.to
@@ -41,6 +41,6 @@ returns c =
     let a = c.args in
     let e = c.pair_count-pairs.ensures in
     record {
-      lower_after = c.copy_words.ensures ∙ ap (λ (k : ℕ). sets a.lower.now 0 (take k a.sums.now)) e;
+      lower_after = c.copy_first.ensures ∙ ap (λ (k : ℕ). sets a.lower.now 0 (take k a.sums.now)) e;
       upper_after = c.copy_raised.ensures ∙ ap (λ (k : ℕ). sets a.upper.now 0 (map (λ x. (whole - a.mass) + x) (take k a.sums.now))) e;
     }

@@ -1,32 +1,36 @@
--- `plan::bytes::number_at` meets its contract. The loop's invariant: the sum is the number in the bytes from `at + i` on, so it is below
--- 256 for each of them. The measure is how many bytes are left. Assumes nothing.
-use mathlib.Core.Path.{ap₂, ◌∙◌}
-use Prim.Native.Nat.{ℕ, ◌+◌, ◌*◌, ◌^◌, ◌<◌}
+-- `plan::bytes::number_at` meets its contract. The loop's invariant: the sum is the number in the bytes taken so far, so it is below 256 for
+-- each of them. Assumes nothing.
+use mathlib.Core.Path.{◌≡◌, refl, ap, ◌∙◌}
+use mathlib.Core.List.{List, [], ◌∷◌, ◌++◌}
+use Prim.Native.Nat.{ℕ, ◌+◌, ◌*◌, ◌^◌, ◌<◌, ◌≤◌}
+use lib.ListN.{length, take, drop}
 use native.Mathlib.Omega.{arith}
-use Rattle.plan.proofs.FileLaws.{number-end, number_step, number_fits, number-below, number-start}
-use Rattle.plan.proofs.bytes.number_at.Goals.{In-loop-i}
+use Rattle.std.proofs.Common.{rules, append-nil, length-take, length-drop}
+use Rattle.plan.specs.Layout.{value}
+use Rattle.plan.proofs.FileLaws.{number_fits, number_step}
+use Rattle.plan.proofs.bytes.number_at.Goals.{After-from}
 use Rattle.plan.proofs.bytes.number_at.Goals as goal
 
-pub loop-i-init : goal.loop-i-init
-loop-i-init c =
-    let z = number-start c.args.s.now c.args.at c.args.width in (omega arith, z.0, z.1)
+pub loop-byte-init : goal.loop-byte-init
+unfolding value
+loop-byte-init c = ([], search (rules, append-nil), refl, omega arith)
 
-sum_fits : (c : In-loop-i) → c.loop-i.sum < 2 ^ 56
-sum_fits c = number_fits _ _ _ c.requires.0 c.loop-i-test.true c.loop-i.invariant.0 c.loop-i.invariant.2
+sum_fits : (c : After-from) → c.loop-byte.sum < 2 ^ 56
+sum_fits c = number_fits _ _ _ _ _ _ c.in-Some.ensures.steps c.loop-byte.invariant.1 c.loop-byte.invariant.2 c.loop-byte.invariant.3 (rw length-take (omega arith))
 
 pub overflow_mul-sum : goal.overflow_mul-sum
-overflow_mul-sum c = omega (arith, sum_fits (goal.at.overflow_mul-sum c).In-loop-i)
+overflow_mul-sum c = omega (arith, sum_fits c)
 
 pub overflow_add-sum : goal.overflow_add-sum
-overflow_add-sum c = omega (arith, sum_fits (goal.at.overflow_add-sum c).In-loop-i)
+overflow_add-sum c = omega (arith, sum_fits c)
 
-pub loop-i-preserved : goal.loop-i-preserved
-loop-i-preserved c = (
-  omega arith,
-  ap₂ (λ (a b : ℕ). a + 256 * b) c.byte_at.ensures.is c.loop-i.invariant.1
-      ∙ number_step _ _ _ _ c.loop-i-test.true c.loop-i.invariant.0 c.requires.1,
-  number-below _ _ _ _ c.loop-i-test.true c.loop-i.invariant.0 c.byte_at.ensures.below c.loop-i.invariant.2,
-)
+pub loop-byte-preserved : goal.loop-byte-preserved
+loop-byte-preserved c = number_step _ _ _ _ _ _ c.in-Some.ensures.steps c.loop-byte.invariant.1 c.loop-byte.invariant.2 c.loop-byte.invariant.3 (omega arith) _ (ap (λ (b : ℕ). b + 256 * c.loop-byte.sum) c.from.ensures)
+
+-- all bytes are taken
+ends : (rest taken part : List ℕ) (sum : ℕ) → rest ++ taken ≡ part → length rest ≡ 0 → sum ≡ value taken → sum ≡ value part
+ends [] taken part sum e z n = n ∙ ap value e
+ends (x ∷ rest) taken part sum e z n = absurd (omega arith)
 
 pub returns : goal.returns
-returns c = c.loop-i.invariant.1 ∙ number-end _ _ _ _ c.loop-i-test.false
+returns c = ends _ _ _ _ c.loop-byte.invariant.1 c.in-None.ensures.steps.0 c.loop-byte.invariant.2

@@ -1,22 +1,16 @@
--- `plan_reading::reader::fill_links` meets its contract. The loop's invariant: with the links from `at` on laid down from `done` on, the array is as with all
--- of them. The measure is how many links are left. Assumes nothing.
-use mathlib.Core.Path.{refl, ◌∙◌}
+-- `plan_reading::reader::fill_links` meets its contract: the bytes of the links are the first bytes of the list. Assumes nothing.
+use mathlib.Core.Path.{◌≡◌, sym, ap, ◌∙◌}
+use Prim.Native.Nat.{◌-◌}
 use native.Mathlib.Omega.{arith}
-use lib.ListN.{drop}
-use Rattle.plan_reading.proofs.ReaderLaws.{links-fill, links-filled}
+use lib.ListN.{length, take, drop, length-drop}
+use lib.Seq.{sets, take_all}
+use Rattle.plan_lists.proofs.CopyLaws.{link_bytes-take}
 use Rattle.plan_reading.proofs.reader.fill_links.Goals as goal
-
-pub loop-left-init : goal.loop-left-init
-loop-left-init c = (omega arith, c.requires.1, refl)
-
-pub loop-left-preserved : goal.loop-left-preserved
-loop-left-preserved c = (
-  omega arith,
-  omega arith,
-  links-fill c.loop-left.links c.args.s.now c.loop-left.at c.loop-left.done c.loop-left.left c.loop-left-test.true
-      ∙ c.loop-left.invariant.2,
-)
 
 pub returns : goal.returns
 returns c =
-    links-filled c.loop-left.links (drop c.loop-left.at c.args.s.now) c.loop-left.done c.loop-left.left c.loop-left-test.false ∙ c.loop-left.invariant.2
+    let a = c.args in
+    let b = drop a.start a.s.now in
+    let long = length-drop a.start a.s.now in
+    let whole : take (length a.s.now - a.start) b ≡ b = take_all _ b (omega arith) in
+    rw whole at c.copy_first.ensures ∙ ap (sets a.links.now 0) (sym (link_bytes-take a.count b (omega arith)))

@@ -1,6 +1,5 @@
 -- `plan_reading::reader::members_of` meets its contract. The loop's invariant: the members from `at` on are accepted; the sets so far with those of the
--- members from `at` on are the whole sets; and the sets so far hold no element of rank `least` or more. The measure is how many members are left.
--- Assumes nothing.
+-- members from `at` on are the whole sets; and the sets so far hold no element of rank `least` or more. Assumes nothing.
 use mathlib.Core.Path.{◌≡◌, sym, ◌∙◌, ap}
 use Prim.Native.Nat.{ℕ, ◌+◌, ◌-◌, ◌≤◌, ◌<◌}
 use native.Mathlib.Omega.{arith}
@@ -13,93 +12,95 @@ use Rattle.plan.specs.Calls.{element_of}
 use Rattle.plan.specs.declared.Step.TheVariants as step
 use Rattle.plan.proofs.FileLawsAccepted.{member-fits, members-accepted, member-accepted, step-accepted, step-element, step-never}
 use Rattle.plan_reading.proofs.ReaderLaws.{rising, risen, node-set-step, link-set-step, set-none, low_word, high_word}
-use Rattle.plan_reading.proofs.reader.members_of.Goals.{After-member_at-answer, In-Member, In-loop-left}
+use Rattle.plan_lists.proofs.ListLaws.{all_left, some_left, one_fewer, none_left}
+use Rattle.plan_reading.proofs.reader.members_of.Goals.{After-member_at-answer, In-Member, In-loop}
 use Rattle.plan_reading.proofs.reader.members_of.Goals as goal
 
-pub loop-left-init : goal.loop-left-init
-loop-left-init c = (c.requires.s_value, omega arith, omega arith, omega arith, omega arith, omega arith)
+pub loop-init : goal.loop-init
+loop-init c = rw all_left (c.requires.s_value, omega arith, omega arith, omega arith, omega arith, omega arith)
 
 -- the member is accepted, so it is read, and the later ones are accepted
-accepted : (c : In-loop-left)
-    → (member_refusal c.args.nodes c.args.links c.loop-left.least
-    (drop c.loop-left.at c.args.s.now)
+accepted : (c : In-loop)
+    → (member_refusal c.args.nodes c.args.links c.loop.least
+    (drop c.loop.at c.args.s.now)
     ≡ 0)
     × (members_refusal c.args.nodes c.args.links
-    (rank (get_or c.args.s.now c.loop-left.at 0) (get_or c.args.s.now (c.loop-left.at + 1) 0) + 1)
-    (c.loop-left.left - 1)
-    (drop (c.loop-left.at + 2) c.args.s.now)
+    (rank (get_or c.args.s.now c.loop.at 0) (get_or c.args.s.now (c.loop.at + 1) 0) + 1)
+    ((c.args.count - c.loop.counter) - 1)
+    (drop (c.loop.at + 2) c.args.s.now)
     ≡ 0)
 accepted c =
     let a = c.args in
-    members-accepted a.nodes a.links c.loop-left.least c.loop-left.left c.loop-left.at a.s.now c.loop-left-test.true c.loop-left.invariant.0
+    members-accepted a.nodes a.links c.loop.least (c.args.count - c.loop.counter) c.loop.at a.s.now (some_left _ _ c.loop-test.true) c.loop.invariant.0
 
-there : (c : In-loop-left) → c.loop-left.at + 2 ≤ length c.args.s.now
-there c = member-fits _ _ _ c.loop-left.at c.args.s.now (accepted c).0
+there : (c : In-loop) → c.loop.at + 2 ≤ length c.args.s.now
+there c = member-fits _ _ _ c.loop.at c.args.s.now (accepted c).0
 
 answer-is : (c : After-member_at-answer)
     → c.member_at-answer.result
     ≡ step.Member
     (element_of
-    (get_or c.args.s.now c.loop-left.at 0)
-    (get_or c.args.s.now (c.loop-left.at + 1) 0))
+    (get_or c.args.s.now c.loop.at 0)
+    (get_or c.args.s.now (c.loop.at + 1) 0))
 answer-is c =
     c.member_at-answer.ensures
-    ∙ step-accepted _ _ _ c.loop-left.at c.args.s.now ((let a = c.args in
-    members-accepted a.nodes a.links c.loop-left.least c.loop-left.left c.loop-left.at a.s.now c.loop-left-test.true c.loop-left.invariant.0)).0
+    ∙ step-accepted _ _ _ c.loop.at c.args.s.now ((let a = c.args in
+    members-accepted a.nodes a.links c.loop.least (c.args.count - c.loop.counter) c.loop.at a.s.now (some_left _ _ c.loop-test.true) c.loop.invariant.0)).0
 
 element-is : (c : In-Member)
     → c.in-Member.element
     ≡ element_of
-    (get_or c.args.s.now c.loop-left.at 0)
-    (get_or c.args.s.now (c.loop-left.at + 1) 0)
+    (get_or c.args.s.now c.loop.at 0)
+    (get_or c.args.s.now (c.loop.at + 1) 0)
 element-is c = step-element _ _ (sym c.in-Member.is ∙ (c.member_at-answer.ensures
-    ∙ step-accepted _ _ _ c.loop-left.at c.args.s.now ((let a = c.args in
-    members-accepted a.nodes a.links c.loop-left.least c.loop-left.left c.loop-left.at a.s.now c.loop-left-test.true c.loop-left.invariant.0)).0))
+    ∙ step-accepted _ _ _ c.loop.at c.args.s.now ((let a = c.args in
+    members-accepted a.nodes a.links c.loop.least (c.args.count - c.loop.counter) c.loop.at a.s.now (some_left _ _ c.loop-test.true) c.loop.invariant.0)).0))
 
 pub returns-in_default : goal.returns-in_default
 returns-in_default c = absurd (step-never _ _ (sym c.in_default.is ∙ answer-is (goal.at.returns-in_default c).After-member_at-answer))
 
 -- the member's number and rank
-bounds : (c : In-loop-left)
-    → (get_or c.args.s.now (c.loop-left.at + 1) 0
-    < count_of_kind c.args.nodes c.args.links (get_or c.args.s.now c.loop-left.at 0))
-    × (c.loop-left.least
-    ≤ rank (get_or c.args.s.now c.loop-left.at 0) (get_or c.args.s.now (c.loop-left.at + 1) 0))
+bounds : (c : In-loop)
+    → (get_or c.args.s.now (c.loop.at + 1) 0
+    < count_of_kind c.args.nodes c.args.links (get_or c.args.s.now c.loop.at 0))
+    × (c.loop.least
+    ≤ rank (get_or c.args.s.now c.loop.at 0) (get_or c.args.s.now (c.loop.at + 1) 0))
 bounds c =
     let a = c.args in
-    member-accepted a.nodes a.links c.loop-left.least c.loop-left.at a.s.now (accepted c).0
+    member-accepted a.nodes a.links c.loop.least c.loop.at a.s.now (accepted c).0
 
 pub with_element-sets-requires : goal.with_element-sets-requires
 with_element-sets-requires c =
     rw (element-is c)
-    (rising c.args.nodes c.args.links c.loop-left.least c.loop-left.sets.nodes (joined c.loop-left.sets.low c.loop-left.sets.high) c.requires.nodes_bound.0 c.requires.nodes_bound.1
-    c.loop-left.invariant.3 c.loop-left.invariant.4 _ _ (bounds (goal.at.with_element-sets-requires c).In-loop-left).0 (bounds (goal.at.with_element-sets-requires c).In-loop-left).1)
+    (rising c.args.nodes c.args.links c.loop.least c.loop.sets.nodes (joined c.loop.sets.low c.loop.sets.high) c.requires.nodes_bound.0 c.requires.nodes_bound.1
+    c.loop.invariant.3 c.loop.invariant.4 _ _ (bounds (goal.at.with_element-sets-requires c).In-loop).0 (bounds (goal.at.with_element-sets-requires c).In-loop).1)
 
 pub rank_at-least-requires : goal.rank_at-least-requires
-rank_at-least-requires c = there (goal.at.rank_at-least-requires c).In-loop-left
+rank_at-least-requires c = there (goal.at.rank_at-least-requires c).In-loop
 
 pub overflow_add-least : goal.overflow_add-least
 overflow_add-least c = omega (arith, c.rank_at-least.ensures.1)
 
 pub overflow_add-at : goal.overflow_add-at
-overflow_add-at c = omega (arith, there (goal.at.overflow_add-at c).In-loop-left)
+overflow_add-at c = omega (arith, there (goal.at.overflow_add-at c).In-loop)
 
-pub loop-left-preserved : goal.loop-left-preserved
-loop-left-preserved c =
-    let e = element-is (goal.at.loop-left-preserved c).In-Member in
+pub loop-preserved : goal.loop-preserved
+loop-preserved c =
+    let e = element-is (goal.at.loop-preserved c).In-Member in
     let up =
-    risen c.args.nodes c.args.links c.loop-left.least c.loop-left.sets.nodes (joined c.loop-left.sets.low c.loop-left.sets.high) c.requires.nodes_bound.0 c.requires.nodes_bound.1
-    c.loop-left.invariant.3 c.loop-left.invariant.4 _ _ (bounds (goal.at.loop-left-preserved c).In-loop-left).0 (bounds (goal.at.loop-left-preserved c).In-loop-left).1
-    in (
-      ap (λ (k : ℕ). members_refusal c.args.nodes c.args.links (k + 1) (c.loop-left.left - 1) (drop (c.loop-left.at + 2) c.args.s.now)) c.rank_at-least.ensures.0
-          ∙ (accepted (goal.at.loop-left-preserved c).In-loop-left).1,
-      omega (arith, c.with_element-sets.ensures.nodes, ap node_value e, node-set-step c.loop-left.left c.loop-left.at c.args.s.now c.loop-left-test.true, c.loop-left.invariant.1),
+    risen c.args.nodes c.args.links c.loop.least c.loop.sets.nodes (joined c.loop.sets.low c.loop.sets.high) c.requires.nodes_bound.0 c.requires.nodes_bound.1
+    c.loop.invariant.3 c.loop.invariant.4 _ _ (bounds (goal.at.loop-preserved c).In-loop).0 (bounds (goal.at.loop-preserved c).In-loop).1
+    in
+    rw (one_fewer c.loop.counter c.args.count) (
+      ap (λ (k : ℕ). members_refusal c.args.nodes c.args.links (k + 1) ((c.args.count - c.loop.counter) - 1) (drop (c.loop.at + 2) c.args.s.now)) c.rank_at-least.ensures.0
+          ∙ (accepted (goal.at.loop-preserved c).In-loop).1,
+      omega (arith, c.with_element-sets.ensures.nodes, ap node_value e, node-set-step (c.args.count - c.loop.counter) c.loop.at c.args.s.now (some_left _ _ c.loop-test.true), c.loop.invariant.1),
       omega (
         arith,
         c.with_element-sets.ensures.links,
         ap link_value e,
-        link-set-step c.args.nodes c.args.links c.loop-left.left c.loop-left.at c.args.s.now c.loop-left-test.true (bounds (goal.at.loop-left-preserved c).In-loop-left).0,
-        c.loop-left.invariant.2,
+        link-set-step c.args.nodes c.args.links (c.args.count - c.loop.counter) c.loop.at c.args.s.now (some_left _ _ c.loop-test.true) (bounds (goal.at.loop-preserved c).In-loop).0,
+        c.loop.invariant.2,
       ),
       rw c.rank_at-least.ensures.0 (omega (arith, c.with_element-sets.ensures.nodes, ap node_value e, up.0)),
       rw c.rank_at-least.ensures.0 (omega (arith, c.with_element-sets.ensures.links, ap link_value e, up.1)),
@@ -108,12 +109,12 @@ loop-left-preserved c =
 
 pub returns : goal.returns
 returns c =
-    let l = c.loop-left in
+    let l = c.loop in
     let a = c.args in
     let b = drop l.at a.s.now in
-    let n : l.sets.nodes ≡ set_of 0 a.count (drop a.start a.s.now) = omega (arith, l.invariant.1, set-none 0 l.left b c.loop-left-test.false) in
+    let n : l.sets.nodes ≡ set_of 0 a.count (drop a.start a.s.now) = omega (arith, l.invariant.1, set-none 0 (a.count - l.counter) b (none_left _ _ c.loop-test.false)) in
     let k : joined l.sets.low l.sets.high ≡ set_of 1 a.count (drop a.start a.s.now) =
-    omega (arith, l.invariant.2, set-none 1 l.left b c.loop-left-test.false)
+    omega (arith, l.invariant.2, set-none 1 (a.count - l.counter) b (none_left _ _ c.loop-test.false))
     in
     record {
       nodes = n;

@@ -46,25 +46,25 @@ bounds c =
     let a = c.args in
     header-bounds (length a.links.now) (length a.events.now / 4) a.s.now c.header_in-header.result (header_is c)
 
-pub slice_bounds-copy_bytes-end : goal.slice_bounds-copy_bytes-end
-slice_bounds-copy_bytes-end c = bytes-long (goal.at.slice_bounds-copy_bytes-end c).After-read_core-answer
+pub slice_bounds-copy_first-end : goal.slice_bounds-copy_first-end
+slice_bounds-copy_first-end c = bytes-long (goal.at.slice_bounds-copy_first-end c).After-read_core-answer
 
 pub overflow_mul-header : goal.overflow_mul-header
 overflow_mul-header c = omega (arith, bounds (goal.at.overflow_mul-header c).After-header_in-header)
 
-pub copy_bytes-requires : goal.copy_bytes-requires
-copy_bytes-requires c =
-    let b = bounds (goal.at.copy_bytes-requires c).After-header_in-header in (omega (arith, b, bytes-long (goal.at.copy_bytes-requires c).After-read_core-answer), b.0)
+pub copy_first-requires : goal.copy_first-requires
+copy_first-requires c =
+    let b = bounds (goal.at.copy_first-requires c).After-header_in-header in (omega (arith, b, bytes-long (goal.at.copy_first-requires c).After-read_core-answer), omega (arith, b))
 
-pub slice_bounds-copy_words-end : goal.slice_bounds-copy_words-end
-slice_bounds-copy_words-end c = words_long (goal.at.slice_bounds-copy_words-end c).After-read_core-answer
+pub slice_bounds-copy_first-end-2 : goal.slice_bounds-copy_first-end-2
+slice_bounds-copy_first-end-2 c = words_long (goal.at.slice_bounds-copy_first-end-2 c).After-read_core-answer
 
 pub overflow_mul-header-2 : goal.overflow_mul-header-2
 overflow_mul-header-2 c = omega (arith, bounds (goal.at.overflow_mul-header-2 c).After-header_in-header)
 
-pub copy_words-requires : goal.copy_words-requires
-copy_words-requires c =
-    let b = bounds (goal.at.copy_words-requires c).After-header_in-header in (omega (arith, b, words_long (goal.at.copy_words-requires c).After-read_core-answer), omega (arith, b))
+pub copy_first-requires-2 : goal.copy_first-requires-2
+copy_first-requires-2 c =
+    let b = bounds (goal.at.copy_first-requires-2 c).After-header_in-header in (omega (arith, b, words_long (goal.at.copy_first-requires-2 c).After-read_core-answer), omega (arith, b))
 
 pub returns : goal.returns
 returns c =
@@ -74,11 +74,11 @@ returns c =
     let own : reading_number c.read_core-answer.result ≡ read_number n k a.s.now = ap reading_number c.read_core-answer.ensures.answer ∙ reading-number _ _ in
     record {
       answer = c.read_core-answer.ensures.answer;
-      links = c.copy_bytes.ensures
+      links = c.copy_first.ensures
           ∙ ap (λ (l : List ℕ). sets a.links.now 0 (take (2 * c.header_in-header.result.links) l)) c.read_core-answer.ensures.links
           ∙ read-links n k a.s.now c.header_in-header.result (header_is (goal.at.returns c).After-header_in-header) (replicate 256 0) a.links.now (omega arith)
           ∙ ap (λ (x : ℕ). filled x (link_bytes (plan_of a.s.now).links) a.links.now) (sym own);
-      events = c.copy_words.ensures
+      events = c.copy_first-2.ensures
           ∙ ap (λ (l : List ℕ). sets a.events.now 0 (take (4 * c.header_in-header.result.events) l)) c.read_core-answer.ensures.words
           ∙ read-events n k a.s.now c.header_in-header.result (header_is (goal.at.returns c).After-header_in-header) (replicate 512 0) a.events.now (omega arith)
           ∙ ap (λ (x : ℕ). filled x (event_words (plan_of a.s.now).events) a.events.now) (sym own);

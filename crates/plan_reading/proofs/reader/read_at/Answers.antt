@@ -12,7 +12,7 @@ use Rattle.plan_reading.proofs.reader.read_at.Goals as goal
 pub returns : goal.returns
 returns c =
     let a = c.args in
-    let e = from-smaller a.s.now a.at c.smaller-from.result c.smaller-from.ensures in
+    let e = from-smaller a.s.now a.at c.min-from.result c.min-from.ensures in
     let number : List ℕ → ℕ = read_number a.link_room a.event_room in
     record {
       answer = c.read_core.ensures.answer ∙ ap (λ (b : List ℕ). read_answer (number b) (header_of b)) e;

@@ -1,15 +1,11 @@
 -- `plan_writing::sizes::events_size` meets its contract: the bytes counted and those of the events that are left make all. Assumes nothing.
 use mathlib.Core.Path.{◌≡◌}
-use Prim.Native.Nat.{◌+◌, ◌*◌}
+use Prim.Native.Nat.{◌+◌, ◌-◌, ◌*◌}
 use lib.ListN.{length, drop}
 use Rattle.plan.specs.Lists.{events_of}
 use Rattle.plan.specs.Layout.{event_bytes}
 use Rattle.plan_writing.proofs.sizes.events_size.Given as goal
 
-abbrev pub invariant-loop-left : goal.invariant-loop-left
-invariant-loop-left l =
-    (l.at + 4 * l.left ≡ 4 * l.count)
-    × (l.size + length (event_bytes (events_of l.left (drop l.at l.words))) ≡ length (event_bytes (events_of l.count l.words)))
-
-abbrev pub decreases-loop-left : goal.decreases-loop-left
-decreases-loop-left l = l.left
+abbrev pub invariant-loop-i : goal.invariant-loop-i
+invariant-loop-i l =
+    l.size + length (event_bytes (events_of (l.count - l.i) (drop (4 * l.i) l.words))) ≡ length (event_bytes (events_of l.count l.words))

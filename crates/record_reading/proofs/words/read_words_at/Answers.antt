@@ -40,9 +40,9 @@ bounds c =
 pub overflow_mul-header : goal.overflow_mul-header
 overflow_mul-header c = let b = bounds (goal.at.overflow_mul-header c).After-header_in-header in omega arith
 
-pub copy_bytes-requires : goal.copy_bytes-requires
-copy_bytes-requires c =
-    let h = (goal.at.copy_bytes-requires c).After-header_in-header in
+pub copy_first-requires : goal.copy_first-requires
+copy_first-requires c =
+    let h = (goal.at.copy_first-requires c).After-header_in-header in
     let b = bounds h in
     let long = bytes-long h in
     (omega arith, omega arith)
@@ -51,6 +51,6 @@ pub returns-clause-links : goal.returns-clause-links
 returns-clause-links c =
     let a = c.args in
     let h = (goal.at.returns-clause-links c).After-header_in-header in
-    c.copy_bytes.ensures
+    c.copy_first.ensures
     ∙ ap (λ (l : List ℕ). sets a.links.now 0 (take (2 * c.header_in-header.result.links) l)) c.read_at-answer.ensures.links
     ∙ read-links (length a.links.now) a.event_room (drop a.at a.s.now) c.header_in-header.result (header_is h) (replicate 256 0) a.links.now (omega arith)

@@ -7,8 +7,8 @@ use Rattle.sheet_records.proofs.SheetRecordsLaws.{handed-room}
 use Rattle.sheet_records.proofs.words.hand_over.Goals as goal
 
 -- the number is 0, so there is room
-pub copy_words-requires : goal.copy_words-requires
-copy_words-requires c =
+pub copy_first-requires : goal.copy_first-requires
+copy_first-requires c =
     let a = c.args in
     let l = handed-room a.answer (length a.events.now / 4) (sym c.handed_number-number.ensures ∙ c.if-number-ne0.false) in
     (omega (arith, c.lines_in.ensures), omega (arith, l, c.lines_in.ensures))

@@ -32,22 +32,22 @@ bounds c =
     let a = c.args in
     counts-bounds (length a.events.now / 4) a.s.now c.counts_in-counts.result (counts-are c)
 
-pub slice_bounds-copy_words-end : goal.slice_bounds-copy_words-end
-slice_bounds-copy_words-end c = words_long (goal.at.slice_bounds-copy_words-end c).After-read_core-answer
+pub slice_bounds-copy_first-end : goal.slice_bounds-copy_first-end
+slice_bounds-copy_first-end c = words_long (goal.at.slice_bounds-copy_first-end c).After-read_core-answer
 
 pub overflow_mul-counts : goal.overflow_mul-counts
 overflow_mul-counts c = omega (arith, bounds (goal.at.overflow_mul-counts c).After-counts_in-counts)
 
-pub copy_words-requires : goal.copy_words-requires
-copy_words-requires c =
-    let b = bounds (goal.at.copy_words-requires c).After-counts_in-counts in (omega (arith, b, words_long (goal.at.copy_words-requires c).After-read_core-answer), omega (arith, b))
+pub copy_first-requires : goal.copy_first-requires
+copy_first-requires c =
+    let b = bounds (goal.at.copy_first-requires c).After-counts_in-counts in (omega (arith, b, words_long (goal.at.copy_first-requires c).After-read_core-answer), omega (arith, b))
 
 pub returns : goal.returns
 returns c =
     let a = c.args in
     record {
       answer = c.read_core-answer.ensures.answer;
-      events = c.copy_words.ensures
+      events = c.copy_first.ensures
           ∙ ap (λ (l : List ℕ). sets a.events.now 0 (take (4 * c.counts_in-counts.result.lines) l)) c.read_core-answer.ensures.words
           ∙ read-words (length a.events.now / 4) a.s.now c.counts_in-counts.result (counts-are (goal.at.returns c).After-counts_in-counts) (replicate 512 0) a.events.now (omega arith);
     }

@@ -16,8 +16,8 @@ pub returns-then-out-size : goal.returns-then-out-size
 returns-then-out-size c =
     let put = c.put_listing-size.ensures in let whole = short-answer _ _ _ _ (subst (λ (k : ℕ). length c.args.out.now < k) put.1 c.if-out-size.true) in record { answer = whole.0; bytes = whole.1.0; within = whole.1.1 }
 
-pub copy_bytes-requires : goal.copy_bytes-requires
-copy_bytes-requires c =
+pub copy_first-requires : goal.copy_first-requires
+copy_first-requires c =
     let b = c.args.plan.now in
     let room = array-room b (λ i. omega (arith, c.type_inv.plan i)) in
     let put = c.put_listing-size.ensures in
@@ -28,4 +28,4 @@ returns c =
     let a = c.args in
     let room = array-room a.plan.now (λ i. omega (arith, c.type_inv.plan i)) in
     let put = c.put_listing-size.ensures in let whole = text-answer _ _ _ (listing intact a.plan.now) a.out.now _ room put.0 put.1 c.if-out-size.false
-    c.copy_bytes.ensures in record { answer = whole.0; bytes = whole.1.0; within = whole.1.1 }
+    c.copy_first.ensures in record { answer = whole.0; bytes = whole.1.0; within = whole.1.1 }

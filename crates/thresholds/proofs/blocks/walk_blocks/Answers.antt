@@ -10,8 +10,8 @@ use Rattle.thresholds.proofs.TestLaws.{test-none}
 use Rattle.thresholds.proofs.WalkLaws.{size-most, falling-first, fresh, blocks-walked}
 use Rattle.thresholds.proofs.blocks.walk_blocks.Goals as goal
 
-pub copy_words-requires : goal.copy_words-requires
-copy_words-requires c =
+pub copy_first-requires : goal.copy_first-requires
+copy_first-requires c =
     (omega arith, omega (arith, (test-none c.args.list.now c.requires.cap_bound.1).1))
 
 pub copy_raised-requires : goal.copy_raised-requires
@@ -34,7 +34,7 @@ pub walk_thresholds-requires : goal.walk_thresholds-requires
 walk_thresholds-requires c =
     let a = c.args in
     let tested = c.requires.cap_bound.1 in
-    let is = c.copy_words.ensures in
+    let is = c.copy_first.ensures in
     record {
       held = c.requires.held;
       falling_first = (falling-first a.list.now _ tested is, c.requires.cap_bound.0);
@@ -45,7 +45,7 @@ walk_thresholds-requires c =
 pub returns : goal.returns
 returns c =
     let a = c.args in
-    blocks-walked a.list.now _ c.requires.cap_bound.1 c.copy_words.ensures a.h _ _ _ _ a.lower.now _ c.requires.rooms_value c.copy_raised.ensures
+    blocks-walked a.list.now _ c.requires.cap_bound.1 c.copy_first.ensures a.h _ _ _ _ a.lower.now _ c.requires.rooms_value c.copy_raised.ensures
     c.requires.list_in_bounds
     (c.clear.ensures ∙ ap (λ (x : ℕ). sets a.lower.now 0 (replicate (x * length a.list.now) 0)) c.pair_count.ensures)
     a.links.now

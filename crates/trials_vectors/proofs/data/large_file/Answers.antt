@@ -14,14 +14,14 @@ pub returns : goal.returns
 returns c =
     let links = c.many_links-links.result in
     let sized : length links ≡ 256 = search rules in
-    let one = c.put_bytes.new.to in
-    let two = c.put_bytes-2.new.to in
+    let one = c.copy_first.new.to in
+    let two = c.copy_first-2.new.to in
     let laid : two ≡ sets one 20 links =
-    c.put_bytes-2.ensures ∙ ap (λ (l : List ℕ). sets one 20 l) (take_all 256 links (omega arith)) in
-    let file : c.put_bytes-3.new.to ≡ large_header ++ links ++ large_events =
-    c.put_bytes-3.ensures
-    ∙ three-laid (replicate 302 0) one two large_header links large_events 20 276 c.put_bytes.ensures laid refl (omega arith) refl in
-    let middle : take 256 (drop 20 c.put_bytes-3.new.to) ≡ links =
+    c.copy_first-2.ensures ∙ ap (λ (l : List ℕ). sets one 20 l) (take_all 256 links (omega arith)) in
+    let file : c.copy_first-3.new.to ≡ large_header ++ links ++ large_events =
+    c.copy_first-3.ensures
+    ∙ three-laid (replicate 302 0) one two large_header links large_events 20 276 c.copy_first.ensures laid refl (omega arith) refl in
+    let middle : take 256 (drop 20 c.copy_first-3.new.to) ≡ links =
     ap (λ (l : List ℕ). take 256 (drop 20 l)) file ∙ second-part large_header links large_events 20 256 refl sized in
     let seam : length (large_header ++ links) ≡ 276 = omega (arith, length-append large_header links) in
     record {
