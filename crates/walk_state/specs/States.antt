@@ -1,9 +1,7 @@
--- The state of a walk: the walk of zeros, and the answer that holds a walk.
+-- The state of a walk: the walk of zeros.
 -- Assumes nothing.
-use Rattle.std.specs.Prelude.{ℕ, replicate}
-use Rattle.mass.specs.Refusal.{answered}
+use Rattle.std.specs.Prelude.{replicate}
 use Rattle.walk_state.specs.declared.Walk.{Walk}
-use Rattle.walk_state.specs.declared.WalkAnswer.{WalkAnswer}
 
 -- a walk of zeros
 unfoldable pub no_walk : Walk
@@ -19,7 +17,3 @@ no_walk =
       count = 0;
       mass = 0;
     }
-
--- the answer that a number and a walk stand for: a refusal has a walk of zeros
-abbrev pub walk_answer : ℕ → Walk → WalkAnswer
-walk_answer number walk = answered (λ n. record { number = n; walk = no_walk }) (record { number = 0; walk = walk }) number

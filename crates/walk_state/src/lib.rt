@@ -26,13 +26,6 @@ pub struct Walk {
     pub mass: u64,
 }
 
-// A walk, or the number of a refusal and a walk of zeros.
-#[derive(Clone, Copy)]
-pub struct WalkAnswer {
-    pub number: u32,
-    pub walk: Walk,
-}
-
 // A walk of zeros.
 pub fn no_walk() -> Walk
     ensures { result ≡ no_walk }

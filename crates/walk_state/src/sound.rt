@@ -127,7 +127,7 @@ pub fn is_sound(
       mass = «mass»;
     }) }
 {
-    if plan_lists::lists_refusal(h, links, events) != 0 {
+    if plan_lists::lists_refusal(h, links, events).is_err() {
         return false;
     }
     if !numbers_sound(h.cap, at, reached, count) {

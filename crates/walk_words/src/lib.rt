@@ -4,16 +4,18 @@
 
 mod parts;
 
-ghost use Rattle.std.specs.Prelude.{◌≡◌, ◌≤◌, length};
+ghost use Rattle.std.specs.Prelude.{◌≡◌, ◌≤◌, length, IfOk, OnOk};
 ghost use Rattle.std.proofs.lemmas.List.Edits.{sets};
+ghost use Rattle.mass.specs.Refusal.{number_in};
 ghost use Rattle.refusals.specs.Tests.{room_test};
 ghost use Rattle.plan.specs.Calls.{filled};
-ghost use Rattle.walk_state.specs.States.{walk_answer};
 ghost use Rattle.walk_words.specs.WalkWords.{walk_length, walk_words, walk_of};
 
+use mass::Refusal;
 use parts::{narrow, put_words, take_words, widen};
 use plan::Header;
-use walk_state::{Walk, WalkAnswer, no_walk};
+use refusals::room_test;
+use walk_state::Walk;
 
 // How many words a walk has.
 pub const WORDS: usize = 3305;
@@ -55,17 +57,14 @@ pub fn lay(w: Walk, state: &mut [u64])
 }
 
 // Lays a walk down from the start of a list. Refused, with 12, where the list is too short.
-pub fn pack(w: Walk, state: &mut [u64]) -> u32
-    ensures number { result ≡ room_test (length state.old) walk_length }
-    ensures state { state.new ≡ filled result (walk_words w) state.old }
-    ensures again { result ≡ 0 → walk_of state.new ≡ w }
+pub fn pack(w: Walk, state: &mut [u64]) -> Result<(), Refusal>
+    ensures number { number_in result ≡ room_test (length state.old) walk_length }
+    ensures state { state.new ≡ filled (number_in result) (walk_words w) state.old }
+    ensures again { OnOk result (walk_of state.new ≡ w) }
 {
-    let room = refusals::room_test(state.len(), WORDS);
-    if room != 0 {
-        return room;
-    }
+    room_test(state.len(), WORDS)?;
     lay(w, state);
-    0
+    Ok(())
 }
 
 // The walk that the words at the start of a list stand for.
@@ -101,17 +100,10 @@ pub fn walk_of(state: &[u64]) -> Walk
 }
 
 // Takes a walk from the start of a list. Refused, with 12, where the list is too short.
-pub fn unpack(state: &[u64]) -> WalkAnswer
-    ensures { result ≡ walk_answer (room_test (length state.now) walk_length) (walk_of state.now) }
+pub fn unpack(state: &[u64]) -> Result<Walk, Refusal>
+    ensures number { number_in result ≡ room_test (length state.now) walk_length }
+    ensures walk { IfOk result (λ w. w ≡ walk_of state.now) }
 {
-    let room = refusals::room_test(state.len(), WORDS);
-    if room != 0 {
-        let none = no_walk();
-        return WalkAnswer {
-            number: room,
-            walk: none,
-        };
-    }
-    let walk = walk_of(state);
-    WalkAnswer { number: 0, walk }
+    room_test(state.len(), WORDS)?;
+    Ok(walk_of(state))
 }

@@ -54,7 +54,7 @@ pub members_of-members-requires : goal.members_of-members-requires
 members_of-members-requires c =
     record {
       nodes_bound = (c.requires.nodes_bound.0, c.requires.nodes_bound.1);
-      s_value = ap (λ (k : ℕ). members_refusal c.args.nodes c.args.links 0 k (drop (c.loop-i.at + 5) c.args.s.now)) c.byte_at.ensures.0
+      s_value = ap (λ (k : ℕ). members_refusal c.args.nodes c.args.links 0 k (drop (c.loop-i.at + 5) c.args.s.now)) c.byte_at.ensures.is
           ∙ event-accepted c.args.nodes c.args.links _ c.loop-i.at c.args.s.now (accepted (goal.at.members_of-members-requires c).In-loop-i).0;
     }
 
@@ -71,7 +71,7 @@ pub loop-i-preserved : goal.loop-i-preserved
 loop-i-preserved c =
     let a = c.args in
     let s = a.s.now in
-    let k = c.byte_at.ensures.0 in
+    let k = c.byte_at.ensures.is in
     let on : 4 * (c.loop-i.i + 1) ≡ 4 * c.loop-i.i + 4 = omega arith in
     rw (one_fewer c.loop-i.i c.args.count, on) (
       (
