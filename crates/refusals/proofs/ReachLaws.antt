@@ -1,4 +1,4 @@
--- Laws of the tests on kinds and sets.
+-- Laws of the tests on sets.
 -- Assumes nothing.
 use mathlib.Core.Path.{◌≡◌, refl, sym, ◌∙◌, ap}
 use mathlib.Core.Bool.{true}
@@ -10,13 +10,6 @@ use borrow.Author.Tests.{le-leb, lt-leb}
 use lib.Dec.{ltb, leb}
 use lib.Pow.{pow-add, pow_pos, pow_mono}
 use Rattle.sets.specs.Sets.{joined}
-use Rattle.refusals.specs.Tests.{count_of_kind}
-
--- a kind that is neither of nodes nor of links has no element
-pub other-kind : (nodes links kind : ℕ) → (kind ≡ 0 → ⊥) → (kind ≡ 1 → ⊥) → 0 ≡ count_of_kind nodes links kind
-other-kind nodes links zero h g = absurd (h refl)
-other-kind nodes links (suc zero) h g = absurd (g refl)
-other-kind nodes links (suc (suc kind)) h g = refl
 
 -- two tests that hold together are equal
 leb-same : (a b x y : ℕ) → (a ≤ b → x ≤ y) → (x ≤ y → a ≤ b) → leb a b ≡ leb x y
@@ -48,11 +41,3 @@ pub reach-high : (count low high : ℕ) → 64 ≤ count → low < 2 ^ 64 → le
 reach-high count low high h fits =
     let p = high-power count h in
     leb-same (2 ^ (count - 64)) high (2 ^ count) (joined low high) (λ g. omega arith) (λ g. omega arith)
-
-pub reach-over : (count low high : ℕ) → count < 64 → 0 < high → true ≡ leb (2 ^ count) (joined low high)
-reach-over count low high h pos =
-    let m : 2 ^ count ≤ 2 ^ 64 = pow_mono {i = count} {j = 64} (omega arith) in
-    sym (le-leb (2 ^ count) (joined low high) (omega arith))
-
-pub reach-low : (count low high : ℕ) → high ≤ 0 → leb (2 ^ count) low ≡ leb (2 ^ count) (joined low high)
-reach-low count low high h = leb-same (2 ^ count) low (2 ^ count) (joined low high) (λ g. omega arith) (λ g. omega arith)

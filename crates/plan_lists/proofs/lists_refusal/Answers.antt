@@ -1,8 +1,6 @@
 -- `plan_lists::lists_refusal` meets its contract: the tests in their order. Assumes nothing.
 use mathlib.Core.List.{List, [], ◌∷◌}
 use Prim.Native.Nat.{ℕ}
-use mathlib.Core.Path.{◌≡◌}
-use Rattle.mass.specs.Refusal.{first}
 use Rattle.mass.proofs.RefusalLaws.{stops, passes, last, stops-run, passes-run, hands-on}
 use Rattle.refusals.specs.Tests.{counts_test, threshold_test, cap_test}
 use Rattle.plan.specs.LentLists.{lists_number}

@@ -2,10 +2,10 @@
 -- each of them. Assumes nothing.
 use mathlib.Core.Path.{◌≡◌, refl, ap, ◌∙◌}
 use mathlib.Core.List.{List, [], ◌∷◌, ◌++◌}
-use Prim.Native.Nat.{ℕ, ◌+◌, ◌*◌, ◌^◌, ◌<◌, ◌≤◌}
-use lib.ListN.{length, take, drop}
+use Prim.Native.Nat.{ℕ, ◌+◌, ◌*◌, ◌^◌, ◌<◌}
+use lib.ListN.{length}
 use native.Mathlib.Omega.{arith}
-use Rattle.std.proofs.Common.{rules, append-nil, length-take, length-drop}
+use Rattle.std.proofs.Common.{rules, append-nil, length-take}
 use Rattle.plan.specs.Layout.{value}
 use Rattle.plan.proofs.FileLaws.{number_fits, number_step}
 use Rattle.plan.proofs.bytes.number_at.Goals.{After-from}

@@ -1,6 +1,6 @@
 -- `plan::file::links_refusal` meets its contract. Assumes nothing.
 use mathlib.Core.Path.{◌≡◌, refl, sym, ◌∙◌, ap, ap₂}
-use Prim.Native.Nat.{ℕ, ◌+◌, ◌-◌, ◌<◌}
+use Prim.Native.Nat.{ℕ, ◌+◌, ◌-◌}
 use native.Mathlib.Omega.{arith}
 use Rattle.mass.proofs.RefusalLaws.{stops, passes, last, hands-on}
 use Rattle.refusals.specs.Tests.{short_test, ends_test}

@@ -1,7 +1,6 @@
 -- `plan::file::member_at` meets its contract: the tests of the member, on its two bytes. Assumes nothing.
-use mathlib.Core.Path.{◌≡◌, sym, ◌∙◌, ap, ap₂}
+use mathlib.Core.Path.{sym, ◌∙◌, ap, ap₂}
 use Prim.Native.Nat.{ℕ}
-use lib.ListN.{length, drop}
 use Rattle.mass.proofs.RefusalLaws.{passes, last, hands-on}
 use Rattle.refusals.specs.Tests.{short_test, member_test}
 use Rattle.plan.proofs.FileLawsSteps.{member-step}
