@@ -1,17 +1,15 @@
--- Laws of the check of a sheet: the product of three numbers, one step of the loop over lines from a position on, and what acceptance says of
+-- Laws of the check of a sheet: the tests 17 and 18, one step of the loop over lines from a position on, and what acceptance says of
 -- the bytes that are there.
 -- Assumes nothing.
 use mathlib.Core.Path.{◌≡◌, refl, sym, ◌∙◌, ap}
 use mathlib.Core.List.{List, [], ◌∷◌}
-use Prim.Native.Nat.{ℕ, zero, suc, ◌+◌, ◌-◌, ◌*◌, ◌/◌, ◌≤◌, ◌<◌, min}
-use native.Mathlib.Nat.{not-suc-le-zero, min-eq_left, min-eq_right, le-div_iff_mul-le, div-lt_iff_lt-mul, mul-le-mul_right, mul-zero, min-le_left, lt_of_lt_of_le, le_trans, le_of_eq}
-use native.Mathlib.Decide.{dec_le}
+use Prim.Native.Nat.{ℕ, zero, suc, ◌+◌, ◌-◌, ◌*◌, ◌≤◌, ◌<◌}
+use native.Mathlib.Nat.{not-suc-le-zero}
 use native.Mathlib.Omega.{arith}
-use borrow.Author.Tests.{ltb-false, lt-ltb, le-ltb}
-use lib.Dec.{ltb}
+use borrow.Author.Tests.{ltb-false, le-ltb}
 use lib.ListN.{length, get_or, take, drop}
 use lib.Seq.{drop-drop, get_or-drop}
-use Rattle.mass.specs.Refusal.{refuse, first}
+use Rattle.mass.specs.Refusal.{first}
 use Rattle.mass.specs.Split.{certain}
 use Rattle.mass.proofs.RefusalLaws.{first-none, refuse-none}
 use Rattle.refusals.specs.Tests.{short_test, left_test}
@@ -24,48 +22,7 @@ use Rattle.sheets.specs.Sheet.{unavailability}
 use Rattle.sheets.specs.SheetFile.{product_test, lines_test, lines_in, sheet_header_refusal, fit_in, hours_in, extent_in, line_size, line_refusal}
 use Rattle.sheets.specs.SheetFile.{lines_refusal, line_in, sheet_refusal}
 
--- ---- the product
-
--- a product that is cut at 10^9 + 1 after its first factor is cut there as a whole
-pub bounded-again : (x e : ℕ) → min (min x (certain + 1) * e) (certain + 1) ≡ min (x * e) (certain + 1)
-bounded-again x e = go (dec_le x (certain + 1)) e
-  where
-    go : Dec (x ≤ certain + 1) → (e : ℕ) → min (min x (certain + 1) * e) (certain + 1) ≡ min (x * e) (certain + 1)
-    go (yes h) e = ap (λ (y : ℕ). min (y * e) (certain + 1)) (min-eq_left h)
-    go (no h) zero =
-        ap (λ (y : ℕ). min y (certain + 1)) (mul-zero (min x (certain + 1)) ∙ sym (mul-zero x))
-    go (no h) (suc e) =
-        let m : min x (certain + 1) ≡ certain + 1 = min-eq_right (omega arith) in
-        ap (λ (y : ℕ). min (y * suc e) (certain + 1)) m
-        ∙ min-eq_right (omega arith)
-        ∙ sym (min-eq_right (omega (arith, mul-le-mul_right {m = certain + 1} {n = x} (suc e) (omega arith))))
-
-pub none-bounded : (a b : ℕ) → b ≡ 0 → 0 ≡ min (a * b) (certain + 1)
-none-bounded a b e = sym (ap (λ (y : ℕ). min (a * y) (certain + 1)) e ∙ ap (λ (y : ℕ). min y (certain + 1)) (mul-zero a))
-
--- where the first factor is above the quotient, the product is above 10^9; else it is not
-pub above_quotient : (a b : ℕ) → (b ≡ 0 → ⊥) → certain / b < a → certain + 1 ≡ min (a * b) (certain + 1)
-above_quotient a b n h =
-    let p : 0 < b = omega (arith, n) in
-    let m : certain < a * b = (div-lt_iff_lt-mul {k = b} {x = certain} {y = a} p).0 h in
-    sym (min-eq_right (omega arith))
-
-pub below_quotient : (a b : ℕ) → (b ≡ 0 → ⊥) → a ≤ certain / b → a * b ≤ certain
-below_quotient a b n h = (le-div_iff_mul-le {k = b} {x = a} {y = certain} (omega (arith, n))).0 h
-
--- r is the product x, cut
-pub product-above : (x r : ℕ) → r ≡ min x (certain + 1) → certain < r → 17 ≡ refuse (ltb certain x) 17
-product-above x r e h = rw (lt-ltb certain x (lt_of_lt_of_le h (le_trans (le_of_eq e) (min-le_left x (certain + 1)))))
-
-pub product-below : (x r : ℕ) → r ≡ min x (certain + 1) → r ≤ certain → 0 ≡ refuse (ltb certain x) 17
-product-below x r e h = go (dec_le x certain)
-  where
-    go : Dec (x ≤ certain) → 0 ≡ refuse (ltb certain x) 17
-    go (yes l) = rw (le-ltb certain x l)
-    go (no n) = let m : min x (certain + 1) ≡ certain + 1 = min-eq_right (omega arith) in absurd (never m)
-      where
-        never : min x (certain + 1) ≡ certain + 1 → ⊥
-        never m = omega arith
+-- ---- the tests 17 and 18
 
 -- 17 is given exactly where the product is above 10^9, and 18 where there are more than 128 lines
 pub product-none : (fit hours extent : ℕ) → product_test fit hours extent ≡ 0 → fit * hours * extent ≤ certain

@@ -7,20 +7,19 @@ use native.Mathlib.Nat.{not-suc-le-zero}
 use native.Mathlib.Omega.{arith}
 use lib.ListN.{length, get_or, take, drop, length-map}
 use lib.Seq.{sets, drop-drop, get_or-drop}
-use Rattle.mass.proofs.RefusalLaws.{first-none, answered-number}
+use Rattle.mass.proofs.RefusalLaws.{first-none}
 use Rattle.refusals.proofs.TestLaws.{room-none}
 use Rattle.plan.specs.Plan.{Event}
 use Rattle.plan.specs.File.{set_of}
 use Rattle.plan.specs.Calls.{filled}
 use Rattle.plan.proofs.FileLaws.{suc-sub-one}
-use Rattle.plan_reading.proofs.ReaderLawsAnswer.{copied}
+use Rattle.plan_reading.proofs.ReaderLawsAnswer.{take-sets}
 use Rattle.sheet_order.specs.Order.{with_element, ordered_with}
 use Rattle.sheet_order.proofs.OrderLaws.{length-ordered}
 use Rattle.sheets.specs.Sheet.{event_of_line, sheet_events}
 use Rattle.sheets.specs.SheetFile.{lines_in, line_members_in, line_size, sheet_refusal, line_in, lines_at, sheet_of}
-use Rattle.sheets.specs.SheetCalls.{counts_of, read_sheet_refusal, read_sheet_answer, sheet_number, counts_in, sheet_words}
+use Rattle.sheets.specs.SheetCalls.{counts_of, read_sheet_refusal, sheet_words}
 use Rattle.sheets.specs.declared.Counts.{Counts}
-use Rattle.sheets.specs.declared.SheetReading.TheVariants as reading
 use Rattle.sheets.proofs.CheckLaws.{accepted-counts}
 use Rattle.sheet_order.specs.Inserted.{probability}
 use Rattle.sheet_order.proofs.InsertionLaws.{length-words}
@@ -63,11 +62,6 @@ length-sheet-events b =
 pub length-sheet-words : (b : List ℕ) → length (sheet_words b) ≡ 4 * lines_in b
 length-sheet-words b = length-words (sheet_events (sheet_of b)) ∙ ap (λ (n : ℕ). 4 * n) (length-sheet-events b)
 
--- ---- an answer has the number that it follows from
-
-pub sheet-number : (number : ℕ) (c : Counts) → sheet_number (read_sheet_answer number c) ≡ number
-sheet-number number c = answered-number reading.Refused (reading.Accepted c) sheet_number refl (λ n. refl) number
-
 -- ---- an accepted reading: there is room
 
 module _ (room : ℕ) (b : List ℕ) (e : read_sheet_refusal room b ≡ 0) where
@@ -79,36 +73,16 @@ module _ (room : ℕ) (b : List ℕ) (e : read_sheet_refusal room b ≡ 0) where
   unfolding read_sheet_refusal
   read-room = room-none room (lines_in b) (first-none _ _ (first-none _ _ e).1).0
 
--- ---- copying what was read into the lent list: c are the counts of the answer
+-- ---- copying what was read into the lent list
 
-counts-stop : (number : ℕ) (c : Counts) → (number ≡ 0 → ⊥) → (counts_in (read_sheet_answer number c)).lines ≡ 0
-counts-stop zero c n = absurd (n refl)
-counts-stop (suc number) c n = refl
-
-module _ (room : ℕ) (b : List ℕ) (c : Counts) (p : c ≡ counts_in (read_sheet_answer (read_sheet_refusal room b) (counts_of b))) where
-  lines-go : read_sheet_refusal room b ≡ 0 → c.lines ≡ lines_in b
-  unfolding counts_of
-  lines-go e = ap (λ (x : Counts). x.lines) (p ∙ ap (λ (n : ℕ). counts_in (read_sheet_answer n (counts_of b))) e)
-
-  lines-stop : (read_sheet_refusal room b ≡ 0 → ⊥) → c.lines ≡ 0
-  lines-stop n = ap (λ (x : Counts). x.lines) p ∙ counts-stop (read_sheet_refusal room b) (counts_of b) n
-
+module _ (room : ℕ) (b : List ℕ) (c : Counts) (p : c ≡ counts_of b) (e : read_sheet_refusal room b ≡ 0) where
   pub counts-bounds : (c.lines ≤ room) × (c.lines ≤ 128)
-  counts-bounds = go (read_sheet_refusal room b) refl
-    where
-      nothing : (n : ℕ) → suc n ≡ 0 → ⊥
-      nothing n z = omega arith
-
-      go : (n : ℕ) → read_sheet_refusal room b ≡ n → (c.lines ≤ room) × (c.lines ≤ 128)
-      go zero e =
-          rw (lines-go e) (read-room room b e, (accepted-counts b (read-accepted room b e)).2)
-      go (suc n) e = rw (lines-stop (λ z. nothing n (sym e ∙ z))) (omega arith, omega arith)
+  unfolding counts_of
+  counts-bounds = rw p (read-room room b e, (accepted-counts b (read-accepted room b e)).2)
 
   pub read-words : (space list : List ℕ) → 512 ≤ length space
-      → sets list 0 (take (4 * c.lines) (filled (read_sheet_refusal room b) (sheet_words b) space))
-      ≡ filled (read_sheet_refusal room b) (sheet_words b) list
+      → sets list 0 (take (4 * c.lines) (filled (read_sheet_refusal room b) (sheet_words b) space)) ≡ sets list 0 (sheet_words b)
+  unfolding counts_of
   read-words space list l =
-      copied (read_sheet_refusal room b) (4 * c.lines) (sheet_words b) space list
-      (λ e. ap (λ (n : ℕ). 4 * n) (lines-go e) ∙ sym (length-sheet-words b))
-      (λ n. ap (λ (n : ℕ). 4 * n) (lines-stop n))
-      (omega (arith, counts-bounds))
+      let k : 4 * c.lines ≡ length (sheet_words b) = rw p (sym (length-sheet-words b)) in
+      rw (e, k, take-sets space (sheet_words b) (omega (arith, counts-bounds)))

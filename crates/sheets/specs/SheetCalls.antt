@@ -1,16 +1,14 @@
--- What the calls of the crate `sheets` answer, for every input. `read_sheet_answer` says which number and counts a case of an answer stands
--- for.
+-- What the calls of the crate `sheets` answer, for every input.
 -- Assumes nothing.
-use Rattle.std.specs.Prelude.{List, [], ◌∷◌, ℕ, ◌/◌, length}
-use Rattle.mass.specs.Refusal.{first, answered}
+use Rattle.std.specs.Prelude.{List, [], ◌∷◌, ℕ, ◌/◌, length, Result, Ok, Err}
+use Rattle.mass.specs.Refusal.{first}
+use Rattle.mass.specs.declared.refusal.Refusal.{Refusal}
 use Rattle.refusals.specs.Tests.{room_test}
 use Rattle.plan.specs.File.{nodes_in, links_in}
 use Rattle.plan.specs.Lists.{event_words}
 use Rattle.sheets.specs.Sheet.{sheet_events}
 use Rattle.sheets.specs.SheetFile.{lines_in, sheet_refusal, sheet_of}
 use Rattle.sheets.specs.declared.Counts.{Counts}
-use Rattle.sheets.specs.declared.SheetReading.{SheetReading}
-use Rattle.sheets.specs.declared.SheetReading.TheVariants as reading
 
 -- the three counts that bytes stand for
 unfoldable pub counts_of : List ℕ → Counts
@@ -24,19 +22,10 @@ read_sheet_refusal room b = first (sheet_refusal b ∷ room_test room (lines_in 
 abbrev pub read_sheet_number : List ℕ → List ℕ → ℕ
 read_sheet_number s events = read_sheet_refusal (length events / 4) s
 
--- the answer of reading a sheet
-abbrev pub read_sheet_answer : ℕ → Counts → SheetReading
-read_sheet_answer number counts = answered reading.Refused (reading.Accepted counts) number
-
--- the number of an answer
-abbrev pub sheet_number : SheetReading → ℕ
-sheet_number (reading.Refused number) = number
-sheet_number (reading.Accepted counts) = 0
-
 -- the counts of an answer: all are 0 where it refuses
-abbrev pub counts_in : SheetReading → Counts
-counts_in (reading.Refused number) = record { nodes = 0; links = 0; lines = 0 }
-counts_in (reading.Accepted counts) = counts
+abbrev pub counts_in : Result Counts Refusal → Counts
+counts_in (Ok counts) = counts
+counts_in (Err refused) = record { nodes = 0; links = 0; lines = 0 }
 
 -- the words of the events of the sheet that bytes stand for
 abbrev pub sheet_words : List ℕ → List ℕ

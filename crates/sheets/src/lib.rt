@@ -16,10 +16,3 @@ pub struct Counts {
     pub links: u64,
     pub lines: u64,
 }
-
-// What reading a sheet answers.
-#[derive(Clone, Copy)]
-pub enum SheetReading {
-    Refused(u32),
-    Accepted(Counts),
-}

@@ -1,7 +1,8 @@
 // Reading a sheet into a lent list: its lines become events in falling probability. A first pass only checks, so that a refusal changes
 // nothing.
-ghost use Rattle.std.specs.Prelude.{◌≡◌, map, ◌+◌, ◌≤◌, min, length, drop};
+ghost use Rattle.std.specs.Prelude.{◌≡◌, map, ◌+◌, ◌≤◌, min, length, drop, IfOk};
 ghost use Rattle.std.proofs.lemmas.List.Edits.{sets};
+ghost use Rattle.mass.specs.Refusal.{number_in};
 ghost use Rattle.mass.specs.Split.{certain};
 ghost use Rattle.plan.specs.Plan.{Event};
 ghost use Rattle.plan.specs.Lists.{event_words};
@@ -9,11 +10,11 @@ ghost use Rattle.plan.specs.Calls.{filled};
 ghost use Rattle.sheet_order.specs.Order.{ordered};
 ghost use Rattle.sheets.specs.Sheet.{unavailability, event_of_line};
 ghost use Rattle.sheets.specs.SheetFile.{lines_refusal, line_in, lines_at};
-ghost use Rattle.sheets.specs.SheetCalls.{counts_of, read_sheet_refusal, read_sheet_number, read_sheet_answer, sheet_number, counts_in};
-ghost use Rattle.sheets.specs.SheetCalls.{sheet_words};
+ghost use Rattle.sheets.specs.SheetCalls.{counts_of, read_sheet_refusal, read_sheet_number, counts_in, sheet_words};
 
+use crate::Counts;
 use crate::file::{check, line_size, product};
-use crate::{Counts, SheetReading};
+use mass::Refusal;
 use plan::{byte_at, number_at};
 
 // The probability of the line at a position, or 10^9 + 1 where it is more.
@@ -36,16 +37,12 @@ fn fill_lines(s: &[u8], start: usize, count: u64, nodes: u64, links: u64, words:
         (event_words (ordered (λ (e : Event). e.probability) (map event_of_line (lines_at count (drop start s.now))))) }
 {
     let mut at = start;
-    let mut left = count;
-    let mut done = 0;
-    // The `left` lines from `at` on are accepted; the first `done` events are those of the lines before them, in order, and the words
-    // after them are untouched. Each turn takes one of the `left` lines.
-    while 0 < left {
+    // The lines that are left, from `at` on, are accepted; the first `done` events are those of the lines before them, in order, and the
+    // words after them are untouched.
+    for done in 0..count as usize {
         let members = plan_reading::members_of(s, at + 13, byte_at(s, at + 12), nodes, links);
         sheet_order::insert(&mut *words, done, line_probability(s, at), members);
         at += line_size(s, at);
-        done += 1;
-        left -= 1;
     }
 }
 
@@ -62,64 +59,54 @@ fn counts_of(s: &[u8]) -> Counts
 }
 
 // The tests of a reading: those of the sheet, then 12.
-fn read_test(s: &[u8], room: usize) -> u32
-    ensures { result ≡ read_sheet_refusal room s.now }
+#[tactic(auto, using(mass::proofs::RefusalLaws::refuses), unfolding(crate::specs::SheetCalls::read_sheet_refusal))]
+fn read_test(s: &[u8], room: usize) -> Result<(), Refusal>
+    ensures { number_in result ≡ read_sheet_refusal room s.now }
 {
-    let number = check(s);
-    if number != 0 {
-        return number;
-    }
+    check(s)?;
     refusals::room_test(room, byte_at(s, 7) as usize)
 }
 
 // Reads a sheet into the array, where the lent list has room for `room` whole events.
-pub fn read_core(s: &[u8], room: usize, words: &mut [u64; 512]) -> SheetReading
-    ensures answer { result ≡ read_sheet_answer (read_sheet_refusal room s.now) (counts_of s.now) }
+pub fn read_core(s: &[u8], room: usize, words: &mut [u64; 512]) -> Result<Counts, Refusal>
+    ensures number { number_in result ≡ read_sheet_refusal room s.now }
+    ensures counts { IfOk result (λ c. c ≡ counts_of s.now) }
     ensures words { words.new ≡ filled (read_sheet_refusal room s.now)
         (sheet_words s.now) words.old }
 {
-    let number = read_test(s, room);
-    if number != 0 {
-        return SheetReading::Refused(number);
-    }
+    read_test(s, room)?;
     let counts = counts_of(s);
-    fill_lines(s, 8, counts.lines, counts.nodes, counts.links, &mut *words);
-    SheetReading::Accepted(counts)
+    fill_lines(s, 8, counts.lines, counts.nodes, counts.links, words);
+    Ok(counts)
 }
 
 // The number of an answer.
-pub fn number_in(answer: SheetReading) -> u32
-    ensures { result ≡ sheet_number answer }
+pub fn number_in(answer: Result<Counts, Refusal>) -> u32
+    ensures { result ≡ number_in answer }
 {
-    match answer {
-        SheetReading::Refused(number) => number,
-        SheetReading::Accepted(_) => 0,
-    }
+    mass::number_in(&answer)
 }
 
 // The counts of an answer: all are 0 where it refuses.
-pub fn counts_in(answer: SheetReading) -> Counts
+pub fn counts_in(answer: Result<Counts, Refusal>) -> Counts
     ensures { result ≡ counts_in answer }
 {
-    match answer {
-        SheetReading::Refused(_) => Counts {
-            nodes: 0,
-            links: 0,
-            lines: 0,
-        },
-        SheetReading::Accepted(counts) => counts,
-    }
+    answer.unwrap_or(Counts {
+        nodes: 0,
+        links: 0,
+        lines: 0,
+    })
 }
 
 // Reads a sheet into a lent list, four words to an event. A refusal changes nothing.
-pub fn read(s: &[u8], events: &mut [u64]) -> SheetReading
-    ensures answer { result ≡ read_sheet_answer (read_sheet_number s.now events.old) (counts_of s.now) }
+pub fn read(s: &[u8], events: &mut [u64]) -> Result<Counts, Refusal>
+    ensures number { number_in result ≡ read_sheet_number s.now events.old }
+    ensures counts { IfOk result (λ c. c ≡ counts_of s.now) }
     ensures events { events.new ≡ filled (read_sheet_number s.now events.old)
         (sheet_words s.now) events.old }
 {
     let mut words = [0u64; 512];
-    let answer = read_core(s, events.len() / 4, &mut words);
-    let counts = counts_in(answer);
+    let counts = read_core(s, events.len() / 4, &mut words)?;
     plan_lists::copy_first(&words, events, 0, 4 * (counts.lines as usize));
-    answer
+    Ok(counts)
 }

@@ -2,33 +2,19 @@
 -- Assumes nothing.
 use mathlib.Core.Path.{◌≡◌, refl, ap, sym, subst, ◌∙◌}
 use mathlib.Core.List.{List}
-use Prim.Native.Nat.{ℕ, ◌+◌, ◌-◌, ◌*◌, ◌≤◌, ◌<◌}
+use Prim.Native.Nat.{ℕ, ◌+◌, ◌-◌, ◌*◌, ◌<◌}
 use native.Mathlib.Decide.{ℕ_discrete}
 use native.Mathlib.Omega.{arith}
 use lib.ListN.{get_or, set, length-set}
 use lib.Seq.{get_or-set_same, get_or-set_other}
-use Rattle.mass.specs.Split.{whole}
 use Rattle.thresholds_walk.specs.Paths.{SharedWalk, path_ends, own_then_dropped}
 use Rattle.thresholds_walk.specs.declared.WorksPath.{WorksPath}
-use Rattle.thresholds_sums.specs.Walked.{PlaceNumbers, place_numbers, numbers_at, Places, CountsFit, SamePlace, Counted, PathCounted, examined_by}
-use Rattle.thresholds_sums.proofs.Examined.{once}
+use Rattle.thresholds_sums.specs.declared.PlaceNumbers.{PlaceNumbers}
+use Rattle.thresholds_sums.specs.Walked.{place_numbers, numbers_at, Places, SamePlace, Counted, PathCounted, examined_by}
 
 -- nothing is counted yet
 pub counts-begin : (k : SharedWalk) (list : List ℕ) (path : WorksPath) (n : PlaceNumbers) → Places n → PathCounted k list 0 path n n
 counts-begin k list path n sized = record { sized = sized; each = λ i l. absurd (omega arith); past = λ i l. (refl, refl, refl) }
-
--- the sums of the next threshold have room for the path
-pub counts-room : (k : SharedWalk) (list : List ℕ) (path : WorksPath) (n₀ n : PlaceNumbers) (i active : ℕ)
-    → PathCounted k list i path n₀ n → i < active → CountsFit active path list n₀
-    → (one : ℕ) → one ≡ examined_by (get_or list i 0) (get_or n.rooms i 0) path.last
-    → (get_or n.counts i 0 + one < 4294967298) × (get_or n.masses i 0 + path.last * one ≤ whole)
-counts-room k list path n₀ n i active g l fits one is =
-    let old = g.past i (omega arith) in
-    let same : one ≡ examined_by (get_or list i 0) (get_or n₀.rooms i 0) path.last =
-    is ∙ ap (λ (x : ℕ). examined_by (get_or list i 0) x path.last) old.0 in (
-      omega (arith, (fits i l).0, old.1, same, once (get_or list i 0) (get_or n₀.rooms i 0) path.last),
-      omega (arith, (fits i l).1, old.2, ap (λ (x : ℕ). path.last * x) same),
-    )
 
 module _ (k : SharedWalk) (list : List ℕ) (path : WorksPath) (n₀ n : PlaceNumbers) (i : ℕ) (g : PathCounted k list i path n₀ n) (few : i < 16)
     (ends : ℕ) (are : path_ends k.count (get_or list i 0) k.words path ≡ own_then_dropped k.count (get_or list i 0) path ends)

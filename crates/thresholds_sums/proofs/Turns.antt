@@ -32,7 +32,8 @@ use Rattle.thresholds_walk.specs.Paths.{shared_walk, path_ends, own_then_dropped
 use Rattle.thresholds_walk.specs.declared.WorksPath.{WorksPath}
 use Rattle.thresholds_walk.proofs.Counting.{all_of}
 use Rattle.thresholds_walk.proofs.Resume.{begun-stack, begun-ends, none-to-come}
-use Rattle.thresholds_sums.specs.Walked.{Plans, plan_for, FallingFirst, PlaceNumbers, numbers_at, CountedSoFar, HoldsAnswers, examined_by}
+use Rattle.thresholds_sums.specs.declared.PlaceNumbers.{PlaceNumbers}
+use Rattle.thresholds_sums.specs.Walked.{Plans, plan_for, FallingFirst, numbers_at, CountedSoFar, HoldsAnswers, examined_by}
 use Rattle.thresholds_sums.specs.Walked.{PathFits, CountsFit, PathAdded, Places, PathCounted, AllCountedSoFar, Kept, Fresh, AllHoldAnswers}
 use Rattle.thresholds_sums.proofs.Examined.{not-met}
 use Rattle.thresholds_sums.proofs.Steps.{mass-fits, counted-on, used-up, all-reached}

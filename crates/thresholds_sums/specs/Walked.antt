@@ -15,6 +15,7 @@ use Rattle.bounds.specs.Bounds.{cuts, lower_of}
 use Rattle.thresholds_walk.specs.Stack.{shared_to_come}
 use Rattle.thresholds_walk.specs.Paths.{SharedWalk, path_ends, own_then_dropped}
 use Rattle.thresholds_walk.specs.declared.WorksPath.{WorksPath}
+use Rattle.thresholds_sums.specs.declared.PlaceNumbers.{PlaceNumbers}
 
 -- a header with another threshold
 abbrev pub with_threshold : Header → ℕ → Header
@@ -46,11 +47,6 @@ pub record FallingFirst (count : ℕ) (list : List ℕ) : Type 0 where
   pub falling : (i j : ℕ) → i < j → j < count → get_or list j 0 < get_or list i 0
 
 -- the numbers of 16 thresholds: for each what is left of its room, how many scenarios it examined, and their mass
-pub record PlaceNumbers : Type 0 where
-  pub rooms : List ℕ
-  pub counts : List ℕ
-  pub masses : List ℕ
-
 abbrev pub place_numbers : List ℕ → List ℕ → List ℕ → PlaceNumbers
 place_numbers rooms counts masses = record { rooms = rooms; counts = counts; masses = masses }
 

@@ -7,3 +7,11 @@ mod paths;
 mod walking;
 
 pub use walking::walk_thresholds;
+
+// The numbers of 16 thresholds: for each what is left of its room, how many scenarios it examined, and their mass.
+#[derive(Clone, Copy)]
+pub struct PlaceNumbers {
+    pub rooms: [u64; 16],
+    pub counts: [u64; 16],
+    pub masses: [u64; 16],
+}

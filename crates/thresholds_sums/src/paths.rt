@@ -7,36 +7,20 @@ ghost use Rattle.plan.specs.Held.{Held, Falling};
 ghost use Rattle.network.specs.Table.{LinksAt};
 ghost use Rattle.pairs.specs.Pairs.{pair_count};
 ghost use Rattle.thresholds_walk.specs.Paths.{shared_walk, SoundPath};
-ghost use Rattle.thresholds_sums.specs.Walked.{plans_of, place_numbers, examined_by, FallingFirst, PathFits, WantedBlocks, Places, CountsFit};
+ghost use Rattle.thresholds_sums.specs.Walked.{plans_of, examined_by, FallingFirst, PathFits, WantedBlocks, Places, CountsFit};
 ghost use Rattle.thresholds_sums.specs.Walked.{PathAdded, PathCounted};
 
+use crate::PlaceNumbers;
 use network::Failed;
 use plan::Header;
 use thresholds_walk::{WorksPath, ends_of};
 use walk::Failing;
 
 // 1 where a path's scenario, with its mass, is examined by the walk with a threshold of which so much room is left, else 0.
-#[tactic(auto, using(std::proofs::Common::tests))]
 fn examined_by(threshold: u64, room: u64, last: u64) -> u64
     ensures { result ≡ examined_by threshold room last }
 {
-    if last < threshold {
-        return 0;
-    }
-    if room < 2 {
-        return 0;
-    }
-    1
-}
-
-// What is left of a room, 0 where more is taken than there is.
-fn room_left(room: u64, taken: u64) -> u64
-    ensures { result ≡ room - taken }
-{
-    if room < taken {
-        return 0;
-    }
-    room - taken
+    u64::from(threshold <= last && 2 <= room)
 }
 
 // Counts a path for each of the first `active` thresholds: its ends come off the rooms, and its scenario is counted where it is examined.
@@ -46,29 +30,23 @@ pub fn count_path(
     list: &[u64; 16],
     active: usize,
     path: WorksPath,
-    rooms: &mut [u64; 16],
-    counts: &mut [u64; 16],
-    masses: &mut [u64; 16],
+    places: &mut PlaceNumbers,
 )
     requires events_bound { (events ≤ 128) × Falling certain (events_of events words.now) }
     requires falling_first { FallingFirst active list.now × (1 ≤ active) }
     requires sound_path { SoundPath (shared_walk events (get_or list.now (active - 1) 0) words.now) path }
-    requires places { Places (place_numbers rooms.old counts.old masses.old)
-        × CountsFit active path list.now (place_numbers rooms.old counts.old masses.old) }
+    requires places { Places places.old × CountsFit active path list.now places.old }
     ensures { PathCounted (shared_walk events (get_or list.now (active - 1) 0) words.now) list.now active path
-        (place_numbers rooms.old counts.old masses.old)
-        (place_numbers rooms.new counts.new masses.new) }
+        places.old places.new }
 {
     let lowest = list[active - 1];
-    let mut i = 0;
-    // The path is counted for the first i thresholds, and not for the others. Each turn raises i, up to `active`.
-    while i < active {
+    // The path is counted for the first i thresholds, and not for the others.
+    for i in 0..active {
         let ends = ends_of(events, lowest, list[i], words, path);
-        let one = examined_by(list[i], rooms[i], path.last);
-        counts[i] = counts[i] + one;
-        masses[i] = masses[i] + path.last * one;
-        rooms[i] = room_left(rooms[i], ends);
-        i += 1;
+        let one = examined_by(list[i], places.rooms[i], path.last);
+        places.counts[i] += one;
+        places.masses[i] += path.last * one;
+        places.rooms[i] = places.rooms[i].saturating_sub(ends);
     }
 }
 
@@ -78,12 +56,10 @@ fn wanted_blocks(list: &[u64; 16], active: usize, rooms: &[u64; 16], last: u64) 
     ensures { WantedBlocks list.now rooms.now active last result }
 {
     let mut blocks = 0;
-    let mut i = 0;
-    // The set holds those of the first i blocks that are wanted. Each turn raises i, up to `active`.
-    while i < active {
+    // The set holds those of the first i blocks that are wanted.
+    for i in 0..active {
         let wanted = examined_by(list[i], rooms[i], last);
         blocks = sets::union(blocks, sets::only(wanted, i));
-        i += 1;
     }
     blocks
 }

@@ -4,8 +4,9 @@ ghost use Rattle.plan.specs.Held.{Held};
 ghost use Rattle.network.specs.Table.{LinksAt};
 ghost use Rattle.pairs.specs.Pairs.{pair_count};
 ghost use Rattle.thresholds_walk.specs.Stack.{SharedStack};
-ghost use Rattle.thresholds_sums.specs.Walked.{plans_of, place_numbers, FallingFirst, Places, AllCountedSoFar, Kept, Fresh, AllHoldAnswers};
+ghost use Rattle.thresholds_sums.specs.Walked.{plans_of, FallingFirst, Places, AllCountedSoFar, Kept, Fresh, AllHoldAnswers};
 
+use crate::PlaceNumbers;
 use crate::paths::{add_path, count_path};
 use plan::Header;
 use thresholds_walk::{begin, next_path};
@@ -21,31 +22,29 @@ fn walk_with(
     active: usize,
     stack: &mut [u64; 640],
     start: usize,
-    rooms: &mut [u64; 16],
-    counts: &mut [u64; 16],
-    masses: &mut [u64; 16],
+    places: &mut PlaceNumbers,
     lower: &mut [u64],
 ) -> usize
     requires held { Held h links.now words.now }
     requires links_at { LinksAt links.now h.links table.now }
     requires falling_first { FallingFirst active list.now × (1 ≤ active) × (h.cap < 4294967296) }
     requires shared_stack { SharedStack h.events start stack.old × (pair_count h.nodes * active ≤ length lower.old)
-        × Places (place_numbers rooms.old counts.old masses.old) }
+        × Places places.old }
     requires all_counted_so_far { AllCountedSoFar (plans_of h links.now words.now list.now) active start stack.old
-        (place_numbers rooms.old counts.old masses.old) lower.old }
+        places.old lower.old }
     ensures shared_stack_2 { SharedStack h.events result stack.new }
     ensures all_counted_so_far_2 { AllCountedSoFar (plans_of h links.now words.now list.now) active result stack.new
-        (place_numbers rooms.new counts.new masses.new) lower.new }
-    ensures kept { Kept h active (place_numbers rooms.old counts.old masses.old) lower.old
-        (place_numbers rooms.new counts.new masses.new) lower.new }
-    ensures fact { (get_or rooms.new (active - 1) 0 ≡ 0) ⊎ (result ≡ 640) }
+        places.new lower.new }
+    ensures kept { Kept h active places.old lower.old
+        places.new lower.new }
+    ensures fact { (get_or places.new.rooms (active - 1) 0 ≡ 0) ⊎ (result ≡ 640) }
 {
     let lowest = list[active - 1];
     let mut at = start;
     // For each of the first `active` thresholds, what was reached and what is to come give its plan's answers; all else is untouched.
     // Each turn takes a branch off the stack: fewer ends of the lowest threshold are to come, or fewer branches are pending.
     while at < 640 {
-        if rooms[active - 1] == 0 {
+        if places.rooms[active - 1] == 0 {
             return at;
         }
         let path = next_path(h.events, lowest, words, &mut *stack, at);
@@ -58,19 +57,10 @@ fn walk_with(
             list,
             active,
             path,
-            rooms,
+            &places.rooms,
             &mut *lower,
         );
-        count_path(
-            h.events,
-            words,
-            list,
-            active,
-            path,
-            &mut *rooms,
-            &mut *counts,
-            &mut *masses,
-        );
+        count_path(h.events, words, list, active, path, &mut *places);
     }
     at
 }
@@ -83,17 +73,15 @@ pub fn walk_thresholds(
     words: &[u64; 512],
     list: &[u64; 16],
     count: usize,
-    rooms: &mut [u64; 16],
-    counts: &mut [u64; 16],
-    masses: &mut [u64; 16],
+    places: &mut PlaceNumbers,
     lower: &mut [u64],
 )
     requires held { Held h links.now words.now }
     requires falling_first { FallingFirst count list.now × (h.cap < 4294967296) }
-    requires fresh { Fresh h count (place_numbers rooms.old counts.old masses.old) lower.old }
+    requires fresh { Fresh h count places.old lower.old }
     ensures { AllHoldAnswers (plans_of h links.now words.now list.now) count
-        (place_numbers rooms.old counts.old masses.old) lower.old
-        (place_numbers rooms.new counts.new masses.new) lower.new }
+        places.old lower.old
+        places.new lower.new }
 {
     let table = network::links_at(h.nodes as usize, links, h.links as usize);
     let mut stack = [0u64; 640];
@@ -110,9 +98,7 @@ pub fn walk_thresholds(
             active,
             &mut stack,
             at,
-            &mut *rooms,
-            &mut *counts,
-            &mut *masses,
+            &mut *places,
             &mut *lower,
         );
         active -= 1;

@@ -7,4 +7,4 @@ use Rattle.sheets.proofs.file.line_size.Goals as goal
 pub returns : goal.returns
 returns c =
     let a = c.args in
-    ap (λ (k : ℕ). 13 + 2 * k) (c.byte_at.ensures.0 ∙ sym (get_or-drop a.at a.s.now 12 0))
+    ap (λ (k : ℕ). 13 + 2 * k) (c.byte_at.ensures.is ∙ sym (get_or-drop a.at a.s.now 12 0))

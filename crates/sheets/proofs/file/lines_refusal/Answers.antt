@@ -1,55 +1,35 @@
--- `sheets::file::lines_refusal` meets its contract. The loop's invariant: the lines from `at` on are refused as all of them are. The measure is how
--- many lines are left. Assumes nothing.
-use mathlib.Core.Path.{refl, sym, ◌∙◌, ap}
-use Prim.Native.Nat.{ℕ, ◌+◌, ◌-◌, ◌≤◌}
+-- `sheets::file::lines_refusal` meets its contract. Assumes nothing.
+use mathlib.Core.Path.{◌≡◌, refl, sym, ◌∙◌, ap}
+use Prim.Native.Nat.{ℕ, ◌+◌, ◌-◌}
 use native.Mathlib.Omega.{arith}
-use lib.ListN.{length, drop}
+use lib.ListN.{drop}
+use Rattle.mass.proofs.RefusalLaws.{stops, passes, last, hands-on}
 use Rattle.refusals.specs.Tests.{left_test}
-use Rattle.refusals.proofs.OrderLaws.{stop, skip, last, on}
 use Rattle.sheets.specs.SheetFile.{lines_refusal}
-use Rattle.sheets.proofs.CheckLaws.{lines_step, lines_none, line-head, line-fits}
-use Rattle.sheets.proofs.file.lines_refusal.Goals.{After-line_size-at, Else-number-ne0}
+use Rattle.sheets.proofs.CheckLaws.{lines_step, lines_none}
 use Rattle.sheets.proofs.file.lines_refusal.Goals as goal
 
-pub loop-left-init : goal.loop-left-init
-loop-left-init c = refl
-
-pub returns-then-number-ne0 : goal.returns-then-number-ne0
-returns-then-number-ne0 c =
+pub returns-in_err-line_refusal : goal.returns-in_err-line_refusal
+returns-in_err-line_refusal c =
     let a = c.args in
-    stop _ c.line_refusal-number.ensures c.if-number-ne0.true
-    ∙ sym (lines_step a.nodes a.links c.loop-left.left c.loop-left.at a.s.now c.loop-left-test.true)
-    ∙ c.loop-left.invariant
+    hands-on _ _ c.from_residual.ensures
+    (stops _ _ c.in_err-line_refusal.ensures.number
+    ∙ sym (lines_step a.nodes a.links (a.count - c.loop.counter) c.loop.at a.s.now (omega arith))
+    ∙ c.loop.invariant)
 
--- the line's bytes are there
-head-there : (c : Else-number-ne0) → c.loop-left.at + 13 ≤ length c.args.s.now
-head-there c =
-    line-head _ _ c.loop-left.at c.args.s.now (sym c.line_refusal-number.ensures ∙ c.if-number-ne0.false)
-
-there : (c : After-line_size-at) → c.loop-left.at + c.line_size-at.result ≤ length c.args.s.now
-there c =
-    omega (
-      arith,
-      c.line_size-at.ensures,
-      line-fits _ _ c.loop-left.at c.args.s.now (sym c.line_refusal-number.ensures ∙ c.if-number-ne0.false),
-    )
-
-pub line_size-at-requires : goal.line_size-at-requires
-line_size-at-requires c = head-there c
-
-pub overflow_add-at : goal.overflow_add-at
-overflow_add-at c = omega (arith, there c)
-
-pub loop-left-preserved : goal.loop-left-preserved
-loop-left-preserved c =
+pub loop-preserved : goal.loop-preserved
+loop-preserved c =
     let a = c.args in
-    ap (λ (n : ℕ). lines_refusal a.nodes a.links (c.loop-left.left - 1) (drop (c.loop-left.at + n) a.s.now)) c.line_size-at.ensures
-    ∙ skip _ c.line_refusal-number.ensures c.if-number-ne0.false (last refl)
-    ∙ sym (lines_step a.nodes a.links c.loop-left.left c.loop-left.at a.s.now c.loop-left-test.true)
-    ∙ c.loop-left.invariant
+    let e : a.count - (c.loop.counter + 1) ≡ a.count - c.loop.counter - 1 = omega arith in
+    rw e
+    (ap (λ (n : ℕ). lines_refusal a.nodes a.links (a.count - c.loop.counter - 1) (drop (c.loop.at + n) a.s.now)) c.line_size-at.ensures
+    ∙ passes _ c.in_ok-line_refusal.ensures.number (last refl)
+    ∙ sym (lines_step a.nodes a.links (a.count - c.loop.counter) c.loop.at a.s.now (omega arith))
+    ∙ c.loop.invariant)
 
 pub returns : goal.returns
 returns c =
-    on left_test c.left_test.ensures c.left_of.ensures
-    ∙ lines_none _ _ _ _ c.loop-left-test.false
-    ∙ c.loop-left.invariant
+    c.left_test.ensures
+    ∙ ap left_test c.left_of.ensures
+    ∙ lines_none _ _ _ _ (omega arith)
+    ∙ c.loop.invariant

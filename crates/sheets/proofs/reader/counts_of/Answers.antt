@@ -4,4 +4,4 @@ use Rattle.sheets.proofs.reader.counts_of.Goals as goal
 
 pub returns : goal.returns
 unfolding counts_of
-returns c = rw (c.byte_at.ensures.0, c.byte_at-2.ensures.0, c.byte_at-3.ensures.0)
+returns c = rw (c.byte_at.ensures.is, c.byte_at-2.ensures.is, c.byte_at-3.ensures.is)

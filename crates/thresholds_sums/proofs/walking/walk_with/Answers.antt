@@ -22,11 +22,11 @@ loop-at-init c =
 pub overflow_sub-active : goal.overflow_sub-active
 overflow_sub-active c = c.requires.falling_first.1
 
-pub offset_bounds-rooms-active : goal.offset_bounds-rooms-active
-offset_bounds-rooms-active c = omega (arith, c.requires.falling_first.0.few)
+pub offset_bounds-places-active : goal.offset_bounds-places-active
+offset_bounds-places-active c = omega (arith, c.requires.falling_first.0.few)
 
-pub bounds-rooms-active : goal.bounds-rooms-active
-bounds-rooms-active c =
+pub bounds-places-active : goal.bounds-places-active
+bounds-places-active c =
     omega (arith, c.requires.falling_first.0.few, c.requires.falling_first.1)
 
 pub next_path-path-requires : goal.next_path-path-requires

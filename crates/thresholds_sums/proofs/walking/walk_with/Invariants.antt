@@ -3,14 +3,14 @@
 -- pending. Assumes nothing.
 use Rattle.thresholds_walk.specs.Stack.{SharedStack}
 use Rattle.thresholds_walk.specs.Paths.{shared_walk, left_to_take}
-use Rattle.thresholds_sums.specs.Walked.{plans_of, place_numbers, AllCountedSoFar, Kept}
+use Rattle.thresholds_sums.specs.Walked.{plans_of, AllCountedSoFar, Kept}
 use Rattle.thresholds_sums.proofs.walking.walk_with.Given as goal
 
 abbrev pub invariant-loop-at : goal.invariant-loop-at
 invariant-loop-at l =
     SharedStack l.h.events l.at l.stack
-    × AllCountedSoFar (plans_of l.h l.links l.words l.list) l.active l.at l.stack (place_numbers l.rooms l.counts l.masses) l.lower
-    × Kept l.h l.active (place_numbers l.initial.rooms l.initial.counts l.initial.masses) l.initial.lower (place_numbers l.rooms l.counts l.masses) l.lower
+    × AllCountedSoFar (plans_of l.h l.links l.words l.list) l.active l.at l.stack l.places l.lower
+    × Kept l.h l.active l.initial.places l.initial.lower l.places l.lower
 
 abbrev pub decreases-loop-at : goal.decreases-loop-at
 decreases-loop-at l =
