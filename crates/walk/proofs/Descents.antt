@@ -228,13 +228,13 @@ module _ (count threshold : ℕ) (words : List ℕ) where
             come mass 0 (rw (over, nothing, ends-leaf threshold mass (omega arith), path_end-enough threshold mass 0 (omega arith))) (omega arith) (λ (z : 0 < 0). omega arith)
 
     module _ (few : count ≤ 128) (falls : Falling certain (events_of count words)) (h : threshold ≤ mass) (l : depth < count) where
-      pub room : 4 ≤ top
+      room : 4 ≤ top
       room = omega (arith, g.hand.room, length-drop top stack, g.held.sized)
 
       worked-less : (works : ℕ) → works ≡ working mass (get_or words (depth * 4) 0) → works ≤ mass
       worked-less works e = omega (arith, e, works-le mass (get_or words (depth * 4) 0) (probable count words falls depth l))
 
-      pub worked-le : (works : ℕ) → works ≡ working mass (get_or words (depth * 4) 0) → works ≤ whole
+      worked-le : (works : ℕ) → works ≡ working mass (get_or words (depth * 4) 0) → works ≤ whole
       worked-le works e = omega (arith, worked-less works e, g.hand.light)
 
       -- the "fails" side falls below the threshold
@@ -266,7 +266,7 @@ module _ (count threshold : ℕ) (words : List ℕ) where
       again : top - 4 + 4 ≡ top
       again = omega (arith, room)
 
-      pub room_next : top - 4 + 4 ≤ 512
+      room_next : top - 4 + 4 ≤ 512
       room_next = omega (arith, again, g.held.within)
 
       -- else it is laid down, and the "works" side is in hand
@@ -340,12 +340,8 @@ module _ (count threshold : ℕ) (words : List ℕ) where
     laid : SoundEntries count (get_or stack at 0 ∷ get_or stack (at + 1) 0 ∷ get_or stack (at + 2) 0 ∷ get_or stack (at + 3) 0 ∷ drop (at + 4) stack)
     laid = rw (words-at stack at fits) at s.entries
 
-    pub under : Stack count (at + 4) stack
+    under : Stack count (at + 4) stack
     under = record { fours = omega (arith, s.fours); within = omega (arith, s.fours); sized = s.sized; entries = laid.1 }
-
-    pub taken : get_or stack at 0 ≤ 128
-        → SoundBranch count (get_or stack at 0) (get_or stack (at + 1) 0) (get_or stack (at + 2) 0) (get_or stack (at + 3) 0) (length (drop (at + 4) stack))
-    taken l = laid.0.branch l
 
     pub taken-ends : get_or stack at 0 ≤ 128
         → to_come count threshold words at stack
@@ -356,7 +352,7 @@ module _ (count threshold : ℕ) (words : List ℕ) where
     pub taken-mass : get_or stack at 0 ≤ 128 → pending_mass (drop at stack) ≡ get_or stack (at + 1) 0 + pending_mass (drop (at + 4) stack)
     taken-mass l = rw (words-at stack at fits, mass-branch (get_or stack at 0) (get_or stack (at + 1) 0) l)
 
-    pub run-some : 128 < get_or stack at 0 → 0 < get_or stack (at + 1) 0
+    run-some : 128 < get_or stack at 0 → 0 < get_or stack (at + 1) 0
     run-some l = laid.0.run l
 
     pub taken-run : 128 < get_or stack at 0

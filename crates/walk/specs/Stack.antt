@@ -1,6 +1,6 @@
 -- The stack of the walk in memory: what its words denote.
 -- Assumes nothing.
-use Rattle.std.specs.Prelude.{◌≡◌, refl, true, false, List, [], ◌∷◌, ◌++◌, ℕ, ◌+◌, ◌*◌, ◌%◌, ◌^◌, ◌≤◌, ◌<◌, ltb, length, drop, replicate}
+use Rattle.std.specs.Prelude.{◌≡◌, refl, true, false, List, [], ◌∷◌, ◌++◌, ℕ, ◌+◌, ◌*◌, ◌%◌, ◌^◌, ◌≤◌, ◌<◌, ltb, length, drop, get_or, replicate}
 use Rattle.std.proofs.lemmas.List.Edits.{sets}
 use Rattle.mass.specs.Split.{whole}
 use Rattle.sets.specs.Sets.{joined}
@@ -9,6 +9,7 @@ use Rattle.plan.specs.Lists.{events_of}
 use Rattle.walk.specs.Scenario.{scenario_of}
 use Rattle.walk.specs.Ends.{End, dropped}
 use Rattle.walk.specs.Pending.{Branch, branch_ends}
+use Rattle.walk.specs.declared.StackEntry.{StackEntry}
 
 -- the pending branch that four words hold: its depth (how many events are decided), its mass, and the set of failing events in two words
 abbrev pub branch_of : ℕ → ℕ → ℕ → ℕ → Branch
@@ -69,6 +70,15 @@ SoundEntries count (a ∷ []) = ⊥
 SoundEntries count (a ∷ b ∷ []) = ⊥
 SoundEntries count (a ∷ b ∷ c ∷ []) = ⊥
 SoundEntries count (depth ∷ mass ∷ low ∷ high ∷ rest) = SoundEntry count depth mass low high (length rest) × SoundEntries count rest
+
+-- the entry that the four words from `at` on hold
+abbrev pub entry_at : ℕ → List ℕ → StackEntry
+entry_at at stack =
+    record {
+      depth = get_or stack at 0;
+      mass = get_or stack (at + 1) 0;
+      failing = record { low = get_or stack (at + 2) 0; high = get_or stack (at + 3) 0 };
+    }
 
 -- a stack that the walk may go on with
 pub record Stack (count at : ℕ) (stack : List ℕ) : Type 0 where

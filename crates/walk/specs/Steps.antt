@@ -58,6 +58,13 @@ pub record Stopped (count threshold : ℕ) (words : List ℕ) (depth mass : ℕ)
   pub light : r.mass ≤ whole
   pub lighter : r.mass ≤ mass
 
+-- a branch with one failing event more, that at its depth
+pub record NextFailing (b next : StackEntry) : Type 0 where
+  pub depth : next.depth ≡ b.depth + 1
+  pub mass : next.mass ≡ b.mass
+  pub word : next.failing.low < 2 ^ 64
+  pub set : joined next.failing.low next.failing.high ≡ joined b.failing.low b.failing.high + 2 ^ b.depth
+
 -- a branch laid down with one failing event more, that at its depth: its set of failing events is in two words
 pub record Pushed (b : StackEntry) (at : ℕ) (stack stack' : List ℕ) : Type 0 where
   pub set_low : ℕ

@@ -8,7 +8,7 @@ ghost use Rattle.walk.specs.Pending.{branch_ends};
 ghost use Rattle.walk.specs.Stack.{branch_of, SoundBranch, to_come, pending_mass, Stack};
 ghost use Rattle.walk.specs.Steps.{StepTaken, TwoParts, Stopped, Pushed, Delayed, Descended};
 
-use crate::{Descent, Examined, Failing, Parted, StackEntry, Stop, WalkStep, put, with_event};
+use crate::{Descent, Examined, Failing, Parted, StackEntry, Stop, WalkStep, put};
 
 // The first word of an entry that is a number of dropped ends, and no branch.
 const RUN: u64 = 129;
@@ -89,12 +89,7 @@ fn push(stack: &mut [u64; 512], at: usize, branch: StackEntry)
         × (joined branch.failing.low branch.failing.high < 2 ^ branch.depth) × (at + 4 ≤ 512) }
     ensures { Pushed branch at stack.old stack.new }
 {
-    let pushed = StackEntry {
-        depth: branch.depth + 1,
-        mass: branch.mass,
-        failing: with_event(branch.failing, branch.depth),
-    };
-    put(stack, at, &pushed.words());
+    put(stack, at, &branch.next_failing().words());
 }
 
 // The end of a descent that stops at a mass: dropped where the mass is below the threshold.
@@ -178,25 +173,15 @@ fn descend(
         (to_come count threshold events.now at stack.old) (pending_mass (drop at stack.old))
         stack.new result }
 {
-    let depth = stack[at];
-    let mass = stack[at + 1];
-    if depth > 128 {
+    let entry = StackEntry::at(&*stack, at);
+    if entry.depth > 128 {
         return Descent {
             at: at + 4,
             end: None,
-            dropped: mass - 1,
+            dropped: entry.mass - 1,
         };
     }
-    let failing = Failing {
-        low: stack[at + 2],
-        high: stack[at + 3],
-    };
-    let branch = StackEntry {
-        depth,
-        mass,
-        failing,
-    };
-    go_down(count, threshold, events, stack, at + 4, branch)
+    go_down(count, threshold, events, stack, at + 4, entry)
 }
 
 // Lays so many dropped ends down before those to come. Returns where the stack begins.

@@ -5,7 +5,8 @@
 ghost use Rattle.std.specs.Prelude.{◌≡◌, [], ◌∷◌, ◌+◌, ◌^◌, ◌≤◌, ◌<◌, length};
 ghost use Rattle.std.proofs.lemmas.List.Edits.{sets};
 ghost use Rattle.sets.specs.Sets.{joined};
-ghost use Rattle.walk.specs.Stack.{Begun};
+ghost use Rattle.walk.specs.Stack.{Begun, entry_at};
+ghost use Rattle.walk.specs.Steps.{NextFailing};
 
 mod ahead;
 
@@ -83,11 +84,45 @@ pub fn with_event(failing: Failing, event: u64) -> Failing
 }
 
 impl StackEntry {
+    // The root of a walk: no event decided, and one whole.
+    pub const ROOT: StackEntry = StackEntry {
+        depth: 0,
+        mass: mass::Mass::WHOLE.units,
+        failing: Failing { low: 0, high: 0 },
+    };
+
     // The words of the stack that hold it.
     pub fn words(self) -> [u64; 4]
         ensures { result ≡ self.depth ∷ self.mass ∷ self.failing.low ∷ self.failing.high ∷ [] }
     {
         [self.depth, self.mass, self.failing.low, self.failing.high]
+    }
+
+    // The entry that four words of the stack hold.
+    pub fn at(stack: &[u64], at: usize) -> StackEntry
+        requires { at + 4 ≤ length stack.now }
+        ensures { result ≡ entry_at at stack.now }
+    {
+        StackEntry {
+            depth: stack[at],
+            mass: stack[at + 1],
+            failing: Failing {
+                low: stack[at + 2],
+                high: stack[at + 3],
+            },
+        }
+    }
+
+    // The branch with one failing event more, that at its depth.
+    pub fn next_failing(self) -> StackEntry
+        requires { (self.depth < 128) × (self.failing.low < 2 ^ 64) × (joined self.failing.low self.failing.high < 2 ^ self.depth) }
+        ensures { NextFailing self result }
+    {
+        StackEntry {
+            depth: self.depth + 1,
+            mass: self.mass,
+            failing: with_event(self.failing, self.depth),
+        }
     }
 }
 
@@ -103,11 +138,6 @@ pub fn put(stack: &mut [u64], at: usize, words: &[u64])
 pub fn begin(stack: &mut [u64; 512]) -> usize
     ensures { Begun result stack.old stack.new }
 {
-    let root = StackEntry {
-        depth: 0,
-        mass: mass::Mass::WHOLE.units,
-        failing: Failing { low: 0, high: 0 },
-    };
-    put(stack, 508, &root.words());
+    put(stack, 508, &StackEntry::ROOT.words());
     508
 }
