@@ -34,11 +34,9 @@ pub fn fill(words: &[u64; 512], events: &mut [Event], count: usize)
     requires { (count ≤ 128) × (count ≤ length events.old) }
     ensures { events.new ≡ sets events.old 0 (records_of count words.now) }
 {
-    let mut i = 0;
-    // The first i records are laid down, and no others. Each turn raises i, up to `count`.
-    while i < count {
+    // The first i records are laid down, and no others.
+    for i in 0..count {
         events[i] = event_at(words, i);
-        i += 1;
     }
 }
 
@@ -47,12 +45,9 @@ pub fn fill(words: &[u64; 512], events: &mut [Event], count: usize)
 pub fn flatten(events: &[Event], words: &mut [u64; 512])
     ensures { words.new ≡ sets words.old 0 (words_of (take 128 events.now)) }
 {
-    let count = events.len().min(128);
-    let mut i = 0;
-    // The words of the first i records are laid down, and no others. Each turn raises i, up to `count`.
-    while i < count {
+    // The words of the first i records are laid down, and no others.
+    for i in 0..events.len().min(128) {
         put_event(&mut *words, i, events[i]);
-        i += 1;
     }
 }
 
@@ -62,6 +57,5 @@ pub fn used_words(words: &[u64; 512], count: usize) -> &[u64]
     ensures { result.now ≡ words_used count words.now }
 {
     let used = 4 * count.min(128);
-    let all = &words[..];
-    &all[0..used]
+    &words[..used]
 }

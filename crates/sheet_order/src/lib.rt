@@ -16,15 +16,13 @@ fn insertion_place(words: &[u64], count: usize, q: u64) -> usize
     requires { 4 * count ≤ length words.now }
     ensures { (result ≡ place_of probability q (events_of count words.now)) × (result ≤ count) }
 {
-    let mut i = 0;
-    // No probability of the first i events is below q. Each turn raises i, up to `count`.
-    while i < count {
+    // No probability of the first i events is below q.
+    for i in 0..count {
         if words[4 * i] < q {
             return i;
         }
-        i += 1;
     }
-    i
+    count
 }
 
 // Moves the words from `from` up to `to` four places on.
@@ -32,10 +30,8 @@ fn make_room(words: &mut [u64; 512], from: usize, to: usize)
     requires { (from ≤ to) × (to + 4 ≤ 512) }
     ensures { words.new ≡ sets words.old (from + 4) (take (to - from) (drop from words.old)) }
 {
-    let mut i = to;
-    // The words from i on are moved, and no others. Each turn lowers i, down to `from`.
-    while from < i {
-        i -= 1;
+    // The words after word i are moved, and no others.
+    for i in (from..to).rev() {
         words[i + 4] = words[i];
     }
 }

@@ -1,16 +1,17 @@
 -- The test of a stack's entries and of the sums, word by word.
 -- Assumes nothing.
-use mathlib.Core.Path.{◌≡◌, ap, sym, ◌∙◌}
+use mathlib.Core.Path.{◌≡◌, refl, ap, sym, ◌∙◌}
 use mathlib.Core.Bool.{Bool, true, false, ◌&&◌}
 use mathlib.Core.List.{List}
 use Prim.Native.Nat.{ℕ, ◌+◌, ◌-◌, ◌*◌, ◌^◌, ◌≤◌, ◌<◌}
-use native.Mathlib.Numerals.{add-one}
 use native.Mathlib.Omega.{arith}
 use borrow.Author.Tests.{lt-ltb, le-ltb, le-leb, lt-leb, leb-true, leb-false}
 use lib.Dec.{ltb, leb}
 use lib.ListN.{length, get_or, drop, length-drop, drop_of_length-le}
-use lib.Seq.{drop-cons}
 use native.Mathlib.Decide.{dec_lt}
+use Rattle.std.specs.Bool.{MatchBool}
+use Rattle.std.specs.List.{AllWithin, HoldsAt}
+use Rattle.std.proofs.lemmas.List.Recursion.{and_from_places, and_fails_at}
 use Rattle.sets.specs.Sets.{joined}
 use Rattle.sets.proofs.Bools.{and_left, and_right}
 use Rattle.walk.specs.Stack.{entry_mass}
@@ -111,18 +112,10 @@ entry-fits count room depth mass low high below e = step (dec_lt 128 depth)
         let all = sym (entry-branch count room depth mass low high below few) ∙ e in
         rw (mass-branch depth mass few) (leb-true mass room (and_left _ _ (and_right (leb depth count) _ all)))
 
--- the next sum
-module _ (most : ℕ) (sums : List ℕ) (size : length sums ≡ 2016) (i : ℕ) where
-  next-sum : i < 2016 → none_above most (drop i sums) ≡ (leb (get_or sums i 0) most && none_above most (drop (i + 1) sums))
-  unfolding none_above
-  next-sum h = rw (drop-cons sums i 0 (omega arith), add-one i)
-
-  pub above-stop : i < 2016 → most < get_or sums i 0 → false ≡ none_above most (drop i sums)
-  above-stop h l = stops _ _ (next-sum h) (lt-leb (get_or sums i 0) most l)
-
-  pub above-go : i < 2016 → get_or sums i 0 ≤ most → none_above most (drop i sums) ≡ none_above most (drop (i + 1) sums)
-  above-go h l = goes _ _ (next-sum h) (le-leb (get_or sums i 0) most l)
-
-  pub above-end : 2016 ≤ i → none_above most (drop i sums) ≡ true
-  unfolding none_above
-  above-end h = rw (drop_of_length-le sums {i = i} (omega arith))
+-- each sum is tested, or one is above
+pub above-is : (most : ℕ) (sums : List ℕ) (r : Bool)
+    → MatchBool r (AllWithin (λ x. x ≤ most) sums 0 (length sums)) ((k : ℕ) × (k < length sums) × HoldsAt (λ x. most < x) sums k)
+    → r ≡ none_above most sums
+unfolding none_above
+above-is most sums true h = sym (and_from_places (none_above most) (λ x. leb x most) refl (λ _ _. refl) sums 0 (λ i l. le-leb (get_or sums i 0) most (h i 0 (omega arith) l)))
+above-is most sums false h = sym (and_fails_at (none_above most) (λ x. leb x most) refl (λ _ _. refl) sums h.0 0 h.1 (lt-leb (get_or sums h.0 0) most (h.2 0)))

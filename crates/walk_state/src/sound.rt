@@ -47,25 +47,23 @@ fn entries_sound(count: u64, room: u64, stack: &[u64; 512], at: usize) -> bool
     requires { (length stack.now ≡ 512) × (at ≤ 512) × (at % 4 ≡ 0) }
     ensures { result ≡ sound_entries count room (drop at stack.now) }
 {
-    let mut i = at;
     let mut left = room;
-    // The entries from i on are sound, of at most `left` mass, exactly where those from `at` on are, of at most `room`. Each turn raises i.
-    while i < 512 {
-        let depth = stack[i];
-        let mass = stack[i + 1];
+    // The entries from entry i on are sound, of at most `left` mass, exactly where those from `at` on are, of at most `room`.
+    for i in at / 4..128 {
+        let depth = stack[4 * i];
+        let mass = stack[4 * i + 1];
         if !entry_sound(
             count,
             left,
             depth,
             mass,
-            stack[i + 2],
-            stack[i + 3],
-            508 - i,
+            stack[4 * i + 2],
+            stack[4 * i + 3],
+            508 - 4 * i,
         ) {
             return false;
         }
         left -= entry_mass(depth, mass);
-        i += 4;
     }
     true
 }
@@ -75,15 +73,7 @@ fn none_above(most: u64, sums: &[u64; 2016]) -> bool
     requires { length sums.now ≡ 2016 }
     ensures { result ≡ none_above most sums.now }
 {
-    let mut i = 0;
-    // None of the first i sums is above. Each turn raises i.
-    while i < 2016 {
-        if sums[i] > most {
-            return false;
-        }
-        i += 1;
-    }
-    true
+    sums.iter().all(|sum| *sum <= most)
 }
 
 // Whether no more scenarios were examined than ends reached, no more ends reached than the cap, and the stack begins at an entry.

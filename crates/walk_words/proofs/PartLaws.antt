@@ -1,26 +1,20 @@
 -- Laws of lists laid down in parts.
 -- Assumes nothing.
-use mathlib.Core.Path.{◌≡◌, sym, ap, ◌∙◌}
-use mathlib.Core.List.{List, [], ◌++◌, append_assoc, append-nil}
-use Prim.Native.Nat.{ℕ, ◌+◌, ◌-◌, ◌≤◌}
+use mathlib.Core.Path.{◌≡◌, ◌∙◌}
+use mathlib.Core.List.{List, ◌++◌, append_assoc}
+use Prim.Native.Nat.{ℕ, ◌+◌, ◌<◌}
+use native.Mathlib.Numerals.{add-one}
 use native.Mathlib.Omega.{arith}
-use lib.ListN.{length, take, drop, length-append, length-drop, drop_of_length-le}
-use lib.Seq.{sets, sets-eq, drop-drop, length-take-le}
-use Rattle.plan_lists.proofs.ListLaws.{sets_then}
+use lib.ListN.{length, get_or, set, take, length-append}
+use lib.Seq.{sets, take-suc, length-take-le}
+use Rattle.plan_lists.proofs.ListLaws.{sets_then, sets-append}
 
--- a list laid down over one as long
-pub sets-all : (l vs : List ℕ) → length vs ≡ length l → sets l 0 vs ≡ vs
-sets-all l vs e =
-    let d : drop (0 + length vs) l ≡ [] = drop_of_length-le l {i = 0 + length vs} (omega arith) in
-    sets-eq vs l 0 (omega arith) ∙ (ap (λ (r : List ℕ). vs ++ r) d ∙ append-nil vs)
-
--- a part laid down anew, between what stood before and after it
-pub part-laid : (s vs : List ℕ) (at count : ℕ) → length vs ≡ count → at + count ≤ length s
-    → take at s ++ (sets (take count (drop at s)) 0 vs ++ drop count (drop at s)) ≡ sets s at vs
-part-laid s vs at count e h =
-    let d : length (drop at s) ≡ length s - at = length-drop at s in
-    let n : length vs ≡ length (take count (drop at s)) = e ∙ sym (length-take-le count (drop at s) (omega arith)) in
-    rw (sets-all (take count (drop at s)) vs n, drop-drop, ← e, ← append_assoc) (sym (sets-eq vs s at (omega arith)))
+-- one more element laid down
+pub copy-next : (from to out : List ℕ) (at i : ℕ) → out ≡ sets to at (take i from) → i < length from
+    → set out (at + i) (get_or from i 0) ≡ sets to at (take (i + 1) from)
+copy-next from to out at i e h =
+    let n : length (take i from) ≡ i = length-take-le i from (omega arith) in
+    rw (e, add-one, take-suc from i 0, sets-append, n)
 
 -- five lists laid down, each after the one before
 pub five-laid : (s s₁ s₂ s₃ s₄ a b c d e : List ℕ) (i j k l : ℕ) → s₁ ≡ sets s 0 a → s₂ ≡ sets s₁ i b → s₃ ≡ sets s₂ j c → s₄ ≡ sets s₃ k d

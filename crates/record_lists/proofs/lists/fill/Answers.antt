@@ -1,6 +1,5 @@
 -- `record_lists::lists::fill` meets its contract. Assumes nothing.
 use mathlib.Core.Path.{refl, ap, ◌∙◌}
-use native.Mathlib.Omega.{arith}
 use lib.ListN.{set}
 use Rattle.std.proofs.Common.{List}
 use Rattle.record_lists.specs.Events.{records_of}
@@ -10,11 +9,9 @@ use Rattle.record_lists.proofs.lists.fill.Goals as goal
 
 pub loop-i-init : goal.loop-i-init
 unfolding records_of
-loop-i-init c = (omega arith, refl)
+loop-i-init c = refl
 
 pub loop-i-preserved : goal.loop-i-preserved
-loop-i-preserved c = (
-  omega arith,
-  ap (λ (es : List Event). set es c.loop-i.i c.event_at.result) c.loop-i.invariant.1
-      ∙ fill_more c.loop-i.i c.args.words.now c.args.events.now c.event_at.result c.event_at.ensures,
-)
+loop-i-preserved c =
+    ap (λ (es : List Event). set es c.loop-i.i c.event_at.result) c.loop-i.invariant
+    ∙ fill_more c.loop-i.i c.args.words.now c.args.events.now c.event_at.result c.event_at.ensures

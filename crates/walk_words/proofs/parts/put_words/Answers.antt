@@ -1,17 +1,14 @@
--- `walk_words::parts::put_words` meets its contract: the part that is lent comes back laid down anew. Assumes nothing.
-use mathlib.Core.Path.{◌≡◌, ap, ◌∙◌}
-use Prim.Native.Nat.{◌+◌, ◌-◌}
+-- `walk_words::parts::put_words` meets its contract: the part that is lent comes back as a copy of the words. Assumes nothing.
+use mathlib.Core.Path.{◌∙◌, sym}
 use native.Mathlib.Omega.{arith}
-use lib.ListN.{length, take, drop}
-use lib.Seq.{sets, take-length}
-use Rattle.walk_words.proofs.PartLaws.{part-laid}
+use lib.ListN.{length}
+use lib.Seq.{take-length}
+use Rattle.std.proofs.Common.{ℕ}
+use Rattle.plan_lists.proofs.ListLaws.{part-laid}
 use Rattle.walk_words.proofs.parts.put_words.Goals as goal
 
 pub returns : goal.returns
 returns c =
     let a = c.args in
-    let count = a.at + length a.from.now - a.at in
-    let n : length a.from.now ≡ count = omega arith in
-    let e : c.copy_words.new.to ≡ sets (take count (drop a.at a.to.now)) 0 a.from.now
-    = c.copy_words.ensures ∙ ap (sets (take count (drop a.at a.to.now)) 0) (take-length a.from.now) in
-    rw e (part-laid a.to.now a.from.now a.at count n (omega arith))
+    let all = take-length a.from.now in
+    rw all at (part-laid {A = ℕ} a.from.now a.to.now c.copy_from_slice.new.self a.at (length a.from.now) (omega arith) c.requires (c.copy_from_slice.ensures.after ∙ sym all))
