@@ -1,18 +1,14 @@
 -- The answers of the run and of one pair, and what they leave in the lists, from what the walk gave.
 -- Assumes nothing.
-use mathlib.Core.Path.{◌≡◌, refl, sym, ap, subst₂, ◌∙◌}
+use mathlib.Core.Path.{◌≡◌, sym, ap, subst₂, ◌∙◌}
 use mathlib.Core.List.{List, map}
-use Prim.Native.Nat.{ℕ, zero, suc, ◌+◌, ◌-◌, ◌<◌, ◌≤◌}
+use Prim.Native.Nat.{ℕ, ◌+◌, ◌-◌, ◌<◌, ◌≤◌}
 use native.Mathlib.Omega.{arith}
-use borrow.Author.Tests.{leb-false}
-use lib.Dec.{leb}
 use lib.ListN.{length, get_or, take, get_or-append}
 use lib.Seq.{sets, sets-eq}
-use Rattle.mass.proofs.RefusalLaws.{refuse-none, first-none, answered-number}
 use Rattle.mass.specs.Split.{whole}
 use Rattle.plan.specs.Plan.{Plan}
-use Rattle.plan.specs.LentLists.{Lent, plan_refusal, lists_number}
-use Rattle.refusals.proofs.TestLaws.{or-none}
+use Rattle.plan.specs.LentLists.{plan_refusal}
 use Rattle.network.specs.Outage.{Outage}
 use Rattle.walk.specs.Walk.{mass_examined, count}
 use Rattle.walk.proofs.Theorems.{mass_examined-le}
@@ -20,40 +16,12 @@ use Rattle.walk.proofs.Valid.{plan-probable}
 use Rattle.sums.proofs.BoundsLaws.{upper-lower}
 use Rattle.sums.proofs.Theorems.{demand3-valid}
 use Rattle.pairs.specs.BoundsFit.{BoundsFit}
-use Rattle.pairs.specs.Pairs.{table, place, pair_count, pair_test}
+use Rattle.pairs.specs.Pairs.{table, place, pair_count}
 use Rattle.pairs.proofs.PairLaws.{table_is, table_at, table-long, map-table, table_same, place-lt, pairs-most}
 use Rattle.bounds.specs.Bounds.{cuts, lower_of, upper_of, lower_list, upper_list, Encloses, EnclosesAll}
-use Rattle.bounds.specs.Calls.{ran_answer, ran_number, pair_number, pair_answer, paired_number, bounds_of}
+use Rattle.bounds.specs.Calls.{bounds_of}
 use Rattle.bounds.specs.Summed.{Summed}
-use Rattle.bounds.specs.declared.Totals.{Totals}
-use Rattle.bounds.specs.declared.Ran.TheVariants as ran
 use Rattle.bounds.specs.declared.PairBounds.{PairBounds}
-use Rattle.bounds.specs.declared.Paired.TheVariants as paired
-
--- ---- what an answer says of its number
-
-pub ran-number : (number : ℕ) (totals : Totals) → ran_number (ran_answer number totals) ≡ number
-ran-number number totals = answered-number ran.Refused (ran.Done totals) ran_number refl (λ n. refl) number
-
-pub paired-number : (number : ℕ) (bounds : PairBounds) → paired_number (pair_answer number bounds) ≡ number
-paired-number number bounds = answered-number paired.Refused (paired.Done bounds) paired_number refl (λ n. refl) number
-
-pub pair-refused-is : (number n : ℕ) (b : PairBounds) → paired.Refused n ≡ pair_answer number b → (n ≡ number) × (number ≡ 0 → ⊥)
-pair-refused-is zero n b e = absurd (let never : ◌≡◌ {A = ℕ} 0 1 = cc in omega arith)
-pair-refused-is (suc number) n b e = let is : n ≡ suc number = cc in (is, λ z. omega arith)
-
-pub pair-done-is : (number : ℕ) (x b : PairBounds) → paired.Done x ≡ pair_answer number b → (number ≡ 0) × (x ≡ b)
-pair-done-is zero x b e = (refl, cc)
-pair-done-is (suc number) x b e = absurd (let never : ◌≡◌ {A = ℕ} 0 1 = cc in omega arith)
-
-pub pair-none : (l : Lent) (v w : ℕ) → pair_number l v w ≡ 0 → lists_number l ≡ 0
-unfolding pair_number
-pair-none l v w e = (first-none _ _ e).0
-
-pub pair_inside : (nodes v w : ℕ) → pair_test nodes v w ≡ 0 → (v < w) × (w < nodes)
-pair_inside nodes v w e =
-    let t = or-none (leb w v) (leb nodes w) (refuse-none _ 12 e) in
-    (leb-false w v t.0, leb-false nodes w t.1)
 
 -- ---- the bounds of an accepted plan
 

@@ -1,14 +1,17 @@
 -- Planned work by the week: document 02, request U7. What is taken out never joins a pair; where no window holds the minute, all is as the run
 -- gives it.
 -- Assumes nothing.
-use mathlib.Core.Path.{◌≡◌, refl, ap, ap₂}
+use Rattle.std.specs.Prelude.{Result, IfOk}
+use mathlib.Core.Path.{◌≡◌, refl, sym, ap₂, ◌∙◌}
 use mathlib.Core.Bool.{Bool, true, false, not}
 use mathlib.Core.List.{List, [], ◌∷◌, Memᴰ}
 use Prim.Native.Nat.{ℕ, zero, suc, ◌≤◌}
 use native.Mathlib.Nat.{mul-le-mul_left}
 use native.Mathlib.Omega.{arith}
 use lib.ListN.{length}
-use Rattle.mass.specs.Refusal.{first}
+use Rattle.mass.specs.Refusal.{first, number_in}
+use Rattle.mass.specs.declared.refusal.Refusal.{Refusal}
+use Rattle.mass.proofs.RefusalLaws.{one_answer}
 use Rattle.sets.specs.Sets.{digit}
 use Rattle.plan.specs.Plan.{Plan}
 use Rattle.plan.specs.LentLists.{Lent, plan_lent}
@@ -21,7 +24,8 @@ use Rattle.walk.specs.Walk.{first_ends}
 use Rattle.windows.specs.Windows.{Window, windows_in, holds, taken_out, work_refusal}
 use Rattle.windows.proofs.Theorems.{no-window, more-windows}
 use Rattle.bounds.specs.Bounds.{cuts, lower_of, upper_of, lower_list, upper_list}
-use Rattle.bounds.specs.Calls.{run_number, run_at_number, ran_answer, totals_of}
+use Rattle.bounds.specs.Calls.{run_number, run_at_number, totals_of}
+use Rattle.bounds.specs.declared.Totals.{Totals}
 
 -- a sum of masses grows with each weight
 weighed-le : (f g : Scenario → ℕ) → ((s : Scenario) → f s ≤ g s) → (list : List End) → weighed f list ≤ weighed g list
@@ -64,7 +68,7 @@ more-work p words more minute v w all =
     (more-lower p _ _ worse v w, more-upper p _ _ worse v w)
 
 -- a test that passes after another decides nothing
-last-passes : (number later : ℕ) → later ≡ 0 → first (number ∷ later ∷ []) ≡ number
+pub last-passes : (number later : ℕ) → later ≡ 0 → first (number ∷ later ∷ []) ≡ number
 unfolding first
 last-passes zero later e = rw e
 last-passes (suc number) later e = refl
@@ -89,8 +93,10 @@ module _ (l : Lent) (windows : List ℕ) (minute : ℕ) (lower upper : List ℕ)
   nothing-out : taken_out windows minute ≡ intact
   nothing-out = no-window (windows_in windows) minute none
 
-  pub same_answer : ran_answer at_number (totals_of p) ≡ ran_answer number₀ (totals_of p)
-  same_answer = ap (λ (n : ℕ). ran_answer n (totals_of p)) same_number
+  -- two answers with these numbers, each with the totals of the plan where it is given, are one
+  pub same_answer : (at plain : Result Totals Refusal) → number_in at ≡ at_number → IfOk at (λ t. t ≡ totals_of p)
+      → number_in plain ≡ number₀ → IfOk plain (λ t. t ≡ totals_of p) → at ≡ plain
+  same_answer at plain a ta b tb = one_answer at plain (totals_of p) (a ∙ same_number ∙ sym b) ta tb
 
   pub same-lowers : filled at_number (lower_list (taken_out windows minute) p) lower ≡ filled number₀ (lower_list intact p) lower
   same-lowers = ap₂ (λ (n : ℕ) (o : Outage). filled n (lower_list o p) lower) same_number nothing-out

@@ -1,8 +1,7 @@
 -- What the calls of the crate `bounds` answer, for every input.
--- For each case of an answer, `ran_answer` and `pair_answer` say which number and values it stands for.
 -- Assumes nothing.
 use Rattle.std.specs.Prelude.{List, [], ◌∷◌, ℕ}
-use Rattle.mass.specs.Refusal.{first, answered}
+use Rattle.mass.specs.Refusal.{first}
 use Rattle.plan.specs.Plan.{Plan}
 use Rattle.refusals.specs.Tests.{room_test}
 use Rattle.plan.specs.LentLists.{Lent, lists_number}
@@ -12,11 +11,7 @@ use Rattle.pairs.specs.Pairs.{pair_count, pair_test}
 use Rattle.windows.specs.Windows.{work_refusal}
 use Rattle.bounds.specs.Bounds.{lower_of, upper_of}
 use Rattle.bounds.specs.declared.Totals.{Totals}
-use Rattle.bounds.specs.declared.Ran.{Ran}
-use Rattle.bounds.specs.declared.Ran.TheVariants as ran
 use Rattle.bounds.specs.declared.PairBounds.{PairBounds}
-use Rattle.bounds.specs.declared.Paired.{Paired}
-use Rattle.bounds.specs.declared.Paired.TheVariants as paired
 
 -- the run: the lists' tests, then 12 for the two lists of bounds
 unfoldable pub run_number : Lent → ℕ → ℕ → ℕ
@@ -36,20 +31,6 @@ run_at_number l lower_room upper_room windows minute =
 abbrev pub totals_of : Plan → Totals
 totals_of p = record { count = count p; complete = complete p; mass = mass_examined p }
 
--- the answer of a run
-abbrev pub ran_answer : ℕ → Totals → Ran
-ran_answer number totals = answered ran.Refused (ran.Done totals) number
-
--- the number of a run's answer
-abbrev pub ran_number : Ran → ℕ
-ran_number (ran.Refused number) = number
-ran_number (ran.Done totals) = 0
-
--- the totals of an answer: all numbers are 0 where it refuses
-abbrev pub totals_in : Ran → Totals
-totals_in (ran.Refused number) = record { count = 0; complete = 0; mass = 0 }
-totals_in (ran.Done totals) = totals
-
 -- the bounds of one pair: the lists' tests, then 13
 unfoldable pub pair_number : Lent → ℕ → ℕ → ℕ
 pair_number l v w = first (lists_number l ∷ pair_test l.header.nodes v w ∷ [])
@@ -57,17 +38,3 @@ pair_number l v w = first (lists_number l ∷ pair_test l.header.nodes v w ∷ [
 -- the two bounds of the pair (v, w)
 abbrev pub bounds_of : Outage → Plan → ℕ → ℕ → PairBounds
 bounds_of out p v w = record { lower = lower_of out p v w; upper = upper_of out p v w }
-
--- the answer of one pair
-abbrev pub pair_answer : ℕ → PairBounds → Paired
-pair_answer number bounds = answered paired.Refused (paired.Done bounds) number
-
--- the number of one pair's answer
-abbrev pub paired_number : Paired → ℕ
-paired_number (paired.Refused number) = number
-paired_number (paired.Done bounds) = 0
-
--- the bounds in an answer: both are 0 where it refuses
-abbrev pub bounds_in : Paired → PairBounds
-bounds_in (paired.Refused number) = record { lower = 0; upper = 0 }
-bounds_in (paired.Done bounds) = bounds

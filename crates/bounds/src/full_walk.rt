@@ -15,10 +15,7 @@ use plan::Header;
 pub fn none_left(at: usize) -> u64
     ensures { result ≡ digit (leb 512 at) }
 {
-    if 512 <= at {
-        return 1;
-    }
-    0
+    u64::from(512 <= at)
 }
 
 // The full walk of an accepted plan, with some nodes and links out before the first event: the totals, and the lower bounds in the entries

@@ -29,23 +29,9 @@ pub struct Totals {
     pub mass: u64,
 }
 
-// What a run answers: the number of the refusal, or the totals.
-#[derive(Clone, Copy)]
-pub enum Ran {
-    Refused(u32),
-    Done(Totals),
-}
-
 // The two bounds of a pair.
 #[derive(Clone, Copy)]
 pub struct PairBounds {
     pub lower: u64,
     pub upper: u64,
-}
-
-// What the bounds of one pair answer.
-#[derive(Clone, Copy)]
-pub enum Paired {
-    Refused(u32),
-    Done(PairBounds),
 }

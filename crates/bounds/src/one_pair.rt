@@ -1,6 +1,7 @@
 // The bounds of one pair.
-ghost use Rattle.std.specs.Prelude.{◌≡◌, ◌+◌, ◌-◌, ◌<◌, min, length, get_or, take};
+ghost use Rattle.std.specs.Prelude.{◌≡◌, ◌+◌, ◌-◌, ◌<◌, ◌≤◌, min, length, get_or, take, IfOk, OnOk};
 ghost use Rattle.std.proofs.lemmas.List.Edits.{sets};
+ghost use Rattle.mass.specs.Refusal.{number_in};
 ghost use Rattle.mass.specs.Split.{whole};
 ghost use Rattle.plan.specs.LentLists.{plan_refusal, plan_of_lists, in_words};
 ghost use Rattle.plan_lists.specs.Taken.{Taken};
@@ -9,10 +10,11 @@ ghost use Rattle.walk.specs.Walk.{count};
 ghost use Rattle.pairs.specs.Pairs.{place};
 ghost use Rattle.pairs.specs.BoundsFit.{BoundsFit};
 ghost use Rattle.bounds.specs.Bounds.{Encloses};
-ghost use Rattle.bounds.specs.Calls.{bounds_of, pair_answer, paired_number, bounds_in, pair_number};
+ghost use Rattle.bounds.specs.Calls.{bounds_of, pair_number};
 
+use crate::PairBounds;
 use crate::full_walk::walk_all;
-use crate::{PairBounds, Paired};
+use mass::Refusal;
 use network::Failed;
 use pairs::{pair_test, place_of};
 use plan::Header;
@@ -32,6 +34,7 @@ fn bounds_at(n: usize, mass: u64, sums: &[u64; 2016], v: usize, w: usize) -> Pai
 }
 
 // The tests of a call that names a pair: those of the lists, which are taken into the arrays, then 13.
+#[tactic(auto, using(mass::proofs::RefusalLaws::refuses), unfolding(crate::specs::Calls::pair_number))]
 pub fn accept_pair(
     h: Header,
     links: &[u8],
@@ -40,19 +43,16 @@ pub fn accept_pair(
     w: u64,
     bytes: &mut [u8; 256],
     words: &mut [u64; 512],
-) -> u32
-    ensures number { result ≡ pair_number (in_words h links.now events.now) v w }
-    ensures accepted { result ≡ 0 → Taken h links.now events.now bytes.new words.new
-        × ((v < w) × (w < h.nodes)) }
+) -> Result<(), Refusal>
+    ensures number { number_in result ≡ pair_number (in_words h links.now events.now) v w }
+    ensures accepted { OnOk result (Taken h links.now events.now bytes.new words.new
+        × ((v < w) × (w < h.nodes))) }
     ensures bytes { bytes.new ≡ sets bytes.old 0
         (take (min (length links.now) 256) links.now) }
     ensures words { words.new ≡ sets words.old 0
         (take (min (length events.now) 512) events.now) }
 {
-    let lists = plan_lists::accept(h, links, events, bytes, words);
-    if lists != 0 {
-        return lists;
-    }
+    plan_lists::accept(h, links, events, bytes, words)?;
     pair_test(h.nodes, v, w)
 }
 
@@ -68,19 +68,18 @@ pub fn pair_in(h: Header, links: &[u8; 256], words: &[u64; 512], v: usize, w: us
 }
 
 // The bounds of one pair.
-pub fn pair(h: Header, links: &[u8], events: &[u64], v: u64, w: u64) -> Paired
-    ensures answer { result ≡ pair_answer
-        (pair_number (in_words h links.now events.now) v w)
-        (bounds_of intact (plan_of_lists h links.now events.now) v w) }
-    ensures demand3 { paired_number result ≡ 0
-        → Encloses intact (plan_of_lists h links.now events.now) v w (bounds_in result).lower (bounds_in result).upper
-        (count (plan_of_lists h links.now events.now)) }
+pub fn pair(h: Header, links: &[u8], events: &[u64], v: u64, w: u64) -> Result<PairBounds, Refusal>
+    ensures number { number_in result ≡ pair_number (in_words h links.now events.now) v w }
+    ensures bounds { IfOk result (λ b. b ≡ bounds_of intact (plan_of_lists h links.now events.now) v w) }
+    ensures accepted { OnOk result ((plan_refusal (plan_of_lists h links.now events.now) ≡ 0)
+        × ((v < w) × (w < h.nodes))) }
+    ensures ordered { IfOk result (λ b. (b.lower ≤ b.upper) × (b.upper ≤ whole)) }
+    ensures demand3 { IfOk result (λ b.
+        Encloses intact (plan_of_lists h links.now events.now) v w b.lower b.upper
+        (count (plan_of_lists h links.now events.now))) }
 {
     let mut bytes = [0u8; 256];
     let mut words = [0u64; 512];
-    let number = accept_pair(h, links, events, v, w, &mut bytes, &mut words);
-    if number != 0 {
-        return Paired::Refused(number);
-    }
-    Paired::Done(pair_in(h, &bytes, &words, v as usize, w as usize))
+    accept_pair(h, links, events, v, w, &mut bytes, &mut words)?;
+    Ok(pair_in(h, &bytes, &words, v as usize, w as usize))
 }

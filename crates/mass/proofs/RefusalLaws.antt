@@ -1,12 +1,13 @@
 -- Laws of the first refusal met, and of the answer that follows from its number.
 -- Assumes nothing.
-use Rattle.std.specs.Prelude.{Result, Ok, Err, OnOk}
+use Rattle.std.specs.Prelude.{Result, Ok, Err, IfOk, OnOk}
 use Rattle.std.specs.Result.{IsErr, IsErrAnd}
 use Rattle.std.proofs.lemmas.Result.{err_from_is_err_and}
 use mathlib.Core.Path.{◌≡◌, refl, sym, ap, ◌∙◌}
 use mathlib.Core.Bool.{Bool, true, false}
 use mathlib.Core.List.{List, [], ◌∷◌, ◌++◌}
-use Prim.Native.Nat.{ℕ, zero, suc}
+use Prim.Native.Nat.{ℕ, zero, suc, ◌-◌}
+use lib.ListN.{get_or}
 use native.Mathlib.Omega.{arith}
 use Rattle.mass.specs.Refusal.{refuse, first, number, number_in}
 use Rattle.mass.specs.declared.refusal.Refusal.{Refusal}
@@ -93,6 +94,56 @@ hands-on r result e h = let p = err_from_is_err_and result e.1 in rw (p.1, p.2) 
 pub when-given : {T P : Type 0} (result : Result T Refusal) → (number_in result ≡ 0 → P) → OnOk result P
 when-given (Ok given) h = h refl
 when-given (Err r) h = tt
+
+-- ---- answers that are one
+
+-- the refusals in the order of their numbers, from 1 on
+abbrev every : List Refusal
+every =
+    refusal.BytesEnd ∷ refusal.Mark ∷ refusal.Version ∷ refusal.Counts ∷ refusal.Threshold ∷ refusal.Cap ∷
+    refusal.LinkEnds ∷ refusal.Probability ∷ refusal.Order ∷ refusal.Member ∷ refusal.BytesLeft ∷ refusal.Room ∷
+    refusal.Pair ∷ refusal.NoWitness ∷ refusal.ListFull ∷ refusal.Mass ∷ refusal.Product ∷ refusal.Lines ∷
+    refusal.Quota ∷ refusal.Terms ∷ refusal.Window ∷ refusal.Minute ∷ refusal.Thresholds ∷ []
+
+-- the refusal with a number
+abbrev numbered : ℕ → Refusal
+numbered n = get_or every (n - 1) refusal.BytesEnd
+
+numbered_is : (r : Refusal) → numbered (number r) ≡ r
+numbered_is refusal.BytesEnd = refl
+numbered_is refusal.Mark = refl
+numbered_is refusal.Version = refl
+numbered_is refusal.Counts = refl
+numbered_is refusal.Threshold = refl
+numbered_is refusal.Cap = refl
+numbered_is refusal.LinkEnds = refl
+numbered_is refusal.Probability = refl
+numbered_is refusal.Order = refl
+numbered_is refusal.Member = refl
+numbered_is refusal.BytesLeft = refl
+numbered_is refusal.Room = refl
+numbered_is refusal.Pair = refl
+numbered_is refusal.NoWitness = refl
+numbered_is refusal.ListFull = refl
+numbered_is refusal.Mass = refl
+numbered_is refusal.Product = refl
+numbered_is refusal.Lines = refl
+numbered_is refusal.Quota = refl
+numbered_is refusal.Terms = refl
+numbered_is refusal.Window = refl
+numbered_is refusal.Minute = refl
+numbered_is refusal.Thresholds = refl
+
+-- law: a number has one refusal
+pub one_refusal : (a b : Refusal) → number a ≡ number b → a ≡ b
+one_refusal a b e = sym (numbered_is a) ∙ ap numbered e ∙ numbered_is b
+
+-- law: two answers with one number, which give the same where they are given, are one
+pub one_answer : {T : Type 0} (a b : Result T Refusal) (x : T) → number_in a ≡ number_in b → IfOk a (λ y. y ≡ x) → IfOk b (λ y. y ≡ x) → a ≡ b
+one_answer (Ok y) (Ok z) x e is_y is_z = ap Ok (is_y ∙ sym is_z)
+one_answer (Ok y) (Err r) x e is_y is_z = absurd (number-some r (sym e))
+one_answer (Err q) (Ok z) x e is_y is_z = absurd (number-some q e)
+one_answer (Err q) (Err r) x e is_y is_z = ap Err (one_refusal q r e)
 
 -- law: a run of tests inside a longer list is one test: the first of the run
 pub first_run : (run rest : List ℕ) → first (first run ∷ rest) ≡ first (run ++ rest)

@@ -1,6 +1,9 @@
 // The places of the pairs in their order, and the test of a pair.
-ghost use Rattle.std.specs.Prelude.{◌≡◌, ◌≤◌, ◌<◌};
+ghost use Rattle.std.specs.Prelude.{◌≡◌, ◌≤◌, ◌<◌, OnOk};
+ghost use Rattle.mass.specs.Refusal.{number_in};
 ghost use Rattle.pairs.specs.Pairs.{start, place, pair_count, pair_test};
+
+use mass::Refusal;
 
 // The place of the first pair of node v, of n nodes.
 pub fn start_of(n: usize, v: usize) -> usize
@@ -27,15 +30,9 @@ pub fn place_of(n: usize, v: usize, w: usize) -> usize
 }
 
 // 13: a pair without v < w < N.
-#[tactic(auto, using(std::proofs::Common::tests))]
-pub fn pair_test(nodes: u64, v: u64, w: u64) -> u32
-    ensures { result ≡ pair_test nodes v w }
+pub fn pair_test(nodes: u64, v: u64, w: u64) -> Result<(), Refusal>
+    ensures number { number_in result ≡ pair_test nodes v w }
+    ensures inside { OnOk result ((v < w) × (w < nodes)) }
 {
-    if w <= v {
-        return 13;
-    }
-    if nodes <= w {
-        return 13;
-    }
-    0
+    Refusal::Pair.when(w <= v || nodes <= w)
 }

@@ -8,8 +8,9 @@ use native.Mathlib.Nat.{add-zero}
 use native.Mathlib.Omega.{arith}
 use lib.ListN.{drop}
 use lib.Seq.{get_or-drop, drop-drop}
-use Rattle.mass.specs.Refusal.{first, each}
-use Rattle.refusals.proofs.OrderLaws.{stop, skip}
+use Rattle.mass.specs.Refusal.{first, each, number}
+use Rattle.mass.specs.declared.refusal.Refusal.{Refusal}
+use Rattle.mass.proofs.RefusalLaws.{stops, passes}
 use Rattle.network.specs.Outage.{Outage, intact, beside}
 use Rattle.windows.specs.Windows.{Window, window_at, windows_of, holds, with_window, out_at, window_test}
 
@@ -27,14 +28,14 @@ windows-next words at (suc left) h = simp (get_or-drop, drop-drop, add-zero, les
 
 -- the next window decides, or leaves it to the others
 module _ (nodes links : ℕ) (words : List ℕ) (at left : ℕ) (some : 0 < left) where
-  pub window-decides : (r : ℕ) → r ≡ window_test nodes links (window_at words at) → (r ≡ 0 → ⊥)
-      → r ≡ each (window_test nodes links) (windows_of left (drop at words))
-  window-decides r e n = rw (windows-next words at left some) (stop _ e n)
+  pub window-decides : (r : Refusal) → number r ≡ window_test nodes links (window_at words at)
+      → number r ≡ each (window_test nodes links) (windows_of left (drop at words))
+  window-decides r e = rw (windows-next words at left some) (stops r _ e)
 
-  pub window-passes : (r : ℕ) → r ≡ window_test nodes links (window_at words at) → r ≡ 0
+  pub window-passes : 0 ≡ window_test nodes links (window_at words at)
       → each (window_test nodes links) (windows_of (left - 1) (drop (at + 5) words))
       ≡ each (window_test nodes links) (windows_of left (drop at words))
-  window-passes r e z = rw (windows-next words at left some) (skip _ e z refl)
+  window-passes z = rw (windows-next words at left some) (passes _ z refl)
 
 -- no window is left, and none is refused
 pub windows-end : (nodes links left : ℕ) (words : List ℕ) → left ≤ 0 → 0 ≡ each (window_test nodes links) (windows_of left words)

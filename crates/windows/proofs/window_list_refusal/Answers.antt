@@ -1,26 +1,27 @@
 -- `windows::window_list_refusal` meets its contract: the windows that are left are refused as all are. Assumes nothing.
-use mathlib.Core.Path.{refl, ◌∙◌}
+use mathlib.Core.Path.{◌≡◌, ◌∙◌, ap}
+use Prim.Native.Nat.{◌+◌, ◌-◌, ◌*◌}
 use native.Mathlib.Omega.{arith}
+use Rattle.mass.proofs.RefusalLaws.{hands-on}
+use Rattle.windows.specs.Windows.{window_test}
 use Rattle.windows.proofs.WindowLaws.{window-decides, window-passes, windows-end}
 use Rattle.windows.proofs.window_list_refusal.Goals as goal
 
-pub loop-left-init : goal.loop-left-init
-loop-left-init c = (omega arith, refl)
+pub returns-in_err-test : goal.returns-in_err-test
+returns-in_err-test c =
+    let a = c.args in
+    hands-on _ _ c.from_residual.ensures
+    (window-decides _ _ a.words.now (5 * c.loop-i.i) _ (omega arith) _ (c.in_err-test.ensures ∙ ap (window_test a.nodes a.links) c.window_at.ensures)
+    ∙ c.loop-i.invariant)
 
-pub window_test-wrong-requires : goal.window_test-wrong-requires
-window_test-wrong-requires c = c.requires.1
-
-pub returns-then-wrong-ne0 : goal.returns-then-wrong-ne0
-returns-then-wrong-ne0 c =
-    window-decides _ _ c.args.words.now c.loop-left.at _ c.loop-left-test.true _ c.window_test-wrong.ensures c.if-wrong-ne0.true
-    ∙ c.loop-left.invariant.1
-
-pub loop-left-preserved : goal.loop-left-preserved
-loop-left-preserved c = (
-  omega arith,
-  window-passes _ _ c.args.words.now c.loop-left.at _ c.loop-left-test.true _ c.window_test-wrong.ensures c.if-wrong-ne0.false
-      ∙ c.loop-left.invariant.1,
-)
+pub loop-i-preserved : goal.loop-i-preserved
+loop-i-preserved c =
+    let a = c.args in
+    let left : a.count - (c.loop-i.i + 1) ≡ a.count - c.loop-i.i - 1 = omega arith in
+    let at : 5 * (c.loop-i.i + 1) ≡ 5 * c.loop-i.i + 5 = omega arith in
+    rw (left, at)
+    (window-passes _ _ a.words.now (5 * c.loop-i.i) _ (omega arith) (c.in_ok-test.ensures ∙ ap (window_test a.nodes a.links) c.window_at.ensures)
+    ∙ c.loop-i.invariant)
 
 pub returns : goal.returns
-returns c = windows-end _ _ _ _ c.loop-left-test.false ∙ c.loop-left.invariant.1
+returns c = windows-end _ _ _ _ (omega arith) ∙ c.loop-i.invariant

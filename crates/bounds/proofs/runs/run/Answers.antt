@@ -1,31 +1,31 @@
--- `bounds::runs::run` meets its contract: at each `return` the tests that led there decide the answer. Assumes nothing.
-use mathlib.Core.Path.{sym, ◌∙◌}
-use lib.ListN.{length}
-use Rattle.plan.specs.LentLists.{in_words}
+-- `bounds::runs::run` meets its contract: with no window nothing more is tested, and nothing is out. Assumes nothing.
+use mathlib.Core.Path.{◌≡◌, refl, ◌∙◌}
+use mathlib.Core.List.{[]}
+use Prim.Native.Nat.{ℕ}
+use Rattle.mass.specs.Refusal.{first}
 use Rattle.network.specs.Outage.{intact}
-use Rattle.bounds.specs.Calls.{run_number}
-use Rattle.bounds.proofs.Outcome.{arrays-valid, run-refused, run-done}
+use Rattle.windows.specs.Windows.{windows_of, out_at, taken_out, work_refusal}
+use Rattle.bounds.specs.Calls.{run_at_number}
+use Rattle.bounds.proofs.Theorems.{last-passes}
 use Rattle.bounds.proofs.runs.run.Goals as goal
 
-pub returns-then-number-ne0 : goal.returns-then-number-ne0
-returns-then-number-ne0 c =
-    let a = c.args in let whole = run-refused intact (run_number (in_words a.h a.links.now a.events.now) (length a.lower.now) (length a.upper.now)) a.h a.links.now a.events.now a.lower.now a.upper.now _
-    c.accept_run-number.ensures.number
-    c.if-number-ne0.true in record { answer = whole.0; lowers = whole.1.0; uppers = whole.1.1.0; demand3 = whole.1.1.1 }
+fair : (nodes links : ℕ) → work_refusal nodes links [] 0 ≡ 0
+unfolding work_refusal windows_of first
+fair nodes links = refl
 
-pub fill_bounds-requires : goal.fill_bounds-requires
-fill_bounds-requires c =
-    let t = c.accept_run-number.ensures.accepted c.if-number-ne0.false in
-    record {
-      words_value = arrays-valid _ _ _ _ _ t.0;
-      nodes_in_bounds = t.1;
-    }
+nothing-out : taken_out [] 0 ≡ intact
+unfolding windows_of out_at
+nothing-out = refl
 
-pub returns : goal.returns
-returns c =
-    let t = c.accept_run-number.ensures.accepted c.if-number-ne0.false in
-    let a = c.args in
-    let number = run_number (in_words a.h a.links.now a.events.now) (length a.lower.now) (length a.upper.now) in let whole = run-done intact number a.h a.links.now a.events.now a.lower.now a.upper.now _ _ t.0 _ _ _ t.1 c.fill_bounds.ensures.totals
-    c.fill_bounds.ensures.lowers
-    c.fill_bounds.ensures.uppers
-    (sym c.accept_run-number.ensures.number ∙ c.if-number-ne0.false) in record { answer = whole.0; lowers = whole.1.0; uppers = whole.1.1.0; demand3 = whole.1.1.1 }
+pub returns-clause-number : goal.returns-clause-number
+unfolding run_at_number
+returns-clause-number c = c.run_at.ensures.number ∙ last-passes _ _ (fair c.args.h.nodes c.args.h.links)
+
+pub returns-clause-lowers : goal.returns-clause-lowers
+returns-clause-lowers c = rw nothing-out at c.run_at.ensures.lowers
+
+pub returns-clause-uppers : goal.returns-clause-uppers
+returns-clause-uppers c = rw nothing-out at c.run_at.ensures.uppers
+
+pub returns-clause-demand3 : goal.returns-clause-demand3
+returns-clause-demand3 c = rw nothing-out at c.run_at.ensures.demand3

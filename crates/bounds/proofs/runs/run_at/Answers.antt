@@ -1,44 +1,34 @@
--- `bounds::runs::run_at` meets its contract: at each `return` the tests that led there decide the answer. Assumes nothing.
-use mathlib.Core.Path.{sym, ◌∙◌}
-use lib.ListN.{length}
-use Rattle.plan.specs.LentLists.{in_words}
+-- `bounds::runs::run_at` meets its contract: the tests in their order, then what the walk of the arrays gave. Assumes nothing.
+use Rattle.mass.proofs.RefusalLaws.{stops, passes, last, hands-on}
 use Rattle.windows.specs.Windows.{taken_out}
-use Rattle.bounds.specs.Calls.{run_at_number}
-use Rattle.bounds.proofs.Outcome.{run-refuses, work-decides, arrays-valid, run-refused, run-done}
+use Rattle.bounds.specs.Calls.{run_number, run_at_number}
+use Rattle.bounds.proofs.Outcome.{enclosed-all}
 use Rattle.bounds.proofs.runs.run_at.Goals as goal
 
-pub returns-then-number-ne0 : goal.returns-then-number-ne0
-returns-then-number-ne0 c =
-    let a = c.args in let whole = run-refused (taken_out a.windows.now a.minute) (run_at_number (in_words a.h a.links.now a.events.now) (length a.lower.now) (length a.upper.now) a.windows.now a.minute) a.h a.links.now a.events.now a.lower.now a.upper.now _
-    (run-refuses (in_words a.h a.links.now a.events.now) (length a.lower.now) (length a.upper.now) a.windows.now a.minute _ c.accept_run-number.ensures.number c.if-number-ne0.true)
-    c.if-number-ne0.true in record { answer = whole.0; lowers = whole.1.0; uppers = whole.1.1.0; demand3 = whole.1.1.1 }
+pub returns-in_err-accept-clause-number : goal.returns-in_err-accept-clause-number
+unfolding run_number run_at_number
+returns-in_err-accept-clause-number c = hands-on _ _ c.from_residual.ensures (stops _ _ (stops _ _ c.in_err-accept.ensures.number))
 
-pub work_refusal-wrong-requires : goal.work_refusal-wrong-requires
-work_refusal-wrong-requires c =
-    let t = c.accept_run-number.ensures.accepted c.if-number-ne0.false in
-    (t.0.held.links-held.nodes-fit, t.0.held.links-held.links-fit)
+pub returns-in_err-bounds_test-clause-number : goal.returns-in_err-bounds_test-clause-number
+unfolding run_number run_at_number
+returns-in_err-bounds_test-clause-number c =
+    hands-on _ _ c.from_residual-in_err-bounds_test.ensures
+    (stops _ _ (passes _ c.in_ok-accept.ensures.number (rw c.pair_count.ensures at c.in_err-bounds_test.ensures.number)))
 
-pub returns-then-wrong-ne0 : goal.returns-then-wrong-ne0
-returns-then-wrong-ne0 c =
-    let a = c.args in let whole = run-refused (taken_out a.windows.now a.minute) (run_at_number (in_words a.h a.links.now a.events.now) (length a.lower.now) (length a.upper.now) a.windows.now a.minute) a.h a.links.now a.events.now a.lower.now a.upper.now _
-    (work-decides (in_words a.h a.links.now a.events.now) (length a.lower.now) (length a.upper.now) a.windows.now a.minute _ _ c.accept_run-number.ensures.number c.if-number-ne0.false c.work_refusal-wrong.ensures)
-    c.if-wrong-ne0.true in record { answer = whole.0; lowers = whole.1.0; uppers = whole.1.1.0; demand3 = whole.1.1.1 }
+pub returns-in_err-work_refusal-clause-number : goal.returns-in_err-work_refusal-clause-number
+unfolding run_number run_at_number
+returns-in_err-work_refusal-clause-number c =
+    hands-on _ _ c.from_residual-in_err-work_refusal.ensures
+    (passes _ (passes _ c.in_ok-accept.ensures.number (rw c.pair_count.ensures at c.in_ok-bounds_test.ensures.number)) (last c.in_err-work_refusal.ensures))
 
-pub fill_bounds-requires : goal.fill_bounds-requires
-fill_bounds-requires c =
-    let t = c.accept_run-number.ensures.accepted c.if-number-ne0.false in
-    record {
-      words_value = arrays-valid _ _ _ _ _ t.0;
-      nodes_in_bounds = t.1;
-    }
+pub returns-clause-number : goal.returns-clause-number
+unfolding run_number run_at_number
+returns-clause-number c =
+    passes _ (passes _ c.in_ok-accept.ensures.number (rw c.pair_count.ensures at c.in_ok-bounds_test.ensures.number)) (last c.in_ok-work_refusal.ensures)
 
-pub returns : goal.returns
-returns c =
-    let t = c.accept_run-number.ensures.accepted c.if-number-ne0.false in
+pub returns-clause-demand3 : goal.returns-clause-demand3
+returns-clause-demand3 c =
     let out = c.out_at-out.ensures in
-    let a = c.args in
-    let number = run_at_number (in_words a.h a.links.now a.events.now) (length a.lower.now) (length a.upper.now) a.windows.now a.minute in let whole = run-done (taken_out a.windows.now a.minute) number a.h a.links.now a.events.now a.lower.now a.upper.now _ _ t.0 _ _ _ t.1
-    c.fill_bounds.ensures.totals
+    enclosed-all (taken_out c.args.windows.now c.args.minute) _ _ _ _ _ c.in_ok-accept.ensures.taken _ _ _ _ _ (rw c.pair_count.ensures at c.in_ok-bounds_test.ensures.there) c.fill_bounds.ensures.totals
     (rw out at c.fill_bounds.ensures.lowers)
     (rw out at c.fill_bounds.ensures.uppers)
-    (sym (work-decides (in_words a.h a.links.now a.events.now) (length a.lower.now) (length a.upper.now) a.windows.now a.minute _ _ c.accept_run-number.ensures.number c.if-number-ne0.false c.work_refusal-wrong.ensures) ∙ c.if-wrong-ne0.false) in record { answer = whole.0; lowers = whole.1.0; uppers = whole.1.1.0; demand3 = whole.1.1.1 }
