@@ -3,6 +3,7 @@
 use mathlib.Core.Path.{◌≡◌, sym, ap, subst, ◌∙◌}
 use mathlib.Core.List.{List}
 use Prim.Native.Nat.{ℕ, ◌+◌, ◌-◌, ◌≤◌, ◌<◌}
+use native.Mathlib.Omega.{arith}
 use lib.ListN.{length, get_or}
 use Rattle.mass.specs.Split.{whole}
 use Rattle.plan.specs.Plan.{Plan}
@@ -12,10 +13,12 @@ use Rattle.plan_lists.specs.Taken.{Taken}
 use Rattle.plan_lists.proofs.Accepted.{plan-held}
 use Rattle.network.specs.Outage.{intact}
 use Rattle.walk.specs.Walk.{count}
+use Rattle.walk.proofs.Valid.{plan-probable}
+use Rattle.sums.proofs.BoundsLaws.{lower-upper, upper-le}
 use Rattle.pairs.specs.BoundsFit.{BoundsFit}
 use Rattle.pairs.specs.Pairs.{pair_count, place}
 use Rattle.pairs.proofs.PairLaws.{pairs-most}
-use Rattle.bounds.specs.Bounds.{Encloses}
+use Rattle.bounds.specs.Bounds.{cuts, lower_of, upper_of, Encloses}
 use Rattle.bounds.specs.Calls.{totals_of, bounds_of}
 use Rattle.bounds.specs.Summed.{Summed}
 use Rattle.bounds.specs.declared.Totals.{Totals}
@@ -54,3 +57,11 @@ module _ (h : Header) (links events : List ℕ) (v w : ℕ) (bytes words : List 
   pub pair-enclosed : Encloses intact plan v w r.lower r.upper (count plan)
   pair-enclosed =
       subst (λ (b : PairBounds). Encloses intact plan v w b.lower b.upper (count plan)) (sym bounds-are) (enclosed intact plan t.valid v w)
+
+  pub pair-ordered : (r.lower ≤ r.upper) × (r.upper ≤ whole)
+  pair-ordered =
+      let probable = plan-probable plan t.valid in
+      let low : r.lower ≡ lower_of intact plan v w = ap (λ (b : PairBounds). b.lower) bounds-are in
+      let high : r.upper ≡ upper_of intact plan v w = ap (λ (b : PairBounds). b.upper) bounds-are in
+      let most : upper_of intact plan v w ≤ whole = upper-le plan probable (cuts intact plan v w) in
+      (omega (arith, low, high, lower-upper plan probable (cuts intact plan v w)), omega (arith, high, most))

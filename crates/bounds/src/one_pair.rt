@@ -1,5 +1,5 @@
 // The bounds of one pair.
-ghost use Rattle.std.specs.Prelude.{◌≡◌, ◌+◌, ◌-◌, ◌<◌, min, length, get_or, take, IfOk, OnOk};
+ghost use Rattle.std.specs.Prelude.{◌≡◌, ◌+◌, ◌-◌, ◌<◌, ◌≤◌, min, length, get_or, take, IfOk, OnOk};
 ghost use Rattle.std.proofs.lemmas.List.Edits.{sets};
 ghost use Rattle.mass.specs.Refusal.{number_in};
 ghost use Rattle.mass.specs.Split.{whole};
@@ -71,6 +71,9 @@ pub fn pair_in(h: Header, links: &[u8; 256], words: &[u64; 512], v: usize, w: us
 pub fn pair(h: Header, links: &[u8], events: &[u64], v: u64, w: u64) -> Result<PairBounds, Refusal>
     ensures number { number_in result ≡ pair_number (in_words h links.now events.now) v w }
     ensures bounds { IfOk result (λ b. b ≡ bounds_of intact (plan_of_lists h links.now events.now) v w) }
+    ensures accepted { OnOk result ((plan_refusal (plan_of_lists h links.now events.now) ≡ 0)
+        × ((v < w) × (w < h.nodes))) }
+    ensures ordered { IfOk result (λ b. (b.lower ≤ b.upper) × (b.upper ≤ whole)) }
     ensures demand3 { IfOk result (λ b.
         Encloses intact (plan_of_lists h links.now events.now) v w b.lower b.upper
         (count (plan_of_lists h links.now events.now))) }
