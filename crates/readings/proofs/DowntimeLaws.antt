@@ -1,6 +1,6 @@
 -- Laws of the downtime of a pair's bounds: from bounds in units of mass to bounds in seconds, and that they are never refused.
 -- Assumes nothing.
-use mathlib.Core.Path.{◌≡◌, ap}
+use mathlib.Core.Path.{◌≡◌, sym, ap, ap₂, ◌∙◌}
 use Prim.Native.Nat.{ℕ, ◌*◌, ◌≤◌}
 use native.Mathlib.Nat.{mul-le-mul_right}
 use native.Mathlib.Omega.{arith}
@@ -14,7 +14,7 @@ use Rattle.network.specs.Outage.{Outage}
 use Rattle.walk.proofs.Valid.{plan-probable}
 use Rattle.sums.proofs.BoundsLaws.{lower-upper, upper-le}
 use Rattle.bounds.specs.Bounds.{cuts, lower_of, upper_of}
-use Rattle.readings.specs.Downtime.{year, downtime_refusal}
+use Rattle.readings.specs.Downtime.{year, downtime_refusal, NoBounds}
 
 -- a bound m of D (d), S for 10^(9n), and its seconds s
 pub below_step : (m s S d : ℕ) → s * whole ≤ m * year → m * S ≤ d * whole → s * S ≤ d * year
@@ -38,3 +38,7 @@ bounds-fit out p valid v w =
     let least : lower_of out p v w ≤ upper_of out p v w = lower-upper p probable (cuts out p v w) in
     let most : upper_of out p v w ≤ whole = upper-le p probable (cuts out p v w) in
     none-refused (lower_of out p v w) (upper_of out p v w) (fits (lower_of out p v w) (omega arith)) (fits (upper_of out p v w) most)
+
+-- so two masses that are refused are the bounds of no pair
+pub none-bounds : (lower upper : ℕ) → (downtime_refusal lower upper ≡ 0 → ⊥) → NoBounds lower upper
+none-bounds lower upper some out p valid v w is-lower is-upper = some (ap₂ downtime_refusal (sym is-lower) (sym is-upper) ∙ bounds-fit out p valid v w)

@@ -1,5 +1,6 @@
 -- Laws of the conditional figure: which step of F rounds, and that no figure is a NaN.
 -- Assumes nothing.
+use Rattle.std.specs.Prelude.{Option, Some}
 use mathlib.Core.Path.{◌≡◌, refl, sym, ap, subst, ◌∙◌}
 use mathlib.Core.Bool.{Bool, true, false, not, cond, true≢false}
 use mathlib.Core.Logic.{inl, inr}
@@ -19,8 +20,6 @@ use lib.Ieee.Positive.{positive, positive-finite, positive_of_value, between}
 use Rattle.mass.specs.Split.{certain, whole}
 use Rattle.readings.specs.Figure.{float, float_of, shares_of, floats_in, Numbers}
 use Rattle.readings.specs.declared.Shares.{Shares}
-use Rattle.readings.specs.declared.Figured.{Figured}
-use Rattle.readings.specs.declared.Figured.TheVariants as figured
 
 -- ---- sums and products of floats that are whole numbers
 
@@ -189,5 +188,5 @@ shares-numbers lower examined l e some = (
 )
 
 -- law: so the bits of a figure that was given may be taken
-pub given-numbers : (r : Figured) (s : Shares) → r ≡ figured.Given s → Numbers (floats_in r) → T (not (is_nan s.disconnected)) × T (not (is_nan s.examined))
-given-numbers r s e n = let m = subst (λ (x : Figured). Numbers (floats_in x)) e n in (m.0, m.1.0)
+pub given-numbers : (r : Option Shares) (s : Shares) → r ≡ Some s → Numbers (floats_in r) → T (not (is_nan s.disconnected)) × T (not (is_nan s.examined))
+given-numbers r s e n = let m = subst (λ (x : Option Shares). Numbers (floats_in x)) e n in (m.0, m.1.0)

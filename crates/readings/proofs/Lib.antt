@@ -1,8 +1,6 @@
 -- Laws that the proofs of the crate `readings` share.
-pub mod NumberLaws
 pub mod Seek
 pub mod WitnessPromise
-pub mod PairTold
 pub mod Figures
 pub mod FigureLaws
 pub mod DowntimeLaws

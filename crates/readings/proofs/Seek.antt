@@ -1,11 +1,11 @@
 -- The search for a witness over the relevant scenarios of the walk.
 -- Assumes nothing.
+use Rattle.std.specs.Prelude.{Some, None}
 use mathlib.Core.Path.{◌≡◌, refl, sym, ap, ap₂, ◌∙◌}
-use mathlib.Core.Bool.{Bool, true, false, not}
+use mathlib.Core.Bool.{true, false}
 use mathlib.Core.List.{List, [], ◌∷◌}
 use Prim.Native.Nat.{ℕ, ◌/◌, ◌%◌, ◌^◌, ◌<◌}
 use lib.Pow.{low, high}
-use Rattle.mass.specs.Refusal.{refuse}
 use Rattle.sets.specs.Sets.{joined}
 use Rattle.plan.specs.Plan.{Plan}
 use Rattle.plan.specs.Lists.{links_of, events_of}
@@ -22,9 +22,8 @@ use Rattle.walk.specs.Steps.{StepTaken}
 use Rattle.walk.specs.declared.WalkStep.{WalkStep}
 use Rattle.walk.proofs.Resume.{scenarios-found, scenarios-none}
 use Rattle.bounds.specs.Bounds.{cuts}
-use Rattle.readings.specs.Witness.{some, failing_of, witness_answer}
-use Rattle.readings.specs.Search.{reached_scenarios, searched, Seeking}
-use Rattle.readings.specs.declared.Witnessed.TheVariants as witnessed
+use Rattle.readings.specs.Witness.{some, failing_of}
+use Rattle.readings.specs.Search.{found, reached_scenarios, searched, Seeking}
 use Rattle.readings.proofs.FirstLaws.{some-here, some-passed, first-here, first-passed}
 
 -- what the code finds out of a scenario's topology
@@ -50,17 +49,17 @@ words_of lo hi fits s e = λ i. record { low = below i; high = above i }
 
 module _ (p : Plan) (v w : ℕ) where
   -- of no scenario
-  nothing : witnessed.Refused 14 ≡ searched intact p v w []
+  nothing : None ≡ searched intact p v w []
   unfolding some
   nothing = refl
 
   module _ (here : Scenario) (later : List Scenario) where
     -- the first one disconnects the pair
-    first-cuts : cuts intact p v w here ≡ true → witnessed.Found (failing_of here) ≡ searched intact p v w (here ∷ later)
+    first-cuts : cuts intact p v w here ≡ true → Some (failing_of here) ≡ searched intact p v w (here ∷ later)
     first-cuts c =
         sym
         (ap₂
-        (λ (b : Bool) (s : Scenario). witness_answer (refuse (not b) 14) (failing_of s))
+        found
         (some-here (cuts intact p v w) here later c)
         (first-here (cuts intact p v w) here later c))
 
@@ -69,7 +68,7 @@ module _ (p : Plan) (v w : ℕ) where
     first-joins c =
         sym
         (ap₂
-        (λ (b : Bool) (s : Scenario). witness_answer (refuse (not b) 14) (failing_of s))
+        found
         (some-passed (cuts intact p v w) here later c)
         (first-passed (cuts intact p v w) here later c))
 
@@ -96,7 +95,7 @@ module _ (h : Header) (links words : List ℕ) (at₀ : ℕ) (stack₀ : List �
   here = scenario_of h.events (joined r.low r.high)
 
   -- no scenario is left
-  pub ended : r.found ≡ false → witnessed.Refused 14 ≡ searched intact p v w all
+  pub ended : r.found ≡ false → None ≡ searched intact p v w all
   ended e = nothing p v w ∙ ap (searched intact p v w) (sym (scenarios-none h.events h.threshold words at stack left stack' r s e)) ∙ g.answers
 
   -- one is
@@ -104,9 +103,9 @@ module _ (h : Header) (links words : List ℕ) (at₀ : ℕ) (stack₀ : List �
   from_first e = ap (searched intact p v w) (sym (scenarios-found h.events h.threshold words at stack left stack' r s e)) ∙ g.answers
 
   pub found_here : r.found ≡ true → cuts intact p v w here ≡ true → r.low < 2 ^ 64
-      → witnessed.Found (record { low = r.low; high = r.high }) ≡ searched intact p v w all
+      → Some (record { low = r.low; high = r.high }) ≡ searched intact p v w all
   found_here e c fits =
-      ap witnessed.Found (words_of r.low r.high fits here (sym (failing-scenario h.events (joined r.low r.high) s.decided)))
+      ap Some (words_of r.low r.high fits here (sym (failing-scenario h.events (joined r.low r.high) s.decided)))
       ∙ first-cuts p v w here later c
       ∙ from_first e
 

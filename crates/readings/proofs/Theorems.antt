@@ -1,7 +1,8 @@
 -- The downtime's rounding and what it encloses (document 02, request U1); what 14 means (document 01, section "Further readings of a plan"),
 -- and that the witness is the first scenario that disconnects the pair (document 02, request U5).
 -- Assumes nothing.
-use mathlib.Core.Path.{◌≡◌, refl, sym, ap, subst}
+use Rattle.std.specs.Prelude.{Result, Ok, Err, IfOk}
+use mathlib.Core.Path.{◌≡◌, refl, sym, ap, subst, ◌∙◌}
 use mathlib.Core.Bool.{true, false}
 use mathlib.Core.List.Memᴰ
 use mathlib.Core.List.{List, Memᴰ}
@@ -11,7 +12,9 @@ use native.Mathlib.Omega.{arith}
 use borrow.Author.Tests.{not-false}
 use lib.ListN.{length}
 use Rattle.mass.specs.Split.{whole}
-use Rattle.mass.proofs.RefusalLaws.{first-none, refuse-none}
+use Rattle.mass.proofs.RefusalLaws.{first-none, refuse-none, number-some}
+use Rattle.mass.specs.Refusal.{number_in}
+use Rattle.mass.specs.declared.refusal.Refusal.{Refusal}
 use Rattle.plan.specs.Plan.{Plan}
 use Rattle.plan.specs.LentLists.{Lent, plan_lent}
 use Rattle.network.specs.Outage.{intact}
@@ -27,10 +30,9 @@ use Rattle.readings.proofs.DowntimeLaws.{below_step, above_step}
 use Rattle.readings.proofs.FirstLaws.{some-member, first_found, none-earlier}
 use Rattle.bounds.specs.Bounds.{cuts}
 use Rattle.readings.specs.Witness.{some, none_test, witness_number, first_cut, failing_of}
-use Rattle.readings.specs.Witness.{witness_answer, failing_in, witness_of}
+use Rattle.readings.specs.Witness.{witness_of}
 use Rattle.readings.specs.First.{First, Shows}
-use Rattle.readings.specs.declared.Witnessed.{Witnessed}
-use Rattle.readings.specs.declared.Witnessed.TheVariants as witnessed
+use Rattle.walk.specs.declared.Failing.{Failing}
 
 -- the lower seconds are rounded down: less than a second is lost
 pub lower-rounds : (m : ℕ) → (lower_seconds m * whole ≤ m * year) × (m * year < (lower_seconds m + 1) * whole)
@@ -88,9 +90,12 @@ module _ (l : Lent) (v w : ℕ) (accepted : witness_number intact l v w ≡ 0) w
   unfolding witness_number
   found_some = not-false _ (refuse-none _ 13 (first-none _ _ (first-none _ _ accepted).1).0)
 
-  -- the answer is the set of failing events of the first examined scenario that disconnects the pair
-  pub witness-found : witness_of intact l v w ≡ witnessed.Found (failing_of (first_cut intact p v w))
-  witness-found = ap (λ (n : ℕ). witness_answer n (failing_of (first_cut intact p v w))) accepted
+  -- every answer with the number of the call, and with the witness where it is given, is the set of failing events of the first examined
+  -- scenario that disconnects the pair
+  pub witness-found : (r : Result Failing Refusal) → number_in r ≡ witness_number intact l v w → IfOk r (λ set. set ≡ witness_of intact p v w)
+      → r ≡ Ok (failing_of (first_cut intact p v w))
+  witness-found (Ok set) e is = ap Ok is
+  witness-found (Err refused) e is = absurd (number-some refused (e ∙ accepted))
 
   pub witness-first : First (cuts intact p v w) (examined p) (first_cut intact p v w)
   witness-first = first_found (cuts intact p v w) (examined p) found_some
@@ -101,14 +106,13 @@ module _ (l : Lent) (v w : ℕ) (accepted : witness_number intact l v w ≡ 0) w
       none-earlier (cuts intact p v w) (examined p) (first_cut intact p v w) (examined-ordered p) witness-first s (among-member s (examined p) x)
 
   -- it is examined and disconnects the pair, as document 01 asks
-  pub witness-shows : Shows intact p v w (examined p) (failing_in (witness_of intact l v w))
+  pub witness-shows : Shows intact p v w (examined p) (witness_of intact p v w)
   witness-shows =
-      subst (λ (r : Witnessed). Shows intact p v w (examined p) (failing_in r)) (sym witness-found)
-      (record {
+      record {
         scenario = first_cut intact p v w;
         failing = div-add-mod' (failing_set (first_cut intact p v w)) (2 ^ 64);
         member =
             member-among _ _
             (subst (Memᴰ (first_cut intact p v w)) (sym witness-first.parts) (Memᴰ.append_right witness-first.before (Memᴰ.head refl)));
         disconnects = witness-first.holds;
-      })
+      }

@@ -1,7 +1,7 @@
 -- Downtime: document 01, section "Further readings of a plan", with the rounding of document 02, request U1.
 -- Assumes nothing.
 use Rattle.std.specs.Prelude.{◌≡◌, refl, [], ◌∷◌, ℕ, ◌+◌, ◌-◌, ◌*◌, ◌/◌, ◌≤◌, ◌<◌, length}
-use Rattle.mass.specs.Refusal.{first, answered}
+use Rattle.mass.specs.Refusal.{first}
 use Rattle.mass.specs.Split.{whole, mass_test}
 use Rattle.plan.specs.Plan.{Plan}
 use Rattle.plan.specs.LentLists.{plan_refusal}
@@ -9,8 +9,6 @@ use Rattle.network.specs.Outage.{Outage}
 use Rattle.sums.specs.Exact.{scale, exact_cut}
 use Rattle.bounds.specs.Bounds.{cuts, lower_of, upper_of}
 use Rattle.readings.specs.declared.Seconds.{Seconds}
-use Rattle.readings.specs.declared.Timed.{Timed}
-use Rattle.readings.specs.declared.Timed.TheVariants as timed
 
 -- the seconds of 365 days
 abbrev pub year : ℕ
@@ -32,20 +30,6 @@ downtime_refusal lower upper = first (mass_test lower ∷ mass_test upper ∷ []
 abbrev pub seconds_of : ℕ → ℕ → Seconds
 seconds_of lower upper = record { lower = lower_seconds lower; upper = upper_seconds upper }
 
--- the answer of a downtime
-abbrev pub downtime_answer : ℕ → Seconds → Timed
-downtime_answer number seconds = answered timed.Refused (timed.Given seconds) number
-
--- the number of a downtime's answer
-abbrev pub timed_number : Timed → ℕ
-timed_number (timed.Refused number) = number
-timed_number (timed.Given seconds) = 0
-
--- the seconds in an answer: both are 0 where it refuses
-abbrev pub seconds_in : Timed → Seconds
-seconds_in (timed.Refused number) = record { lower = 0; upper = 0 }
-seconds_in (timed.Given seconds) = seconds
-
 -- the exact downtime, D × 31,536,000 seconds for a D in units of 10^-9n, lies between the two seconds
 pub record DowntimeWithin (n d : ℕ) (seconds : Seconds) : Type 0 where
   pub below : seconds.lower * scale n ≤ d * year
@@ -57,6 +41,11 @@ abbrev pub EnclosesDowntime : ℕ → ℕ → Seconds → Type 0
 EnclosesDowntime lower upper seconds =
     (out : Outage) (p : Plan) → plan_refusal p ≡ 0 → (v w : ℕ) → v < w → w < p.nodes → lower_of out p v w ≡ lower → upper_of out p v w ≡ upper
     → DowntimeWithin (length p.events) (exact_cut p (cuts out p v w)) seconds
+
+-- two masses are the bounds of no pair
+abbrev pub NoBounds : ℕ → ℕ → Type 0
+NoBounds lower upper =
+    (out : Outage) (p : Plan) → plan_refusal p ≡ 0 → (v w : ℕ) → lower_of out p v w ≡ lower → upper_of out p v w ≡ upper → ⊥
 
 -- examples: nothing; the whole year; 62,500,000,000,000 units, which make 1,971 seconds and are not raised
 example-exact : (seconds_of 0 0 ≡ record { lower = 0; upper = 0 }) × (seconds_of whole whole ≡ record { lower = year; upper = year })

@@ -1,10 +1,12 @@
 -- Computed examples of the witness, the figure and the downtime, on marked plans of document 01 and one like them.
 -- Assumes nothing.
-use Rattle.std.specs.Prelude.{◌≡◌, refl, true, false, [], ◌∷◌, ℕ, ◌*◌}
+use Rattle.std.specs.Prelude.{◌≡◌, refl, true, false, [], ◌∷◌, ℕ, ◌*◌, Some, None}
 use Rattle.sets.specs.Sets.{bit, any_below}
 use Rattle.mass.specs.Refusal.{first}
 use Rattle.plan.specs.Plan.{Plan}
-use Rattle.plan.specs.LentLists.{plan_refusal, link_list_refusal, event_list_refusal}
+use Rattle.plan.specs.LentLists.{plan_refusal, link_list_refusal, event_list_refusal, in_words, lists_number}
+use Rattle.plan.specs.Lists.{links_of, events_of}
+use Rattle.bounds.specs.Calls.{pair_number}
 use Rattle.network.specs.Outage.{intact, union_of}
 use Rattle.network.specs.Topology.{node_works, link_works, joins, adjacent}
 use Rattle.topology.specs.Paths.{via, disconnected}
@@ -15,7 +17,6 @@ use Rattle.bounds.specs.Bounds.{cuts, lower_of, upper_of}
 use Rattle.readings.specs.Downtime.{year, seconds_of}
 use Rattle.readings.specs.Witness.{some, first_where, none_test, first_cut, failing_of}
 use Rattle.readings.specs.Figure.{figure_of, shares_of, float_of}
-use Rattle.readings.specs.declared.Figured.TheVariants as figured
 use Rattle.std.specs.Float.{binary64}
 use Rattle.std.specs.Float.Ieee.{add, mul, div, of_int, to_bits}
 use Rattle.mass.specs.Split.{whole}
@@ -62,12 +63,16 @@ example-first : (first_cut intact (twice 1) 0 1 ≡ false ∷ true ∷ []) × (f
 unfolding ends disconnected via node_works link_works joins adjacent any_below union_of bit first_where
 example-first = (refl, refl)
 
--- marked plan 9 has no figure; marked plan 2 has that of 10^17 and 10^18, and none where the call is refused
-example-figure : (figure_of intact 0 (line 500000000 1000000000000000000 100) 0 1 ≡ figured.NoFigure)
-    × (figure_of intact 0 (line 100000000 100000000000000000 100) 0 1 ≡ figured.Given (shares_of 100000000000000000 1000000000000000000))
-    × (figure_of intact 13 (line 500000000 1000000000000000000 100) 1 1 ≡ figured.Refused 13)
+-- marked plan 9 has no figure; marked plan 2 has that of 10^17 and 10^18
+example-figure : (figure_of intact (line 500000000 1000000000000000000 100) 0 1 ≡ None)
+    × (figure_of intact (line 100000000 100000000000000000 100) 0 1 ≡ Some (shares_of 100000000000000000 1000000000000000000))
 unfolding ends disconnected via node_works link_works joins adjacent any_below union_of bit
-example-figure = (refl, refl, refl)
+example-figure = (refl, refl)
+
+-- and the call for a pair of plan 9 that is no pair is refused
+example-refused : pair_number (in_words (record { nodes = 2; links = 1; events = 1; threshold = 1000000000000000000; cap = 100 }) (0 ∷ 1 ∷ []) (500000000 ∷ 0 ∷ 1 ∷ 0 ∷ [])) 1 1 ≡ 13
+unfolding pair_number lists_number link_list_refusal event_list_refusal links_of events_of first
+example-refused = refl
 
 -- examples: a tenth of one whole, examined whole; and a lower bound of 0 of a single unit examined
 example-tenth : (to_bits binary64 (shares_of 100000000000000000 whole).disconnected ≡ 0x3fb999999999999a)

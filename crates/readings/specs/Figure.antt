@@ -2,7 +2,7 @@
 -- were not examined are left out of it. Floats are those of the logic's account of IEEE 754: a value of binary64 is one bit pattern, but
 -- for NaN.
 -- Assumes nothing.
-use Rattle.std.specs.Prelude.{not, List, [], ◌∷◌, ℕ, zero, suc, ◌/◌, ◌%◌, T, pos, Float}
+use Rattle.std.specs.Prelude.{not, List, [], ◌∷◌, ℕ, zero, suc, ◌/◌, ◌%◌, T, pos, Float, Option, Some, None}
 use Rattle.std.specs.Float.{binary64}
 use Rattle.std.specs.Float.Ieee.{add, mul, div, of_int, is_nan}
 use Rattle.mass.specs.Split.{certain, whole}
@@ -11,8 +11,6 @@ use Rattle.network.specs.Outage.{Outage}
 use Rattle.walk.specs.Walk.{mass_examined}
 use Rattle.bounds.specs.Bounds.{lower_of}
 use Rattle.readings.specs.declared.Shares.{Shares}
-use Rattle.readings.specs.declared.Figured.{Figured}
-use Rattle.readings.specs.declared.Figured.TheVariants as figured
 
 -- a whole number as a float, rounded once where the format does not hold it
 abbrev pub float : ℕ → Float
@@ -29,28 +27,19 @@ shares_of lower examined = record {
   examined = div binary64 (float_of examined) (float whole);
 }
 
--- the case of the answer that a number, E and the pair of floats stand for: `Refused` with a number that is not 0; no figure if E = 0; else
--- the pair
-abbrev pub figure_answer : ℕ → ℕ → Shares → Figured
-figure_answer (suc number) examined shares = figured.Refused (suc number)
-figure_answer zero zero shares = figured.NoFigure
-figure_answer zero (suc examined) shares = figured.Given shares
+-- the figure for E and the pair of floats: none if E = 0, else the pair
+abbrev pub figure_given : ℕ → Shares → Option Shares
+figure_given zero shares = None
+figure_given (suc examined) shares = Some shares
 
--- the number of a figure's answer
-abbrev pub figured_number : Figured → ℕ
-figured_number (figured.Refused number) = number
-figured_number figured.NoFigure = 0
-figured_number (figured.Given shares) = 0
+-- the floats of a figure; there are none where there is no figure
+abbrev pub floats_in : Option Shares → List Float
+floats_in None = []
+floats_in (Some shares) = shares.disconnected ∷ shares.examined ∷ []
 
--- the floats in an answer: both are 0 where it refuses, and there are none where there is no figure
-abbrev pub floats_in : Figured → List Float
-floats_in (figured.Refused number) = float 0 ∷ float 0 ∷ []
-floats_in figured.NoFigure = []
-floats_in (figured.Given shares) = shares.disconnected ∷ shares.examined ∷ []
-
--- the figure of the pair (v, w) of a plan, as the answer to a call that is refused with a number, 0 if it is not
-abbrev pub figure_of : Outage → ℕ → Plan → ℕ → ℕ → Figured
-figure_of out number p v w = figure_answer number (mass_examined p) (shares_of (lower_of out p v w) (mass_examined p))
+-- the figure of the pair (v, w) of a plan
+abbrev pub figure_of : Outage → Plan → ℕ → ℕ → Option Shares
+figure_of out p v w = figure_given (mass_examined p) (shares_of (lower_of out p v w) (mass_examined p))
 
 -- no float of a list is a NaN
 abbrev pub Numbers : List Float → Type 0

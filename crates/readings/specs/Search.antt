@@ -1,6 +1,6 @@
 -- The search for a witness: what its loop asks and promises, from any state.
 -- Assumes nothing.
-use Rattle.std.specs.Prelude.{List, ℕ, ◌<◌, take}
+use Rattle.std.specs.Prelude.{Bool, true, false, List, ℕ, ◌<◌, take, Option, Some, None}
 use Rattle.plan.specs.Plan.{Plan}
 use Rattle.plan.specs.declared.Header.{Header}
 use Rattle.walk.specs.Scenario.{Scenario}
@@ -9,12 +9,16 @@ use Rattle.walk.specs.Stack.{to_come, Stack}
 use Rattle.plan.specs.Held.{Held}
 use Rattle.network.specs.Outage.{Outage}
 use Rattle.bounds.specs.Bounds.{cuts}
-use Rattle.readings.specs.declared.Witnessed.{Witnessed}
-use Rattle.readings.specs.Witness.{first_where, none_test, failing_of, witness_answer}
+use Rattle.walk.specs.declared.Failing.{Failing}
+use Rattle.readings.specs.Witness.{some, first_where, failing_of}
 
--- what a search among the scenarios of a list answers, where nothing else is tested: 14, or the first that disconnects the pair
-abbrev pub searched : Outage → Plan → ℕ → ℕ → List Scenario → Witnessed
-searched out p v w list = witness_answer (none_test out p v w list) (failing_of (first_where (cuts out p v w) list))
+-- what a search among the scenarios of a list finds: the failing events of the first that disconnects the pair, if one does
+abbrev pub found : Bool → Scenario → Option Failing
+found true s = Some (failing_of s)
+found false s = None
+
+abbrev pub searched : Outage → Plan → ℕ → ℕ → List Scenario → Option Failing
+searched out p v w list = found (some (cuts out p v w) list) (first_where (cuts out p v w) list)
 
 -- the relevant scenarios among the next k ends of a walk
 abbrev pub reached_scenarios : Header → List ℕ → ℕ → List ℕ → ℕ → List Scenario

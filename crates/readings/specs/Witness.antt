@@ -1,7 +1,7 @@
 -- Witness: document 01, section "Further readings of a plan", as document 02, request U5, has it: the first one.
 -- Assumes nothing.
 use Rattle.std.specs.Prelude.{Bool, true, false, not, ◌||◌, List, [], ◌∷◌, ℕ, ◌/◌, ◌%◌, ◌^◌}
-use Rattle.mass.specs.Refusal.{refuse, first, answered}
+use Rattle.mass.specs.Refusal.{refuse, first}
 use Rattle.plan.specs.Plan.{Plan}
 use Rattle.plan.specs.LentLists.{Lent, plan_lent}
 use Rattle.network.specs.Outage.{Outage}
@@ -10,8 +10,6 @@ use Rattle.walk.specs.Walk.{examined}
 use Rattle.walk.specs.declared.Failing.{Failing}
 use Rattle.bounds.specs.Bounds.{cuts}
 use Rattle.bounds.specs.Calls.{pair_number}
-use Rattle.readings.specs.declared.Witnessed.{Witnessed}
-use Rattle.readings.specs.declared.Witnessed.TheVariants as witnessed
 
 -- whether a test holds of one of the scenarios of a list
 unfoldable pub some : (Scenario → Bool) → List Scenario → Bool
@@ -39,21 +37,6 @@ first_cut out p v w = first_where (cuts out p v w) (examined p)
 abbrev pub failing_of : Scenario → Failing
 failing_of s = record { low = failing_set s % 2 ^ 64; high = failing_set s / 2 ^ 64 }
 
--- the answer of a witness
-abbrev pub witness_answer : ℕ → Failing → Witnessed
-witness_answer number set = answered witnessed.Refused (witnessed.Found set) number
-
--- the number of a witness's answer
-abbrev pub witnessed_number : Witnessed → ℕ
-witnessed_number (witnessed.Refused number) = number
-witnessed_number (witnessed.Found set) = 0
-
--- the set of failing events in an answer: both words are 0 where it refuses
-abbrev pub failing_in : Witnessed → Failing
-failing_in (witnessed.Refused number) = record { low = 0; high = 0 }
-failing_in (witnessed.Found set) = set
-
--- THE WITNESS of the pair (v, w) on lent lists, the whole answer: the number of the first refusal met, or the failing events of the first
--- examined scenario that disconnects the pair
-abbrev pub witness_of : Outage → Lent → ℕ → ℕ → Witnessed
-witness_of out l v w = witness_answer (witness_number out l v w) (failing_of (first_cut out (plan_lent l) v w))
+-- THE WITNESS of the pair (v, w): the failing events of the first examined scenario that disconnects the pair
+abbrev pub witness_of : Outage → Plan → ℕ → ℕ → Failing
+witness_of out p v w = failing_of (first_cut out p v w)

@@ -1,5 +1,6 @@
 // Witness: the first examined scenario that disconnects a pair.
-ghost use Rattle.std.specs.Prelude.{◌≡◌, ◌^◌, ◌<◌};
+ghost use Rattle.std.specs.Prelude.{◌≡◌, ◌^◌, ◌<◌, IfOk};
+ghost use Rattle.mass.specs.Refusal.{number_in};
 ghost use Rattle.sets.specs.Sets.{joined};
 ghost use Rattle.plan.specs.LentLists.{plan_of_lists, in_words};
 ghost use Rattle.walk.specs.Scenario.{scenario_of};
@@ -8,10 +9,10 @@ ghost use Rattle.network.specs.Table.{LinksAt};
 ghost use Rattle.bounds.specs.Bounds.{cuts};
 ghost use Rattle.plan.specs.Held.{Held};
 ghost use Rattle.network.specs.Outage.{intact};
-ghost use Rattle.readings.specs.Witness.{witness_of};
+ghost use Rattle.readings.specs.Witness.{witness_number, witness_of};
 ghost use Rattle.readings.specs.Search.{reached_scenarios, searched, Seeking};
 
-use crate::Witnessed;
+use mass::Refusal;
 use network::Failed;
 use plan::Header;
 use walk::Failing;
@@ -61,7 +62,7 @@ fn search_on(
     v: usize,
     w: usize,
     k: u64,
-) -> Witnessed
+) -> Option<Failing>
     requires links_at { LinksAt links.now h.links table.now }
     requires seeking { Seeking h links.now words.now start stack.old v w }
     ensures { result ≡ searched intact (plan_of_lists h links.now words.now) v w
@@ -74,14 +75,14 @@ fn search_on(
     loop {
         let r = walk::next_relevant(h.events, h.threshold, words, &mut *stack, at, left);
         if !r.found {
-            return Witnessed::Refused(14);
+            return None;
         }
         let failing = Failing {
             low: r.low,
             high: r.high,
         };
         if cut_by(h, links, words, table, failing, v, w) {
-            return Witnessed::Found(failing);
+            return Some(failing);
         }
         at = r.at;
         left = r.left;
@@ -89,7 +90,13 @@ fn search_on(
 }
 
 // The witness of an accepted plan: the walk from its root, for at most cap ends.
-fn search_all(h: Header, links: &[u8; 256], words: &[u64; 512], v: usize, w: usize) -> Witnessed
+fn search_all(
+    h: Header,
+    links: &[u8; 256],
+    words: &[u64; 512],
+    v: usize,
+    w: usize,
+) -> Option<Failing>
     requires held { Held h links.now words.now }
     requires v_bound { (v < 64) × (w < 64) }
     ensures { result ≡ searched intact (plan_of_lists h links.now words.now) v w
@@ -103,14 +110,13 @@ fn search_all(h: Header, links: &[u8; 256], words: &[u64; 512], v: usize, w: usi
 
 // The witness: the first examined scenario, in the walk's order, that disconnects the pair, as the set of its failing events; 14 where there
 // is none.
-pub fn witness(h: Header, links: &[u8], events: &[u64], v: u64, w: u64) -> Witnessed
-    ensures answer { result ≡ witness_of intact (in_words h links.now events.now) v w }
+#[tactic(auto, using(mass::proofs::RefusalLaws::refuses), unfolding(crate::specs::Witness::witness_number))]
+pub fn witness(h: Header, links: &[u8], events: &[u64], v: u64, w: u64) -> Result<Failing, Refusal>
+    ensures number { number_in result ≡ witness_number intact (in_words h links.now events.now) v w }
+    ensures set { IfOk result (λ set. set ≡ witness_of intact (plan_of_lists h links.now events.now) v w) }
 {
     let mut bytes = [0u8; 256];
     let mut words = [0u64; 512];
-    let number = bounds::accept_pair(h, links, events, v, w, &mut bytes, &mut words);
-    if number != 0 {
-        return Witnessed::Refused(number);
-    }
-    search_all(h, &bytes, &words, v as usize, w as usize)
+    bounds::accept_pair(h, links, events, v, w, &mut bytes, &mut words)?;
+    search_all(h, &bytes, &words, v as usize, w as usize).ok_or(Refusal::NoWitness)
 }

@@ -1,9 +1,11 @@
 // Downtime: the seconds of a year of 365 days that a lower and an upper mass stand for.
-ghost use Rattle.std.specs.Prelude.{◌≡◌, ◌+◌, ◌*◌, ◌/◌, ◌≤◌};
+ghost use Rattle.std.specs.Prelude.{◌≡◌, ◌+◌, ◌*◌, ◌/◌, ◌≤◌, IfOk, OnErr};
+ghost use Rattle.mass.specs.Refusal.{number_in};
 ghost use Rattle.mass.specs.Split.{whole};
-ghost use Rattle.readings.specs.Downtime.{downtime_refusal, downtime_answer, seconds_of, seconds_in, EnclosesDowntime};
+ghost use Rattle.readings.specs.Downtime.{downtime_refusal, seconds_of, EnclosesDowntime, NoBounds};
 
-use crate::{Seconds, Timed};
+use crate::Seconds;
+use mass::Refusal;
 
 // 31,536,000 seconds over 10^18 is 1971 over this number.
 const PARTS: u64 = 62_500_000_000_000;
@@ -29,15 +31,16 @@ pub fn seconds_of(lower: u64, upper: u64) -> Seconds
 }
 
 // The downtime of a lower and an upper mass: each times 31,536,000 seconds, over 10^18, the lower one rounded down and the upper one up.
-// Where the two are the bounds of a pair, with planned work or without, its exact downtime lies between the two answers.
-pub fn downtime(lower: u64, upper: u64) -> Timed
-    ensures answer { result ≡ downtime_answer (downtime_refusal lower upper) (seconds_of lower upper) }
-    ensures enclosed { EnclosesDowntime lower upper (seconds_in result) }
+// Where the two are the bounds of a pair, with planned work or without, nothing is refused, and its exact downtime lies between the two
+// answers.
+#[tactic(auto, using(mass::proofs::RefusalLaws::refuses))]
+pub fn downtime(lower: u64, upper: u64) -> Result<Seconds, Refusal>
+    ensures number { number_in result ≡ downtime_refusal lower upper }
+    ensures seconds { IfOk result (λ s. s ≡ seconds_of lower upper) }
+    ensures enclosed { IfOk result (λ s. EnclosesDowntime lower upper s) }
+    ensures given { OnErr result (NoBounds lower upper) }
 {
-    let tests = [mass::mass_test(lower), mass::mass_test(upper)];
-    let number = refusals::first_of(&tests);
-    if number != 0 {
-        return Timed::Refused(number);
-    }
-    Timed::Given(seconds_of(lower, upper))
+    mass::mass_test(lower)?;
+    mass::mass_test(upper)?;
+    Ok(seconds_of(lower, upper))
 }
