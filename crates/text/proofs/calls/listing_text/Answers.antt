@@ -21,7 +21,7 @@ copy_first-requires c =
     let b = c.args.plan.now in
     let room = array-room b (λ i. omega (arith, c.type_inv.plan i)) in
     let put = c.put_listing-size.ensures in
-    (size-kept (replicate {A = ℕ} 92789 0) _ (listing intact b) _ put.0 put.1 room, c.if-out-size.false)
+    (size-kept (replicate {A = ℕ} 92789 0) _ (listing intact b) _ put.0 put.1 room, omega (arith, c.if-out-size.false))
 
 pub returns : goal.returns
 returns c =
