@@ -1,8 +1,8 @@
 -- An accepted file read into the arrays: there is always room, and they denote the file's plan, which meets no refusal.
 -- Assumes nothing.
-use mathlib.Core.Path.{◌≡◌, refl, sym, ap, subst, ◌∙◌}
+use mathlib.Core.Path.{◌≡◌, sym, ap, subst, ◌∙◌}
 use mathlib.Core.List.{List, [], ◌∷◌}
-use Prim.Native.Nat.{ℕ, zero, suc, ◌+◌, ◌*◌, ◌<◌}
+use Prim.Native.Nat.{ℕ, suc, ◌+◌, ◌*◌, ◌<◌}
 use native.Mathlib.Omega.{arith}
 use lib.ListN.{length, get_or, drop}
 use lib.Seq.{sets}
@@ -10,9 +10,7 @@ use Rattle.plan.specs.Layout.{Bytes}
 use Rattle.plan.specs.Lists.{link_bytes, event_words}
 use Rattle.plan.specs.File.{refusal, plan_of, links_in, events_in}
 use Rattle.plan.specs.LentLists.{plan_of_lists}
-use Rattle.plan.specs.Calls.{filled, header_of, read_number, read_answer}
-use Rattle.plan.specs.declared.Header.{Header}
-use Rattle.plan.specs.declared.Reading.TheVariants as reading
+use Rattle.plan.specs.Calls.{filled, header_of, read_number}
 use Rattle.plan.proofs.FileLawsAccepted.{accepted-counts}
 use Rattle.plan_layout.proofs.LayoutFile.{ValidPlan, file-none, read-valid, valid-pass}
 use Rattle.plan_layout.proofs.Theorems.{read-denotes}
@@ -23,15 +21,6 @@ use Rattle.plan_reading.specs.Loaded.{Loaded}
 pub bytes-each : (b : List ℕ) → ((i : ℕ) → get_or b i 0 < 256) → Bytes b
 bytes-each [] h = tt
 bytes-each (x ∷ b) h = (h 0, bytes-each b (λ i. h (suc i)))
-
--- what the answer to a reading says of its number
-pub reading-refused : (number n : ℕ) (h : Header) → reading.Refused n ≡ read_answer number h → (n ≡ number) × (n ≡ 0 → ⊥)
-reading-refused zero n h e = absurd (let never : ◌≡◌ {A = ℕ} 0 1 = cc in omega arith)
-reading-refused (suc number) n h e = let is : n ≡ suc number = cc in (is, λ z. omega arith)
-
-pub reading-accepted : (number : ℕ) (x h : Header) → reading.Accepted x ≡ read_answer number h → (number ≡ 0) × (x ≡ h)
-reading-accepted zero x h e = (refl, cc)
-reading-accepted (suc number) x h e = absurd (let never : ◌≡◌ {A = ℕ} 0 1 = cc in omega arith)
 
 module _ (b links words : List ℕ) (bytes : Bytes b) (e : refusal b ≡ 0) (l : length links ≡ 256) (w : length words ≡ 512) where
   abbrev link_list : List ℕ

@@ -14,7 +14,7 @@ use Rattle.refusals.specs.Tests.{room_test}
 use Rattle.refusals.proofs.TestLaws.{room-pass}
 use Rattle.mass.proofs.RefusalLaws.{first-none, refuse-none}
 use Rattle.plan.specs.File.{event_size, refusal, events_at, links_in, events_in, plan_of}
-use Rattle.plan.specs.Calls.{filled, header_of, read_number, read_answer, header_in}
+use Rattle.plan.specs.Calls.{filled, header_of, read_number}
 use Rattle.plan.specs.Lists.{links_of, link_bytes, event_words}
 use Rattle.plan.specs.declared.Header.{Header}
 use Rattle.plan.proofs.FileLawsAccepted.{accepted-counts}
@@ -84,43 +84,28 @@ copied (suc number) count news room list f g l = rw (g (λ z. nothing number z))
     nothing : (n : ℕ) → suc n ≡ 0 → ⊥
     nothing n z = omega arith
 
-header-stop : (number : ℕ) (h : Header) → (number ≡ 0 → ⊥) → ((header_in (read_answer number h)).links ≡ 0) × ((header_in (read_answer number h)).events ≡ 0)
-header-stop zero h n = absurd (n refl)
-header-stop (suc number) h n = (refl, refl)
+-- ---- copying what was read into the lent lists
 
--- ---- copying what was read into the lent lists: h is the header of the answer
-
-module _ (link_room event_room : ℕ) (b : List ℕ) (h : Header) (p : h ≡ header_in (read_answer (read_number link_room event_room b) (header_of b))) where
-  header-go : read_number link_room event_room b ≡ 0 → h ≡ header_of b
-  header-go e = p ∙ ap (λ (n : ℕ). header_in (read_answer n (header_of b))) e
-
+module _ (link_room event_room : ℕ) (b : List ℕ) (h : Header) (p : h ≡ header_of b) (e : read_number link_room event_room b ≡ 0) where
   pub header-bounds : (2 * h.links ≤ link_room) × (h.events ≤ event_room) × (h.links ≤ 128) × (h.events ≤ 128)
   unfolding header_of
-  header-bounds = go (read_number link_room event_room b) refl
-    where
-      go : (n : ℕ) → read_number link_room event_room b ≡ n → (2 * h.links ≤ link_room) × (h.events ≤ event_room) × (h.links ≤ 128) × (h.events ≤ 128)
-      go zero e =
-          let r = read-room link_room event_room b e in
-          let k = accepted-counts b (read-accepted link_room event_room b e) in
-          rw (header-go e) (r.0, r.1, k.1, k.2)
-      go (suc n) e = rw (p ∙ ap (λ (n : ℕ). header_in (read_answer n (header_of b))) e) (omega arith, omega arith, omega arith, omega arith)
+  header-bounds =
+      let r = read-room link_room event_room b e in
+      let k = accepted-counts b (read-accepted link_room event_room b e) in
+      rw p (r.0, r.1, k.1, k.2)
 
   pub read-links : (room list : List ℕ) → 256 ≤ length room
       → sets list 0 (take (2 * h.links) (filled (read_number link_room event_room b) (link_bytes (plan_of b).links) room))
-      ≡ filled (read_number link_room event_room b) (link_bytes (plan_of b).links) list
+      ≡ sets list 0 (link_bytes (plan_of b).links)
   unfolding header_of plan_of
   read-links room list l =
-      copied (read_number link_room event_room b) (2 * h.links) (link_bytes (plan_of b).links) room list
-      (λ e. rw (header-go e) (sym (length-links (links_in b) (drop 20 b))))
-      (λ n. omega (arith, ap (λ (x : Header). x.links) p, (header-stop (read_number link_room event_room b) (header_of b) n).0))
-      (omega (arith, header-bounds))
+      let k : 2 * h.links ≡ length (link_bytes (plan_of b).links) = rw p (sym (length-links (links_in b) (drop 20 b))) in
+      rw (e, k, take-sets room (link_bytes (plan_of b).links) (omega (arith, header-bounds)))
 
   pub read-events : (room list : List ℕ) → 512 ≤ length room
       → sets list 0 (take (4 * h.events) (filled (read_number link_room event_room b) (event_words (plan_of b).events) room))
-      ≡ filled (read_number link_room event_room b) (event_words (plan_of b).events) list
+      ≡ sets list 0 (event_words (plan_of b).events)
   unfolding header_of plan_of
   read-events room list l =
-      copied (read_number link_room event_room b) (4 * h.events) (event_words (plan_of b).events) room list
-      (λ e. rw (header-go e) (sym (length-events (events_in b) (drop (20 + 2 * links_in b) b))))
-      (λ n. omega (arith, ap (λ (x : Header). x.events) p, (header-stop (read_number link_room event_room b) (header_of b) n).1))
-      (omega (arith, header-bounds))
+      let k : 4 * h.events ≡ length (event_words (plan_of b).events) = rw p (sym (length-events (events_in b) (drop (20 + 2 * links_in b) b))) in
+      rw (e, k, take-sets room (event_words (plan_of b).events) (omega (arith, header-bounds)))

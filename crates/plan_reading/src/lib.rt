@@ -7,4 +7,4 @@ mod input;
 mod reader;
 
 pub use input::read_input;
-pub use reader::{Members, header_in, members_of, put_event, read, read_at, read_core};
+pub use reader::{Members, members_of, put_event, read, read_at, read_core};

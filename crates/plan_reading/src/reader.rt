@@ -1,14 +1,16 @@
 // Reading a plan file into lent lists. A first pass only checks, so that a refusal changes nothing.
-ghost use Rattle.std.specs.Prelude.{◌≡◌, [], ◌∷◌, ◌+◌, ◌*◌, ◌/◌, ◌%◌, ◌^◌, ◌≤◌, length, drop};
+ghost use Rattle.std.specs.Prelude.{◌≡◌, [], ◌∷◌, ◌+◌, ◌*◌, ◌/◌, ◌%◌, ◌^◌, ◌≤◌, length, drop, IfOk};
 ghost use Rattle.std.proofs.lemmas.List.Edits.{sets};
+ghost use Rattle.mass.specs.Refusal.{number_in};
 ghost use Rattle.mass.specs.Split.{certain};
 ghost use Rattle.sets.specs.Sets.{joined};
 ghost use Rattle.plan.specs.Lists.{links_of, link_bytes, event_words};
 ghost use Rattle.plan.specs.File.{members_refusal, events_refusal, set_of, events_at, plan_of};
 ghost use Rattle.plan_reading.specs.Members.{node_value, link_value, Above};
-ghost use Rattle.plan.specs.Calls.{filled, header_of, read_number, read_answer, reading_number, header_in};
+ghost use Rattle.plan.specs.Calls.{filled, header_of, read_number};
 
-use plan::{Element, Header, Reading, Step, byte_at, number_at};
+use mass::Refusal;
+use plan::{Element, Header, byte_at, number_at};
 use plan_lists::{copy_bytes, copy_words};
 
 // The sets of an event: its nodes, links 0 to 63 and links 64 to 127.
@@ -68,8 +70,7 @@ pub fn members_of(s: &[u8], start: usize, count: u64, nodes: u64, links: u64) ->
     // The `left` members from `at` on are accepted, and with theirs the sets are the whole sets. No element so far has rank `least`
     // or more, so the next one is not in the sets yet. Each turn takes one of the `left` members.
     while 0 < left {
-        let answer = plan::member_at(s, at, nodes, links, least);
-        let Step::Member(element) = answer else {
+        let Ok(element) = plan::member_at(s, at, nodes, links, least) else {
             return sets;
         };
         sets = with_element(sets, element);
@@ -131,18 +132,13 @@ fn fill_links(s: &[u8], start: usize, count: u64, links: &mut [u8; 256])
 }
 
 // The tests of a reading: 1 to 11, then 12 for the two lists.
-fn read_test(s: &[u8], link_room: usize, event_room: usize) -> u32
-    ensures { result ≡ read_number link_room event_room s.now }
+#[tactic(auto, using(mass::proofs::RefusalLaws::refuses), unfolding(plan::specs::Calls::read_number))]
+fn read_test(s: &[u8], link_room: usize, event_room: usize) -> Result<(), Refusal>
+    ensures { number_in result ≡ read_number link_room event_room s.now }
 {
-    let number = plan::check(s);
-    if number != 0 {
-        return number;
-    }
-    let tests = [
-        refusals::room_test(link_room, 2 * (byte_at(s, 6) as usize)),
-        refusals::room_test(event_room, byte_at(s, 7) as usize),
-    ];
-    refusals::first_of(&tests)
+    plan::check(s)?;
+    refusals::room_test(link_room, 2 * (byte_at(s, 6) as usize))?;
+    refusals::room_test(event_room, byte_at(s, 7) as usize)
 }
 
 // Reads a plan into the arrays, where the lent lists have room for `link_room` bytes and `event_room` whole events.
@@ -152,8 +148,9 @@ pub fn read_core(
     event_room: usize,
     links: &mut [u8; 256],
     words: &mut [u64; 512],
-) -> Reading
-    ensures answer { result ≡ read_answer (read_number link_room event_room s.now) (header_of s.now) }
+) -> Result<Header, Refusal>
+    ensures number { number_in result ≡ read_number link_room event_room s.now }
+    ensures header { IfOk result (λ h. h ≡ header_of s.now) }
     ensures links { links.new ≡ filled (read_number link_room event_room s.now)
         (link_bytes (plan_of s.now).links)
         links.old }
@@ -161,10 +158,7 @@ pub fn read_core(
         (event_words (plan_of s.now).events)
         words.old }
 {
-    let number = read_test(s, link_room, event_room);
-    if number != 0 {
-        return Reading::Refused(number);
-    }
+    read_test(s, link_room, event_room)?;
     let header = plan::header_of(s);
     let count = header.links;
     fill_links(s, 20, count, &mut *links);
@@ -176,7 +170,7 @@ pub fn read_core(
         count,
         &mut *words,
     );
-    Reading::Accepted(header)
+    Ok(header)
 }
 
 // Reads the plan that begins at `at` into the arrays. A position past the end is that of an empty file.
@@ -187,9 +181,9 @@ pub fn read_at(
     event_room: usize,
     links: &mut [u8; 256],
     words: &mut [u64; 512],
-) -> Reading
-    ensures answer { result ≡ read_answer (read_number link_room event_room (drop at s.now))
-        (header_of (drop at s.now)) }
+) -> Result<Header, Refusal>
+    ensures number { number_in result ≡ read_number link_room event_room (drop at s.now) }
+    ensures header { IfOk result (λ h. h ≡ header_of (drop at s.now)) }
     ensures links { links.new ≡ filled (read_number link_room event_room (drop at s.now))
         (link_bytes (plan_of (drop at s.now)).links) links.old }
     ensures words { words.new ≡ filled (read_number link_room event_room (drop at s.now))
@@ -199,36 +193,19 @@ pub fn read_at(
     read_core(&s[from..], link_room, event_room, links, words)
 }
 
-// The header of an answer: all numbers are 0 where it refuses.
-pub fn header_in(answer: Reading) -> Header
-    ensures { result ≡ header_in answer }
-{
-    match answer {
-        Reading::Refused(_) => Header {
-            nodes: 0,
-            links: 0,
-            events: 0,
-            threshold: 0,
-            cap: 0,
-        },
-        Reading::Accepted(header) => header,
-    }
-}
-
 // Reads a plan into lent lists: the links' bytes, and four words to an event. A refusal changes nothing.
-pub fn read(s: &[u8], links: &mut [u8], events: &mut [u64]) -> Reading
-    ensures answer { result ≡ read_answer
-        (read_number (length links.old) (length events.old / 4) s.now) (header_of s.now) }
-    ensures links { links.new ≡ filled (reading_number result)
+pub fn read(s: &[u8], links: &mut [u8], events: &mut [u64]) -> Result<Header, Refusal>
+    ensures number { number_in result ≡ read_number (length links.old) (length events.old / 4) s.now }
+    ensures header { IfOk result (λ h. h ≡ header_of s.now) }
+    ensures links { links.new ≡ filled (number_in result)
         (link_bytes (plan_of s.now).links) links.old }
-    ensures events { events.new ≡ filled (reading_number result)
+    ensures events { events.new ≡ filled (number_in result)
         (event_words (plan_of s.now).events) events.old }
 {
     let mut bytes = [0u8; 256];
     let mut words = [0u64; 512];
-    let answer = read_core(s, links.len(), events.len() / 4, &mut bytes, &mut words);
-    let header = header_in(answer);
+    let header = read_core(s, links.len(), events.len() / 4, &mut bytes, &mut words)?;
     copy_bytes(&bytes, links, 2 * (header.links as usize));
     copy_words(&words, events, 4 * (header.events as usize));
-    answer
+    Ok(header)
 }

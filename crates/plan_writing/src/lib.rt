@@ -5,14 +5,16 @@
 
 mod sizes;
 
-ghost use Rattle.std.specs.Prelude.{◌≡◌, [], ◌∷◌, ◌++◌, ◌+◌, ◌*◌, ◌/◌, ◌≤◌, length};
+ghost use Rattle.std.specs.Prelude.{◌≡◌, [], ◌∷◌, ◌++◌, ◌+◌, ◌*◌, ◌/◌, ◌≤◌, length, IfOk};
 ghost use Rattle.std.proofs.lemmas.List.Edits.{sets};
+ghost use Rattle.mass.specs.Refusal.{number_in};
 ghost use Rattle.plan.specs.Lists.{event_of, events_of};
 ghost use Rattle.plan.specs.Layout.{little, elements, member_bytes, event_bytes, layout};
 ghost use Rattle.plan.specs.LentLists.{plan_of_lists, in_words};
-ghost use Rattle.plan.specs.Calls.{filled, write_number, write_answer, written_number};
+ghost use Rattle.plan.specs.Calls.{filled, write_number};
 
-use plan::{Header, Writing};
+use mass::Refusal;
+use plan::Header;
 use plan_lists::{lists_refusal, put_bytes};
 use refusals::room_test;
 use sizes::{events_size, member_count};
@@ -136,23 +138,17 @@ fn put_plan(h: Header, links: &[u8], words: &[u64], out: &mut [u8])
     put_events(out, 20 + count, words, h.events);
 }
 
-// Writes a plan from lent lists: links two bytes each, events four words each. All tests, then its bytes.
-pub fn write(h: Header, links: &[u8], events: &[u64], out: &mut [u8]) -> Writing
-    ensures value { result ≡ write_answer
-        (write_number (in_words h links.now events.now) (length out.old))
-        (length (layout (plan_of_lists h links.now events.now))) }
-    ensures out_after { out.new ≡ filled (written_number result)
+// Writes a plan from lent lists: links two bytes each, events four words each. All tests, then its bytes; answers how many these are.
+#[tactic(auto, using(mass::proofs::RefusalLaws::refuses), unfolding(plan::specs::Calls::write_number))]
+pub fn write(h: Header, links: &[u8], events: &[u64], out: &mut [u8]) -> Result<usize, Refusal>
+    ensures number { number_in result ≡ write_number (in_words h links.now events.now) (length out.old) }
+    ensures size { IfOk result (λ n. n ≡ length (layout (plan_of_lists h links.now events.now))) }
+    ensures out_after { out.new ≡ filled (number_in result)
         (layout (plan_of_lists h links.now events.now)) out.old }
 {
-    let number = lists_refusal(h, links, events);
-    if number != 0 {
-        return Writing::Refused(number);
-    }
+    lists_refusal(h, links, events)?;
     let size = 20 + 2 * (h.links as usize) + events_size(events, h.events);
-    let short = room_test(out.len(), size);
-    if short != 0 {
-        return Writing::Refused(short);
-    }
+    room_test(out.len(), size)?;
     put_plan(h, links, events, out);
-    Writing::Written(size)
+    Ok(size)
 }

@@ -1,6 +1,7 @@
 -- A plan given by a list of records uses no record past the first 128: no plan has more events, and a list of records has room for them or not
 -- whether or not it is longer.
 -- Assumes nothing.
+use Rattle.std.specs.Prelude.{Result, Ok, Err, IfOk}
 use mathlib.Core.Path.{◌≡◌, refl, sym, ap, ◌∙◌}
 use mathlib.Core.Bool.{Bool, true, false}
 use mathlib.Core.List.{List, [], ◌∷◌}
@@ -10,7 +11,8 @@ use borrow.Author.Tests.{ltb-true, ltb-false, lt-ltb, le-ltb}
 use lib.Dec.{ltb}
 use lib.ListN.{length, take, replicate, length-take}
 use lib.Seq.{sets, sets-eq, take_at, take-take}
-use Rattle.mass.specs.Refusal.{refuse, first}
+use Rattle.mass.specs.Refusal.{refuse, first, number_in}
+use Rattle.mass.specs.declared.refusal.Refusal.{Refusal}
 use Rattle.mass.proofs.RefusalLaws.{first-none}
 use Rattle.mass.specs.Split.{certain}
 use Rattle.plan.specs.Plan as plan
@@ -19,10 +21,8 @@ use Rattle.plan.specs.Lists.{links_of, events_of}
 use Rattle.plan.specs.Layout.{layout}
 use Rattle.refusals.specs.Tests.{room_test}
 use Rattle.plan.specs.LentLists.{Lent, plan_of_lists, plan_lent, link_list_refusal, event_list_refusal, in_words, lists_number}
-use Rattle.plan.specs.Calls.{filled, write_number, write_answer, written_number}
-use Rattle.plan.proofs.AnswerLaws.{written-number}
+use Rattle.plan.specs.Calls.{filled, write_number}
 use Rattle.plan.specs.declared.Header.{Header}
-use Rattle.plan.specs.declared.Writing.{Writing}
 use Rattle.refusals.proofs.TestLaws.{Ranges, counts-none, room-none}
 use Rattle.plan_lists.proofs.CopyLaws.{same-plan}
 use Rattle.plan_writing.proofs.WriterAnswer.{Outcome}
@@ -115,26 +115,29 @@ unfolding lists_number link_list_refusal event_list_refusal links_of events_of f
 example-bridged = (refl, refl)
 
 -- a plan written from the words of the first 128 records is that of all of them
-module _ (h : Header) (links out left : List ℕ) (es : List Event) (r : Writing) (o : Outcome (in_words h links (words_of (take 128 es))) out left r) where
+module _ (h : Header) (links out left : List ℕ) (es : List Event) (r : Result ℕ Refusal) (o : Outcome (in_words h links (words_of (take 128 es))) out left r) where
   abbrev whole : Lent
   whole = in_records h links es
 
-  answer : r ≡ write_answer (write_number whole (length out)) (length (layout (plan_lent whole)))
+  same_number : number_in r ≡ write_number whole (length out)
   unfolding write_number first
-  answer =
-      o.0
-      ∙ told-all h links es (λ n p. write_answer (first (n ∷ room_test (length out) (length (layout p)) ∷ [])) (length (layout p))) (λ n p q. refl)
+  same_number = o.0 ∙ told-all h links es (λ n p. first (n ∷ room_test (length out) (length (layout p)) ∷ [])) (λ n p q. refl)
 
-  number : written_number r ≡ write_number whole (length out)
-  number = ap written_number answer ∙ written-number _ _
-
-  lists-fine : write_number whole (length out) ≡ 0 → lists_number whole ≡ 0
+  same_file : number_in r ≡ 0 → plan_of_lists h links (words_of (take 128 es)) ≡ plan_lent whole
   unfolding write_number
-  lists-fine z = (first-none _ _ z).0
+  same_file z = plan-same h links es (first-none _ _ (sym same_number ∙ z)).0
 
   pub written-list : Outcome whole out left r
-  written-list = (answer, o.1 ∙ go (written_number r) refl)
+  written-list = (same_number, (size r o.1.0 same_file, o.1.1 ∙ list (number_in r) same_file))
     where
-      go : (n : ℕ) → written_number r ≡ n → filled n (layout (plan_of_lists h links (words_of (take 128 es)))) out ≡ filled n (layout (plan_lent whole)) out
-      go zero e = ap (λ (p : Plan). filled 0 (layout p) out) (plan-same h links es (lists-fine (sym number ∙ e)))
-      go (suc n) e = refl
+      size : (r : Result ℕ Refusal)
+          → IfOk r (λ n. n ≡ length (layout (plan_of_lists h links (words_of (take 128 es)))))
+          → (number_in r ≡ 0 → plan_of_lists h links (words_of (take 128 es)) ≡ plan_lent whole)
+          → IfOk r (λ n. n ≡ length (layout (plan_lent whole)))
+      size (Ok n) e same = e ∙ ap (λ (p : Plan). length (layout p)) (same refl)
+      size (Err x) e same = tt
+
+      list : (n : ℕ) → (n ≡ 0 → plan_of_lists h links (words_of (take 128 es)) ≡ plan_lent whole)
+          → filled n (layout (plan_of_lists h links (words_of (take 128 es)))) out ≡ filled n (layout (plan_lent whole)) out
+      list zero same = ap (λ (p : Plan). filled 0 (layout p) out) (same refl)
+      list (suc n) same = refl

@@ -9,7 +9,8 @@ use lib.Seq.{sets, sets-eq}
 use Rattle.plan.specs.Plan as plan
 use Rattle.plan.specs.Lists.{event_words}
 use Rattle.plan.specs.File.{plan_of, events_at, events_in}
-use Rattle.plan.specs.Calls.{filled, header_of, header_in, read_number, read_answer}
+use Rattle.plan.specs.Calls.{filled, header_of, read_number}
+use Rattle.plan.specs.declared.Header.{Header}
 use Rattle.plan_reading.proofs.ReaderLawsAnswer.{header-bounds}
 use Rattle.record_lists.specs.Events.{words_of, records_of}
 use Rattle.record_lists.specs.declared.Event.{Event}
@@ -52,24 +53,19 @@ unfolding events_at
 length-events zero b = refl
 length-events (suc count) b = ap suc (length-events count _)
 
--- `count` is how many events the answer hands over
-module _ (link_room event_room : ℕ) (b : List ℕ) (count : ℕ) (p : count ≡ (header_in (read_answer (read_number link_room event_room b) (header_of b))).events) where
-  pub count-bounds : (count ≤ 128) × (count ≤ event_room)
-  count-bounds =
-      let h = header-bounds link_room event_room b _ refl in (rw p h.3, rw p h.1)
+-- h is the header of a plan that was read
+module _ (link_room event_room : ℕ) (b : List ℕ) (h : Header) (p : h ≡ header_of b) (e : read_number link_room event_room b ≡ 0) where
+  pub count-bounds : (h.events ≤ 128) × (h.events ≤ event_room)
+  count-bounds = let k = header-bounds link_room event_room b h p e in (k.3, k.1)
 
   pub read-list : (room : List ℕ) (list : List Event) → length room ≡ 512
-      → sets list 0 (records_of count (filled (read_number link_room event_room b) (event_words (plan_of b).events) room))
+      → sets list 0 (records_of h.events (filled (read_number link_room event_room b) (event_words (plan_of b).events) room))
       ≡ filled_records (read_number link_room event_room b) (event_records (plan_of b).events) list
   unfolding plan_of header_of
   read-list room list long =
-      records-filled (read_number link_room event_room b) count (plan_of b).events room list
-      (λ e.
-      let n : count ≡ events_in b = p ∙ ap (λ (k : ℕ). (header_in (read_answer k (header_of b))).events) e in
+      records-filled (read_number link_room event_room b) h.events (plan_of b).events room list
+      (λ _.
+      let n : h.events ≡ events_in b = ap (λ (x : Header). x.events) p in
       let l : length (plan_of b).events ≡ events_in b = length-events (events_in b) _ in
       (n ∙ sym l, omega (arith, l, n, count-bounds.0)))
-      (λ z. p ∙ stop (read_number link_room event_room b) z)
-    where
-      stop : (k : ℕ) → (k ≡ 0 → ⊥) → (header_in (read_answer k (header_of b))).events ≡ 0
-      stop zero z = absurd (z refl)
-      stop (suc k) z = refl
+      (λ z. absurd (z e))

@@ -1,5 +1,4 @@
--- Laws of the reader's steps: what a step's answer says of the member's tests and of the position after it, and one turn of the loop that reads members
--- by steps.
+-- Laws of the reader's steps: where the position stays, the rank of a member, and one turn of the loop that reads members by steps.
 -- Assumes nothing.
 use mathlib.Core.Path.{◌≡◌, refl, sym, ◌∙◌, ap}
 use mathlib.Core.List.{List, [], ◌∷◌}
@@ -9,31 +8,21 @@ use native.Mathlib.Numerals.{add-one}
 use native.Mathlib.Omega.{arith}
 use lib.ListN.{length, get_or, drop, set}
 use lib.Seq.{drop-drop, get_or-drop, sets}
+use Rattle.mass.specs.Refusal.{number}
+use Rattle.mass.specs.declared.refusal.Refusal.{Refusal}
+use Rattle.mass.proofs.RefusalLaws.{number-some}
 use Rattle.refusals.specs.Tests.{rank, count_of_kind}
 use Rattle.plan.specs.File.{member_refusal}
-use Rattle.plan.specs.Calls.{step_of, step_number}
-use Rattle.plan.specs.declared.Step.{Step}
-use Rattle.plan.specs.declared.Step.TheVariants.{Refused}
 use Rattle.plan.proofs.FileLaws.{suc-sub-one}
-use Rattle.plan.proofs.FileLawsSteps.{step-number}
-use Rattle.plan.proofs.FileLawsAccepted.{member-accepted, step-accepted, step-never}
+use Rattle.plan.proofs.FileLawsAccepted.{member-accepted}
 use Rattle.record_reading.specs.Steps.{position_after, unless_refused, ranks_given}
 
 -- ---- a step
 
--- the number of the member's tests is that of the answer
-pub number_of : (nodes links least : ℕ) (b : List ℕ) {answer : Step} → step_of nodes links least b ≡ answer
-    → member_refusal nodes links least b ≡ step_number answer
-number_of nodes links least b e = sym (step-number nodes links least b) ∙ ap step_number e
-
--- a refusal has a number
-pub refused-some : (nodes links least at number : ℕ) (s : List ℕ) → step_of nodes links least (drop at s) ≡ Refused number → number ≡ 0 → ⊥
-refused-some nodes links least at number s e z =
-    step-never number _ (sym e ∙ step-accepted nodes links least at s (number_of nodes links least (drop at s) e ∙ z))
-
--- the position after a step whose answer is known
-pub position-is : (at : ℕ) {step answer : Step} → step ≡ answer → position_after step at ≡ position_after answer at
-position-is at e = ap (λ (t : Step). position_after t at) e
+-- where a member is refused the position stays
+pub stays : (r : Refusal) (n at : ℕ) → number r ≡ n → position_after n at ≡ at
+stays r zero at e = absurd (number-some r e)
+stays r (suc n) at e = refl
 
 -- the rank of a member that is given: no less than what is asked, and below 512
 pub rank-bounds : (nodes links least at : ℕ) (s : List ℕ) → member_refusal nodes links least (drop at s) ≡ 0 → get_or s (at + 1) 0 < 256

@@ -4,13 +4,12 @@ use Rattle.std.specs.Prelude.{◌≡◌, refl, List, [], ◌∷◌, ℕ, zero, s
 use Rattle.mass.specs.Refusal.{first}
 use Rattle.refusals.specs.Tests.{rank}
 use Rattle.plan.specs.File.{member_refusal}
-use Rattle.plan.specs.declared.Step.{Step}
-use Rattle.plan.specs.declared.Step.TheVariants.{Refused, Member}
 
--- the position after a step: past the member's two bytes where one was given, else where it was
-abbrev pub position_after : Step → ℕ → ℕ
-position_after (Refused number) at = at
-position_after (Member element) at = at + 2
+-- the position after a step whose member was refused with a number, or given with 0: past the member's two bytes where it was given, else
+-- where it was
+abbrev pub position_after : ℕ → ℕ → ℕ
+position_after zero at = at + 2
+position_after (suc number) at = at
 
 -- a list where the number is 0, and nothing where it refuses
 abbrev pub unless_refused : ℕ → List ℕ → List ℕ

@@ -4,46 +4,25 @@
 #![tactic(auto)]
 
 mod members;
-mod steps;
 mod words;
 
-ghost use Rattle.std.specs.Prelude.{◌≡◌, drop};
+ghost use Rattle.std.specs.Prelude.{◌≡◌, ◌+◌, ◌≤◌, length, get_or, drop, IfOk, OnOk};
+ghost use Rattle.mass.specs.Refusal.{number_in};
 ghost use Rattle.plan.specs.Lists.{link_bytes};
-ghost use Rattle.plan.specs.File.{plan_of};
-ghost use Rattle.plan.specs.Calls.{filled, header_of, read_answer, step_of};
+ghost use Rattle.plan.specs.File.{member_refusal, plan_of};
+ghost use Rattle.plan.specs.Calls.{filled, element_of, header_of};
 ghost use Rattle.record_reading.specs.Filled.{event_records, records_number, filled_records};
 ghost use Rattle.record_reading.specs.Steps.{position_after};
 
+use mass::Refusal;
 pub use members::read_members;
-use plan::{Reading, Step};
+use plan::{Element, Header};
 use record_lists::{Event, fill};
-use steps::step_at;
-use words::{events_in, read_words_at};
+use words::read_words_at;
 
 #[derive(Clone, Copy)]
 pub struct Reader<'a> {
     pub src: &'a [u8],
-    pub at: usize,
-}
-
-// What a step of a reader answers, and the reader after it.
-#[derive(Clone, Copy)]
-pub struct Stepped<'a> {
-    pub step: Step,
-    pub reader: Reader<'a>,
-}
-
-// What a step from a position answers, and the position after it.
-#[derive(Clone, Copy)]
-pub struct MemberRead {
-    pub step: Step,
-    pub at: usize,
-}
-
-// What reading several members answers: the number of the refusal, or 0, and the position after the last member that was given.
-#[derive(Clone, Copy)]
-pub struct MembersRead {
-    pub number: u32,
     pub at: usize,
 }
 
@@ -55,29 +34,25 @@ impl<'a> Reader<'a> {
         Reader { src, at }
     }
 
-    // The member at the reader's position, or the number with which it is refused: its rank is at least `least`. The reader is handed back,
-    // moved past the member's two bytes where one was given, else where it was.
-    pub fn next_member(self, nodes: u64, links: u64, least: u64) -> Stepped<'a>
-        ensures step { result.step ≡ step_of nodes links least (drop self.entry.at self.entry.src.now) }
-        ensures reader { (result.reader.src ≡ self.entry.src) × (result.reader.at ≡
-            position_after (step_of nodes links least (drop self.entry.at self.entry.src.now)) self.entry.at) }
+    // The member at the reader's position, or its refusal: its rank is at least `least`. The reader moves past the member's two bytes where
+    // one is given, and stays where it is refused.
+    pub fn next_member(&mut self, nodes: u64, links: u64, least: u64) -> Result<Element, Refusal>
+        ensures number { number_in result ≡ member_refusal nodes links least (drop self.old.at self.old.src.now) }
+        ensures there { OnOk result (self.old.at + 2 ≤ length self.old.src.now) }
+        ensures element { IfOk result (λ e. e ≡ element_of (get_or self.old.src.now self.old.at 0) (get_or self.old.src.now (self.old.at + 1) 0)) }
+        ensures reader { (self.new.src ≡ self.old.src) × (self.new.at ≡
+            position_after (member_refusal nodes links least (drop self.old.at self.old.src.now)) self.old.at) }
     {
-        let read = step_at(self.src, self.at, nodes, links, least);
-        Stepped {
-            step: read.step,
-            reader: Reader {
-                src: self.src,
-                at: read.at,
-            },
-        }
+        let element = plan::member_at(self.src, self.at, nodes, links, least)?;
+        self.at += 2;
+        Ok(element)
     }
 
     // Reads the plan that begins at the reader's position into lent lists: the links' bytes, and a record to an event. A refusal changes
     // nothing; a position past the end leaves no byte, and 1 is given.
-    pub fn read(self, links: &mut [u8], events: &mut [Event]) -> Reading
-        ensures answer { result ≡ read_answer
-            (records_number (drop self.entry.at self.entry.src.now) links.old events.old)
-            (header_of (drop self.entry.at self.entry.src.now)) }
+    pub fn read(self, links: &mut [u8], events: &mut [Event]) -> Result<Header, Refusal>
+        ensures number { number_in result ≡ records_number (drop self.entry.at self.entry.src.now) links.old events.old }
+        ensures header { IfOk result (λ h. h ≡ header_of (drop self.entry.at self.entry.src.now)) }
         ensures links { links.new ≡ filled
             (records_number (drop self.entry.at self.entry.src.now) links.old events.old)
             (link_bytes (plan_of (drop self.entry.at self.entry.src.now)).links) links.old }
@@ -86,29 +61,35 @@ impl<'a> Reader<'a> {
             (event_records (plan_of (drop self.entry.at self.entry.src.now)).events) events.old }
     {
         let mut words = [0u64; 512];
-        let answer = read_words_at(self.src, self.at, links, events.len(), &mut words);
-        let count = events_in(answer);
-        fill(&words, events, count);
-        answer
+        let header = read_words_at(self.src, self.at, links, events.len(), &mut words)?;
+        fill(&words, events, header.events as usize);
+        Ok(header)
     }
 }
 
-// A step of a reader made at a position, and the position of the reader after it: its contract says nothing of a reader.
-pub fn read_member(s: &[u8], at: usize, nodes: u64, links: u64, least: u64) -> MemberRead
-    ensures step { result.step ≡ step_of nodes links least (drop at s.now) }
-    ensures position { result.at ≡ position_after (step_of nodes links least (drop at s.now)) at }
+// A step of a reader made at a position, which moves as the reader does: its contract says nothing of a reader.
+pub fn read_member(
+    s: &[u8],
+    at: &mut usize,
+    nodes: u64,
+    links: u64,
+    least: u64,
+) -> Result<Element, Refusal>
+    ensures number { number_in result ≡ member_refusal nodes links least (drop at.old s.now) }
+    ensures there { OnOk result (at.old + 2 ≤ length s.now) }
+    ensures element { IfOk result (λ e. e ≡ element_of (get_or s.now at.old 0) (get_or s.now (at.old + 1) 0)) }
+    ensures position { at.new ≡ position_after (member_refusal nodes links least (drop at.old s.now)) at.old }
 {
-    let next = Reader::new(s, at).next_member(nodes, links, least);
-    MemberRead {
-        step: next.step,
-        at: next.reader.at,
-    }
+    let mut reader = Reader::new(s, *at);
+    let step = reader.next_member(nodes, links, least);
+    *at = reader.at;
+    step
 }
 
 // Reads a plan into lent lists: the links' bytes, and a record to an event. A refusal changes nothing.
-pub fn read_records(s: &[u8], links: &mut [u8], events: &mut [Event]) -> Reading
-    ensures answer { result ≡ read_answer (records_number s.now links.old events.old)
-        (header_of s.now) }
+pub fn read_records(s: &[u8], links: &mut [u8], events: &mut [Event]) -> Result<Header, Refusal>
+    ensures number { number_in result ≡ records_number s.now links.old events.old }
+    ensures header { IfOk result (λ h. h ≡ header_of s.now) }
     ensures links { links.new ≡ filled (records_number s.now links.old events.old)
         (link_bytes (plan_of s.now).links) links.old }
     ensures events { events.new ≡ filled_records (records_number s.now links.old events.old)

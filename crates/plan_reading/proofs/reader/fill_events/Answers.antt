@@ -53,7 +53,7 @@ pub members_of-members-requires : goal.members_of-members-requires
 members_of-members-requires c =
     record {
       nodes_bound = (c.requires.nodes_bound.0, c.requires.nodes_bound.1);
-      s_value = ap (λ (k : ℕ). members_refusal c.args.nodes c.args.links 0 k (drop (c.loop-left.at + 5) c.args.s.now)) c.byte_at.ensures.0
+      s_value = ap (λ (k : ℕ). members_refusal c.args.nodes c.args.links 0 k (drop (c.loop-left.at + 5) c.args.s.now)) c.byte_at.ensures.is
           ∙ event-accepted c.args.nodes c.args.links _ c.loop-left.at c.args.s.now (accepted (goal.at.members_of-members-requires c).In-loop-left).0;
     }
 
@@ -70,7 +70,7 @@ pub loop-left-preserved : goal.loop-left-preserved
 loop-left-preserved c =
     let a = c.args in
     let s = a.s.now in
-    let k = c.byte_at.ensures.0 in (
+    let k = c.byte_at.ensures.is in (
       omega arith,
       (
         probability_in (drop c.loop-left.at s),

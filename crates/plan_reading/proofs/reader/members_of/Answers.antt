@@ -1,19 +1,18 @@
 -- `plan_reading::reader::members_of` meets its contract. The loop's invariant: the members from `at` on are accepted; the sets so far with those of the
 -- members from `at` on are the whole sets; and the sets so far hold no element of rank `least` or more. The measure is how many members are left.
 -- Assumes nothing.
-use mathlib.Core.Path.{◌≡◌, sym, ◌∙◌, ap}
+use mathlib.Core.Path.{◌≡◌, ◌∙◌, ap}
 use Prim.Native.Nat.{ℕ, ◌+◌, ◌-◌, ◌≤◌, ◌<◌}
 use native.Mathlib.Omega.{arith}
 use lib.ListN.{length, get_or, drop}
+use Rattle.mass.proofs.RefusalLaws.{number-some}
 use Rattle.sets.specs.Sets.{joined}
 use Rattle.refusals.specs.Tests.{count_of_kind, rank}
 use Rattle.plan.specs.File.{member_refusal, members_refusal, set_of}
 use Rattle.plan_reading.specs.Members.{node_value, link_value}
-use Rattle.plan.specs.Calls.{element_of}
-use Rattle.plan.specs.declared.Step.TheVariants as step
-use Rattle.plan.proofs.FileLawsAccepted.{member-fits, members-accepted, member-accepted, step-accepted, step-element, step-never}
+use Rattle.plan.proofs.FileLawsAccepted.{member-fits, members-accepted, member-accepted}
 use Rattle.plan_reading.proofs.ReaderLaws.{rising, risen, node-set-step, link-set-step, set-none, low_word, high_word}
-use Rattle.plan_reading.proofs.reader.members_of.Goals.{After-member_at-answer, In-Member, In-loop-left}
+use Rattle.plan_reading.proofs.reader.members_of.Goals.{In-loop-left}
 use Rattle.plan_reading.proofs.reader.members_of.Goals as goal
 
 pub loop-left-init : goal.loop-left-init
@@ -36,29 +35,6 @@ accepted c =
 there : (c : In-loop-left) → c.loop-left.at + 2 ≤ length c.args.s.now
 there c = member-fits _ _ _ c.loop-left.at c.args.s.now (accepted c).0
 
-answer-is : (c : After-member_at-answer)
-    → c.member_at-answer.result
-    ≡ step.Member
-    (element_of
-    (get_or c.args.s.now c.loop-left.at 0)
-    (get_or c.args.s.now (c.loop-left.at + 1) 0))
-answer-is c =
-    c.member_at-answer.ensures
-    ∙ step-accepted _ _ _ c.loop-left.at c.args.s.now ((let a = c.args in
-    members-accepted a.nodes a.links c.loop-left.least c.loop-left.left c.loop-left.at a.s.now c.loop-left-test.true c.loop-left.invariant.0)).0
-
-element-is : (c : In-Member)
-    → c.in-Member.element
-    ≡ element_of
-    (get_or c.args.s.now c.loop-left.at 0)
-    (get_or c.args.s.now (c.loop-left.at + 1) 0)
-element-is c = step-element _ _ (sym c.in-Member.is ∙ (c.member_at-answer.ensures
-    ∙ step-accepted _ _ _ c.loop-left.at c.args.s.now ((let a = c.args in
-    members-accepted a.nodes a.links c.loop-left.least c.loop-left.left c.loop-left.at a.s.now c.loop-left-test.true c.loop-left.invariant.0)).0))
-
-pub returns-in_default : goal.returns-in_default
-returns-in_default c = absurd (step-never _ _ (sym c.in_default.is ∙ answer-is (goal.at.returns-in_default c).After-member_at-answer))
-
 -- the member's number and rank
 bounds : (c : In-loop-left)
     → (get_or c.args.s.now (c.loop-left.at + 1) 0
@@ -69,9 +45,13 @@ bounds c =
     let a = c.args in
     member-accepted a.nodes a.links c.loop-left.least c.loop-left.at a.s.now (accepted c).0
 
+-- a member that is accepted is not refused
+pub returns-in_default : goal.returns-in_default
+returns-in_default c = absurd (number-some _ (c.in_default.ensures.number ∙ (accepted (goal.at.returns-in_default c).In-loop-left).0))
+
 pub with_element-sets-requires : goal.with_element-sets-requires
 with_element-sets-requires c =
-    rw (element-is c)
+    rw c.in-Ok.ensures.element
     (rising c.args.nodes c.args.links c.loop-left.least c.loop-left.sets.nodes (joined c.loop-left.sets.low c.loop-left.sets.high) c.requires.nodes_bound.0 c.requires.nodes_bound.1
     c.loop-left.invariant.3 c.loop-left.invariant.4 _ _ (bounds (goal.at.with_element-sets-requires c).In-loop-left).0 (bounds (goal.at.with_element-sets-requires c).In-loop-left).1)
 
@@ -79,19 +59,19 @@ pub rank_at-least-requires : goal.rank_at-least-requires
 rank_at-least-requires c = there (goal.at.rank_at-least-requires c).In-loop-left
 
 pub overflow_add-least : goal.overflow_add-least
-overflow_add-least c = omega (arith, c.rank_at-least.ensures.1)
+overflow_add-least c = omega (arith, c.rank_at-least.ensures.below)
 
 pub overflow_add-at : goal.overflow_add-at
 overflow_add-at c = omega (arith, there (goal.at.overflow_add-at c).In-loop-left)
 
 pub loop-left-preserved : goal.loop-left-preserved
 loop-left-preserved c =
-    let e = element-is (goal.at.loop-left-preserved c).In-Member in
+    let e = c.in-Ok.ensures.element in
     let up =
     risen c.args.nodes c.args.links c.loop-left.least c.loop-left.sets.nodes (joined c.loop-left.sets.low c.loop-left.sets.high) c.requires.nodes_bound.0 c.requires.nodes_bound.1
     c.loop-left.invariant.3 c.loop-left.invariant.4 _ _ (bounds (goal.at.loop-left-preserved c).In-loop-left).0 (bounds (goal.at.loop-left-preserved c).In-loop-left).1
     in (
-      ap (λ (k : ℕ). members_refusal c.args.nodes c.args.links (k + 1) (c.loop-left.left - 1) (drop (c.loop-left.at + 2) c.args.s.now)) c.rank_at-least.ensures.0
+      ap (λ (k : ℕ). members_refusal c.args.nodes c.args.links (k + 1) (c.loop-left.left - 1) (drop (c.loop-left.at + 2) c.args.s.now)) c.rank_at-least.ensures.is
           ∙ (accepted (goal.at.loop-left-preserved c).In-loop-left).1,
       omega (arith, c.with_element-sets.ensures.nodes, ap node_value e, node-set-step c.loop-left.left c.loop-left.at c.args.s.now c.loop-left-test.true, c.loop-left.invariant.1),
       omega (
@@ -101,8 +81,8 @@ loop-left-preserved c =
         link-set-step c.args.nodes c.args.links c.loop-left.left c.loop-left.at c.args.s.now c.loop-left-test.true (bounds (goal.at.loop-left-preserved c).In-loop-left).0,
         c.loop-left.invariant.2,
       ),
-      rw c.rank_at-least.ensures.0 (omega (arith, c.with_element-sets.ensures.nodes, ap node_value e, up.0)),
-      rw c.rank_at-least.ensures.0 (omega (arith, c.with_element-sets.ensures.links, ap link_value e, up.1)),
+      rw c.rank_at-least.ensures.is (omega (arith, c.with_element-sets.ensures.nodes, ap node_value e, up.0)),
+      rw c.rank_at-least.ensures.is (omega (arith, c.with_element-sets.ensures.links, ap link_value e, up.1)),
       omega (arith, c.with_element-sets.type_inv),
     )
 

@@ -20,10 +20,13 @@ concluded c =
     written-list a.h a.links.now a.out.now w.new.out a.events.now w.result
     (subst (λ (ws : List ℕ). Outcome (in_words a.h a.links.now ws) a.out.now w.new.out w.result)
     (ap (λ (ws : List ℕ). take (4 * k) ws) c.flatten.ensures ∙ used-words a.events.now (replicate 512 0) refl)
-    (w.ensures.value, w.ensures.out_after))
+    (w.ensures.number, (w.ensures.size, w.ensures.out_after)))
 
-pub returns-clause-value : goal.returns-clause-value
-returns-clause-value c = (concluded (goal.at.returns-clause-value c).After-write_words).0
+pub returns-clause-number : goal.returns-clause-number
+returns-clause-number c = (concluded (goal.at.returns-clause-number c).After-write_words).0
+
+pub returns-clause-size : goal.returns-clause-size
+returns-clause-size c = (concluded (goal.at.returns-clause-size c).After-write_words).1.0
 
 pub returns-clause-out_after : goal.returns-clause-out_after
-returns-clause-out_after c = (concluded (goal.at.returns-clause-out_after c).After-write_words).1
+returns-clause-out_after c = (concluded (goal.at.returns-clause-out_after c).After-write_words).1.1

@@ -1,105 +1,88 @@
 -- `record_reading::members::read_members` meets its contract (`Invariants.antt` has its loop). Assumes nothing.
-use mathlib.Core.Path.{◌≡◌, refl, sym, ◌∙◌}
-use mathlib.Core.List.{[]}
-use Prim.Native.Nat.{◌+◌, ◌≤◌, ◌<◌}
+use mathlib.Core.Path.{◌≡◌, refl, sym, ◌∙◌, ap}
+use Prim.Native.Nat.{ℕ, ◌+◌, ◌-◌}
 use native.Mathlib.Omega.{arith}
 use lib.ListN.{drop}
-use Rattle.plan.specs.File.{member_refusal}
-use Rattle.plan.specs.Calls.{step_of}
-use Rattle.plan.specs.declared.Step.TheVariants.{Refused, Member}
-use Rattle.refusals.proofs.OrderLaws.{stop, skip, last}
+use Rattle.mass.proofs.RefusalLaws.{stops, passes, last, hands-on, number-some}
 use Rattle.plan.proofs.FileLawsSteps.{members_step, members-none}
-use Rattle.plan.proofs.FileLawsAccepted.{member-fits}
-use Rattle.record_reading.specs.Steps.{ranks_given}
-use Rattle.record_reading.proofs.StepLaws.{number_of, refused-some, position-is, rank-bounds, ranks-more, ranks-stop, ranks-none}
+use Rattle.record_reading.specs.Steps.{position_after}
+use Rattle.record_reading.proofs.StepLaws.{stays, rank-bounds, ranks-more, ranks-stop, ranks-none}
 use Rattle.record_reading.proofs.StepLaws.{laid_more, moved_more, laid_none, moved_none}
-use Rattle.record_reading.proofs.members.read_members.Goals.{In-Refused, In_default, After-rank_at-rank}
 use Rattle.record_reading.proofs.members.read_members.Goals as goal
 
 -- the step is refused: no rank is given, and the members are refused with its number
-refused : (c : In-Refused) → step_of c.args.nodes c.args.links c.loop-left.least (drop c.loop-left.at c.args.s.now) ≡ Refused c.in-Refused.number
-refused c = sym c.read_member-read.ensures.step ∙ c.in-Refused.is
-
-none : (c : In-Refused) → let l = c.loop-left in ranks_given c.args.nodes c.args.links l.least l.left (drop l.at c.args.s.now) ≡ []
-none c =
+pub returns-in_err-read_member-clause-number : goal.returns-in_err-read_member-clause-number
+returns-in_err-read_member-clause-number c =
     let a = c.args in
-    let l = c.loop-left in
-    let some = refused-some a.nodes a.links l.least l.at _ a.s.now (refused c) in
-    ranks-stop a.nodes a.links l.least l.left (drop l.at a.s.now) (λ z. some (sym (number_of _ _ _ _ (refused c)) ∙ z))
+    let l = c.loop-i in
+    hands-on _ _ c.from_residual.ensures
+    (stops _ _ c.in_err-read_member.ensures.number
+    ∙ sym (members_step a.nodes a.links l.least (a.count - l.i) l.at a.s.now (omega arith))
+    ∙ l.invariant.refused)
 
-pub returns-in-Refused-clause-number : goal.returns-in-Refused-clause-number
-returns-in-Refused-clause-number c =
+pub returns-in_err-read_member-clause-position : goal.returns-in_err-read_member-clause-position
+returns-in_err-read_member-clause-position c =
     let a = c.args in
-    let l = c.loop-left in
-    let e = refused (goal.at.returns-in-Refused-clause-number c).In-Refused in
-    stop _ (sym (number_of _ _ _ _ e)) (refused-some a.nodes a.links l.least l.at _ a.s.now e)
-    ∙ sym (members_step a.nodes a.links l.least l.left l.at a.s.now c.loop-left-test.true)
-    ∙ l.invariant.0
+    let l = c.loop-i in
+    let m = c.in_err-read_member.ensures in
+    m.position ∙ stays _ _ l.at m.number
+    ∙ moved_none l.at _ (ranks-stop a.nodes a.links l.least (a.count - l.i) (drop l.at a.s.now) (λ z. number-some _ (m.number ∙ z)))
+    ∙ l.invariant.moved
 
-pub returns-in-Refused-clause-position : goal.returns-in-Refused-clause-position
-returns-in-Refused-clause-position c =
-    moved_none c.loop-left.at _ (none (goal.at.returns-in-Refused-clause-position c).In-Refused) ∙ c.loop-left.invariant.2
-
-pub returns-in-Refused-clause-out : goal.returns-in-Refused-clause-out
-returns-in-Refused-clause-out c =
-    laid_none c.loop-left.out _ c.loop-left.done (none (goal.at.returns-in-Refused-clause-out c).In-Refused) ∙ c.loop-left.invariant.1
-
--- the step gives a member: it passes its tests, and its rank is in bounds
-given :
-    (c : In_default)
-    → step_of c.args.nodes c.args.links c.loop-left.least (drop c.loop-left.at c.args.s.now) ≡ Member c.in_default.field-0
-given c = sym c.read_member-read.ensures.step ∙ c.in_default.is
-
-accepted : (c : In_default) → member_refusal c.args.nodes c.args.links c.loop-left.least (drop c.loop-left.at c.args.s.now) ≡ 0
-accepted c = number_of _ _ _ _ (given c)
-
-pub rank_at-rank-requires : goal.rank_at-rank-requires
-rank_at-rank-requires c = member-fits _ _ _ c.loop-left.at _ (accepted c)
-
-bounds : (c : After-rank_at-rank) → member_refusal c.args.nodes c.args.links c.loop-left.least (drop c.loop-left.at c.args.s.now) ≡ 0
-    → (c.loop-left.least ≤ c.rank_at-rank.result) × (c.rank_at-rank.result < 512)
-bounds c z =
-    let l = c.loop-left in
+pub returns-in_err-read_member-clause-out : goal.returns-in_err-read_member-clause-out
+returns-in_err-read_member-clause-out c =
     let a = c.args in
+    let l = c.loop-i in
+    let m = c.in_err-read_member.ensures in
+    laid_none l.out _ l.i (ranks-stop a.nodes a.links l.least (a.count - l.i) (drop l.at a.s.now) (λ z. number-some _ (m.number ∙ z))) ∙ l.invariant.laid
+
+-- the step gives a member
+pub bounds-out-i : goal.bounds-out-i
+bounds-out-i c =
+    let a = c.args in
+    let l = c.loop-i in
     let byte = c.type_inv.s (l.at + 1) in
-    rw c.rank_at-rank.ensures.0 (rank-bounds a.nodes a.links l.least l.at a.s.now z (omega (arith, byte)))
+    let up = rank-bounds a.nodes a.links l.least l.at a.s.now (sym c.in_ok-read_member.ensures.number) (omega (arith, byte)) in
+    omega (arith, up, c.rank_at-rank.ensures.is, l.invariant.few)
 
-pub offset_bounds-out-done : goal.offset_bounds-out-done
-offset_bounds-out-done c = let b = bounds (goal.at.offset_bounds-out-done c).After-rank_at-rank (accepted (goal.at.offset_bounds-out-done c).In_default) in omega arith
-
-pub bounds-out-done : goal.bounds-out-done
-bounds-out-done c = let b = bounds (goal.at.bounds-out-done c).After-rank_at-rank (accepted (goal.at.bounds-out-done c).In_default) in omega arith
-
-pub overflow_add-done : goal.overflow_add-done
-overflow_add-done c = let b = bounds (goal.at.overflow_add-done c).After-rank_at-rank (accepted (goal.at.overflow_add-done c).In_default) in omega arith
-
-pub loop-left-preserved : goal.loop-left-preserved
-loop-left-preserved c =
-    let l = c.loop-left in
+pub offset_bounds-out-i : goal.offset_bounds-out-i
+offset_bounds-out-i c =
     let a = c.args in
-    let m = c.read_member-read in
-    let d = (goal.at.loop-left-preserved c).After-rank_at-rank in
-    let z = accepted (goal.at.loop-left-preserved c).In_default in
-    let up = bounds d z in
-    let more = ranks-more a.nodes a.links l.least l.left l.at a.s.now c.loop-left-test.true z in
-    rw (m.ensures.position ∙ position-is l.at (given (goal.at.loop-left-preserved c).In_default), c.rank_at-rank.ensures.0) (
-      skip _ refl z (last refl)
-          ∙ sym (members_step a.nodes a.links l.least l.left l.at a.s.now c.loop-left-test.true)
-          ∙ l.invariant.0,
-      laid_more l.out _ _ l.done _ more ∙ l.invariant.1,
-      moved_more l.at _ _ _ more ∙ l.invariant.2,
-      omega (arith, up, c.rank_at-rank.ensures.0),
-    )
+    let l = c.loop-i in
+    let byte = c.type_inv.s (l.at + 1) in
+    let up = rank-bounds a.nodes a.links l.least l.at a.s.now (sym c.in_ok-read_member.ensures.number) (omega (arith, byte)) in
+    omega (arith, up, c.rank_at-rank.ensures.is, l.invariant.few)
+
+pub loop-i-preserved : goal.loop-i-preserved
+loop-i-preserved c =
+    let a = c.args in
+    let l = c.loop-i in
+    let m = c.in_ok-read_member.ensures in
+    let z = sym m.number in
+    let byte = c.type_inv.s (l.at + 1) in
+    let up = rank-bounds a.nodes a.links l.least l.at a.s.now z (omega (arith, byte)) in
+    let left : a.count - (l.i + 1) ≡ a.count - l.i - 1 = omega arith in
+    let more = ranks-more a.nodes a.links l.least (a.count - l.i) l.at a.s.now (omega arith) z in
+    rw (left, m.position ∙ ap (λ (n : ℕ). position_after n l.at) z, c.rank_at-rank.ensures.is) (record {
+      refused = passes _ m.number (last refl)
+          ∙ sym (members_step a.nodes a.links l.least (a.count - l.i) l.at a.s.now (omega arith))
+          ∙ l.invariant.refused;
+      laid = laid_more l.out _ _ l.i _ more ∙ l.invariant.laid;
+      moved = moved_more l.at _ _ _ more ∙ l.invariant.moved;
+      few = omega (arith, up, l.invariant.few);
+    })
 
 pub returns-clause-number : goal.returns-clause-number
-returns-clause-number c = members-none _ _ _ _ _ c.loop-left-test.false ∙ c.loop-left.invariant.0
+returns-clause-number c = members-none _ _ _ _ _ (omega arith) ∙ c.loop-i.invariant.refused
 
 pub returns-clause-position : goal.returns-clause-position
 returns-clause-position c =
-    let l = c.loop-left in
-    moved_none l.at _ (ranks-none c.args.nodes c.args.links l.least l.left (drop l.at c.args.s.now) c.loop-left-test.false) ∙ l.invariant.2
+    let a = c.args in
+    let l = c.loop-i in
+    moved_none l.at _ (ranks-none a.nodes a.links l.least (a.count - l.i) (drop l.at a.s.now) (omega arith)) ∙ l.invariant.moved
 
 pub returns-clause-out : goal.returns-clause-out
 returns-clause-out c =
-    let l = c.loop-left in
-    laid_none l.out _ l.done (ranks-none c.args.nodes c.args.links l.least l.left (drop l.at c.args.s.now) c.loop-left-test.false) ∙ l.invariant.1
+    let a = c.args in
+    let l = c.loop-i in
+    laid_none l.out _ l.i (ranks-none a.nodes a.links l.least (a.count - l.i) (drop l.at a.s.now) (omega arith)) ∙ l.invariant.laid
