@@ -13,7 +13,7 @@ use borrow.Author.Tests.{ltb-true, eq-eqb, ne_eqb}
 use lib.Dec.{ltb, eqb}
 use lib.ListN.{length, get_or}
 use Rattle.mass.specs.Split.{whole}
-use Rattle.sets.specs.Sets.{bit, joined, digit}
+use Rattle.sets.specs.Sets.{bit, joined, digit, LowestTaken}
 use Rattle.sets.proofs.Bools.{and_left, which, clash}
 use Rattle.sets.proofs.Laws.{bit-zero, bit-none, bit_below}
 use Rattle.plan.specs.Lists.{links_of, events_of}
@@ -153,25 +153,34 @@ module _ (out : Outage) (h : Header) (links words : List ℕ) (f : Failing) (blo
 
   -- the lowest block t of what is left
   module _ (held : Held h links words) (fit : BlocksFit h.nodes blocks mass lower₀) (nodes : ℕ) (rows : List ℕ)
-      (s : Shown out h links words f nodes rows) (t : ℕ) (found : bit left t ≡ true) where
+      (s : Shown out h links words f nodes rows) {t left' : ℕ} (taken : LowestTaken left t left') where
+    found : bit left t ≡ true
+    found = taken.found
+
+    -- it is one of the set
+    in_blocks : bit blocks t ≡ true
+    in_blocks = g.sub t found
+
+    pub block_few : t < 16
+    block_few = fit.few t in_blocks
+
     few : h.nodes ≤ 64
     few = held.links-held.nodes-fit
 
     pub block-asked : AddingCut (pair_count h.nodes * t) h.nodes nodes mass rows lower
     block-asked =
-        adding (pair_count h.nodes * t) h links words lower s.failed nodes rows s.up s.row mass held (low-base h.nodes t few (fit.few t (g.sub t found)))
-        (omega (arith, fit.room t (g.sub t found), g.sized))
+        adding (pair_count h.nodes * t) h links words lower s.failed nodes rows s.up s.row mass held (low-base h.nodes t few block_few)
+        (omega (arith, fit.room t in_blocks, g.sized))
         (λ v w l k.
         omega (
           arith,
           g.each t v w l k,
           ap (λ (x : Bool). mass * digit x * cut v w) found,
-          ap (λ (x : Bool). mass * digit x * cut v w) (g.sub t found),
-          fit.fits t (g.sub t found) v w l k,
+          ap (λ (x : Bool). mass * digit x * cut v w) in_blocks,
+          fit.fits t in_blocks v w l k,
         ))
 
-    module _ (lower' : List ℕ) (added : AddedCut (pair_count h.nodes * t) h.nodes nodes mass rows lower lower')
-        (left' : ℕ) (rest : (j : ℕ) → bit left' j ≡ (bit left j && not (eqb j t))) where
+    module _ (lower' : List ℕ) (added : AddedCut (pair_count h.nodes * t) h.nodes nodes mass rows lower lower') where
       -- the other blocks stay as they are
       stays : (b v w : ℕ) → v < w → w < h.nodes → (b ≡ t → ⊥) → Dec (b < t)
           → get_or lower' (place h.nodes v w + pair_count h.nodes * b) 0 ≡ get_or lower (place h.nodes v w + pair_count h.nodes * b) 0
@@ -190,7 +199,7 @@ module _ (out : Outage) (h : Header) (links words : List ℕ) (f : Failing) (blo
           (λ (x : ℕ). get_or lower' (place h.nodes v w + pair_count h.nodes * x) 0 + mass * digit (bit left' x) * cut v w
           ≡ get_or lower₀ (place h.nodes v w + pair_count h.nodes * x) 0 + mass * digit (bit blocks x) * cut v w)
           (sym e)
-          (let gone : bit left' t ≡ false = rest t ∙ ap (λ (x : Bool). bit left t && not x) (eq-eqb t t refl) ∙ and-false (bit left t) in
+          (let gone : bit left' t ≡ false = taken.rest t ∙ ap (λ (x : Bool). bit left t && not x) (eq-eqb t t refl) ∙ and-false (bit left t) in
           omega (
             arith,
             gained (pair_count h.nodes * t) h links words lower s.failed nodes rows s.up s.row mass lower' added out f s.decided s.gathered v w l k,
@@ -199,18 +208,18 @@ module _ (out : Outage) (h : Header) (links words : List ℕ) (f : Failing) (blo
             g.each t v w l k,
           ))
       each_turn b v w l k (no n) =
-          let same : bit left' b ≡ bit left b = rest b ∙ ap (λ (x : Bool). bit left b && not x) (ne_eqb b t n) ∙ and-true (bit left b) in
+          let same : bit left' b ≡ bit left b = taken.rest b ∙ ap (λ (x : Bool). bit left b && not x) (ne_eqb b t n) ∙ and-true (bit left b) in
           omega (arith, stays b v w l k n (dec_lt b t), ap (λ (x : Bool). mass * digit x * cut v w) same, g.each b v w l k)
 
       pub blocks-turned : BlocksTurn h.nodes (cut_by out h links words f) blocks mass lower₀ lower' left'
       blocks-turned =
           record {
             sized = added.sized ∙ g.sized;
-            sub = λ b e. g.sub b (and_left (bit left b) (not (eqb b t)) (sym (rest b) ∙ e));
+            sub = λ b e. g.sub b (and_left (bit left b) (not (eqb b t)) (sym (taken.rest b) ∙ e));
             each = λ b v w l k. each_turn b v w l k (ℕ_discrete b t);
             past =
                 λ k all j l.
-                added.past j (omega (arith, mul-le-mul_left (pair_count h.nodes) (let next : t + 1 ≤ k = omega (arith, all t (g.sub t found)) in next)))
+                added.past j (omega (arith, mul-le-mul_left (pair_count h.nodes) (let next : t + 1 ≤ k = omega (arith, all t in_blocks) in next)))
                 ∙ g.past k all j l;
           }
 

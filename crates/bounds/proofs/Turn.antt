@@ -1,8 +1,8 @@
 -- One turn of the loop over the relevant scenarios of the walk.
 -- Assumes nothing.
 use mathlib.Core.Path.{◌≡◌, sym, ◌∙◌}
-use mathlib.Core.Bool.{true, false}
 use mathlib.Core.List.{List}
+use Rattle.std.specs.Prelude.{None, Some}
 use Prim.Native.Nat.{ℕ, ◌+◌, ◌*◌, ◌≤◌, ◌<◌}
 use native.Mathlib.Omega.{arith}
 use Rattle.mass.specs.Split.{whole}
@@ -11,6 +11,7 @@ use Rattle.plan.specs.LentLists.{plan_of_lists}
 use Rattle.walk.specs.Scenario.{Scenario, scenario_of}
 use Rattle.walk.specs.Ends.{sum_ends}
 use Rattle.walk.specs.Steps.{StepTaken}
+use Rattle.walk.specs.declared.Examined.{Examined}
 use Rattle.walk.specs.declared.WalkStep.{WalkStep}
 use Rattle.walk.proofs.Resume.{left_less, left-found, left-none, drop-found, drop-none, sum-found, sum-none}
 use Rattle.bounds.specs.Bounds.{cuts}
@@ -28,10 +29,10 @@ module _ (p : WalkedPlan) (start here : RunState) (g : Turn p start here) (stack
   ready = g.ready
 
   -- no relevant scenario is left
-  none : (f : Scenario → ℕ → ℕ) → step.found ≡ false → sum_ends f (reached p.header p.words here) ≡ 0
+  none : (f : Scenario → ℕ → ℕ) → step.found ≡ None → sum_ends f (reached p.header p.words here) ≡ 0
   none = sum-none _ _ _ _ _ _ _ _ s
 
-  pub stopped : step.found ≡ false
+  pub stopped : step.found ≡ None
       → Tallied p start
       (run_state stack' here.lower (record { at = step.at; left = step.left; count = here.sums.count; mass = here.sums.mass }))
   stopped e =
@@ -45,45 +46,42 @@ module _ (p : WalkedPlan) (start here : RunState) (g : Turn p start here) (stack
         rest = sym (drop-none _ _ _ _ _ _ _ _ s e);
         stacked = s.held;
         sized = ready.sized;
-        lighter = omega (arith, s.lighter);
+        lighter = omega (arith, rw e at s.lighter);
       })
 
   -- one is handed out
-  module _ (e : step.found ≡ true) where
+  module _ {x : Examined} (e : step.found ≡ Some x) where
     abbrev scenario : Scenario
-    scenario = scenario_of p.header.events (joined step.low step.high)
+    scenario = scenario_of p.header.events (joined x.failing.low x.failing.high)
 
     -- then the loop is in this state, with the entries that it leaves
     abbrev next : List ℕ → RunState
-    next lower = run_state stack' lower (record { at = step.at; left = step.left; count = here.sums.count + 1; mass = here.sums.mass + step.mass })
+    next lower = run_state stack' lower (record { at = step.at; left = step.left; count = here.sums.count + 1; mass = here.sums.mass + x.mass })
 
     one : (lower : List ℕ) (f : Scenario → ℕ → ℕ) → sum_ends f (reached p.header p.words here)
-        ≡ f scenario step.mass + sum_ends f (reached p.header p.words (next lower))
+        ≡ f scenario x.mass + sum_ends f (reached p.header p.words (next lower))
     one lower f = sum-found _ _ _ _ _ _ _ _ s f e
 
-    pub less : step.left < here.sums.left
+    less : step.left < here.sums.left
     less = left_less _ _ _ _ _ _ _ _ s e
 
-    pub mass-fits : here.sums.mass + step.mass ≤ whole
+    mass-fits : here.sums.mass + x.mass ≤ whole
     mass-fits = omega (arith, ready.fits, one here.lower (λ s m. m))
 
-    pub count_fits : here.sums.count + 1 < 4294967296
-    count_fits = omega (arith, ready.counted, less)
-
-    pub room : Room step.mass here.lower
+    pub room : Room x.mass here.lower
     room = record { sized = ready.sized; fits = λ i. omega (arith, ready.below i, mass-fits) }
 
     module _ (lower' : List ℕ)
-        (x :
-        MassAdded p.header.nodes (λ v w. cuts p.out (plan_of_lists p.header p.links p.words) v w scenario) step.mass here.lower
+        (added :
+        MassAdded p.header.nodes (λ v w. cuts p.out (plan_of_lists p.header p.links p.words) v w scenario) x.mass here.lower
         lower') where
       ready-next : Ready p.header p.links p.words (next lower')
       ready-next =
           record {
             held = ready.held;
             stacked = s.held;
-            sized = x.sized;
-            below = λ i. omega (arith, x.most i, ready.below i);
+            sized = added.sized;
+            below = λ i. omega (arith, added.most i, ready.below i);
             fits = omega (arith, ready.fits, one lower' (λ s m. m));
             counted = omega (arith, ready.counted, less);
           }
@@ -98,7 +96,7 @@ module _ (p : WalkedPlan) (start here : RunState) (g : Turn p start here) (stack
                 omega (
                   arith,
                   t.entries v w l k,
-                  x.each v w l k,
+                  added.each v w l k,
                   one lower' (λ s m. m * digit (cuts p.out (plan_of_lists p.header p.links p.words) v w s)),
                 );
             below = t.below;
@@ -106,7 +104,7 @@ module _ (p : WalkedPlan) (start here : RunState) (g : Turn p start here) (stack
             rest = t.rest ∙ sym (drop-found _ _ _ _ _ _ _ _ s e);
             stacked = t.stacked;
             sized = t.sized;
-            lighter = omega (arith, t.lighter, s.lighter);
+            lighter = omega (arith, t.lighter, rw e at s.lighter);
           }
 
       pub turned : Turn p start (next lower')

@@ -41,19 +41,9 @@ pub fn examine(
     let nodes = network::working_nodes(n, failed.nodes);
     let rows = network::neighbours(n, links, h.links as usize, table, failed);
     let pairs = pair_count(n);
-    let mut left = blocks;
-    // With the mass added to the blocks of `left`, the entries are as with it added to all. Each turn takes the lowest block out of `left`,
-    // which falls as a number.
-    while left != 0 {
-        add_cut(
-            &mut *lower,
-            pairs * sets::lowest(left),
-            h.nodes as usize,
-            rows,
-            nodes,
-            mass,
-        );
-        left = sets::rest(left);
+    // With the mass added to the blocks still to come, the entries are as with it added to all.
+    for b in sets::elements(blocks) {
+        add_cut(&mut *lower, pairs * b, n, rows, nodes, mass);
     }
 }
 
@@ -83,17 +73,13 @@ pub fn go_on(
         let step = walk::next_relevant(h.events, h.threshold, words, &mut *stack, at, left);
         at = step.at;
         left = step.left;
-        if !step.found {
+        let Some(x) = step.found else {
             return Tally {
                 at,
                 left,
                 count,
                 mass,
             };
-        }
-        let failing = Failing {
-            low: step.low,
-            high: step.high,
         };
         examine(
             h,
@@ -101,12 +87,12 @@ pub fn go_on(
             words,
             table,
             out,
-            failing,
+            x.failing,
             &mut *lower,
             1,
-            step.mass,
+            x.mass,
         );
         count += 1;
-        mass += step.mass;
+        mass += x.mass;
     }
 }
