@@ -9,13 +9,24 @@ use bounds::{PairBounds, Totals};
 use mass::Refusal;
 use plan::Header;
 
+fn header_values(h: Header) -> [u64; 5]
+    ensures { result ≡ header_values h }
+{
+    [h.nodes, h.links, h.events, h.threshold, h.cap]
+}
+
 // The five numbers of the plan that was read.
 pub fn give_header(answer: Result<Header, Refusal>, numbers: &mut [u64]) -> u32
     ensures number { result ≡ number_in answer }
     ensures numbers { numbers.new ≡ laid (given header_values 5 answer) numbers.old }
 {
-    let values = answer.map(|h| [h.nodes, h.links, h.events, h.threshold, h.cap]);
-    give(values, numbers)
+    give(answer.map(header_values), numbers)
+}
+
+fn size_values(count: usize) -> [u64; 1]
+    ensures { result ≡ size_values count }
+{
+    [count as u64]
 }
 
 // The size of what was written.
@@ -23,8 +34,13 @@ pub fn give_size(answer: Result<usize, Refusal>, size: &mut [u64]) -> u32
     ensures number { result ≡ number_in answer }
     ensures size { size.new ≡ laid (given size_values 1 answer) size.old }
 {
-    let values = answer.map(|count| [count as u64]);
-    give(values, size)
+    give(answer.map(size_values), size)
+}
+
+fn totals_values(totals: Totals) -> [u64; 3]
+    ensures { result ≡ totals_values totals }
+{
+    [totals.count, totals.complete, totals.mass]
 }
 
 // The examined count, complete and E.
@@ -32,8 +48,13 @@ pub fn give_totals(answer: Result<Totals, Refusal>, res: &mut [u64]) -> u32
     ensures number { result ≡ number_in answer }
     ensures res { res.new ≡ laid (given totals_values 3 answer) res.old }
 {
-    let values = answer.map(|totals| [totals.count, totals.complete, totals.mass]);
-    give(values, res)
+    give(answer.map(totals_values), res)
+}
+
+fn bounds_values(bounds: PairBounds) -> [u64; 2]
+    ensures { result ≡ bounds_values bounds }
+{
+    [bounds.lower, bounds.upper]
 }
 
 // The lower and the upper bound.
@@ -41,6 +62,5 @@ pub fn give_pair(answer: Result<PairBounds, Refusal>, res: &mut [u64]) -> u32
     ensures number { result ≡ number_in answer }
     ensures res { res.new ≡ laid (given bounds_values 2 answer) res.old }
 {
-    let values = answer.map(|bounds| [bounds.lower, bounds.upper]);
-    give(values, res)
+    give(answer.map(bounds_values), res)
 }

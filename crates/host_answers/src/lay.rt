@@ -9,15 +9,15 @@ use mass::Refusal;
 pub fn put(list: &mut [u64], at: usize, x: u64)
     ensures { list.new ≡ set list.old at x }
 {
-    if let Some(entry) = list.get_mut(at) {
-        *entry = x;
+    if at < list.len() {
+        list[at] = x;
     }
 }
 
 // Lays the values of an answer down, or zeros in their place where it is a refusal, and returns its number.
 pub fn give<const N: usize>(answer: Result<[u64; N], Refusal>, list: &mut [u64]) -> u32
-    ensures number { result ≡ number_in answer }
-    ensures list { list.new ≡ laid (values_in N answer) list.old }
+    ensures number { result ≡ number_in answer.entry }
+    ensures list { list.new ≡ laid (values_in N answer.entry) list.old }
 {
     let values = answer.unwrap_or([0; N]);
     // The first i values are laid down, and no others.

@@ -1,0 +1,29 @@
+-- Laws of the values of an answer.
+-- Assumes nothing.
+use Rattle.std.specs.Prelude.{Result, Ok, Err, IfOk}
+use Rattle.std.specs.Result.{MatchResult, IsOkAnd}
+use mathlib.Core.Path.{◌≡◌, refl, ap}
+use mathlib.Core.List.{List}
+use Prim.Native.Nat.{ℕ, zero, suc}
+use lib.ListN.{replicate}
+use Rattle.mass.specs.Refusal.{number, number_in}
+use Rattle.mass.specs.declared.refusal.Refusal.{Refusal}
+use Rattle.mass.proofs.RefusalLaws.{number-some}
+use Rattle.host_answers.specs.Laid.{given, values_in, values_or_zeros}
+
+-- law: an answer whose values are made by a function has the values of that function
+pub values-made : {T : Type 0} (f : T → List ℕ) (count : ℕ) (answer : Result T Refusal) (made : Result (List ℕ) Refusal)
+    → MatchResult answer (λ x. IsOkAnd made (λ y. y ≡ f x)) (λ e. made ≡ Err e) → values_in count made ≡ given f count answer
+values-made f count (Ok x) (Ok y) e = e
+values-made f count (Ok x) (Err r) e = absurd e
+values-made f count (Err r) made e = ap (values_in count) e
+
+-- law: the values of an answer by its number, and by what it gives
+pub given-is : {T : Type 0} (f : T → List ℕ) (count : ℕ) (answer : Result T Refusal) (x : T) → IfOk answer (λ y. y ≡ x)
+    → given f count answer ≡ values_or_zeros count (number_in answer) (f x)
+given-is f count (Ok y) x e = ap f e
+given-is f count (Err r) x e = zeros (number r) (number-some r)
+  where
+    zeros : (n : ℕ) → (n ≡ 0 → ⊥) → replicate count 0 ≡ values_or_zeros count n (f x)
+    zeros zero n = absurd (n refl)
+    zeros (suc k) n = refl
