@@ -13,7 +13,8 @@ use lib.Dec.{eqb}
 use lib.ListN.{length, get_or, drop}
 use lib.Seq.{get_or-drop}
 use borrow.Author.Tests.{eqb-true, eq-eqb}
-use Rattle.sets.specs.Sets.{bit, joined, LowestTaken}
+use Rattle.sets.specs.Sets.{bit, joined}
+use Rattle.sets.specs.Elements.{LowestTaken}
 use Rattle.sets.proofs.Laws.{bit-or, bit-none, bits-same, bit-shl, bit-shl-below, bit_below}
 use Rattle.sets.proofs.Bools.{and_left, and_both, or-either, or_left, or_right, which, clash, not-of, same_bool}
 use Rattle.plan.specs.Plan.{Event}

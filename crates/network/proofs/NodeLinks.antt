@@ -10,7 +10,8 @@ use native.Mathlib.Decide.{dec_lt, ℕ_discrete}
 use lib.Dec.{eqb, ltb}
 use lib.ListN.{get_or, set, replicate}
 use borrow.Author.Tests.{eqb-true, eq-eqb, ne_eqb, ltb-true, lt-ltb, le-ltb}
-use Rattle.sets.specs.Sets.{bit, joined, LowestTaken}
+use Rattle.sets.specs.Sets.{bit, joined}
+use Rattle.sets.specs.Elements.{LowestTaken}
 use Rattle.plan.specs.Plan.{Link}
 use Rattle.sets.proofs.Laws.{bit-none, bit_past, bit-joined-low, bit-joined-high}
 use Rattle.sets.proofs.Bools.{same_bool, and_left, and_right, and_both, or-either, or_left, or_right, any_found, any_here}

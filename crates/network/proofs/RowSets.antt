@@ -10,7 +10,8 @@ use lib.Dec.{eqb}
 use lib.ListN.{length, get_or, set, replicate, length-set}
 use lib.Seq.{get_or-set_same, get_or-set_other}
 use borrow.Author.Tests.{eqb-true, eq-eqb, ne_eqb}
-use Rattle.sets.specs.Sets.{bit, LowestTaken}
+use Rattle.sets.specs.Sets.{bit}
+use Rattle.sets.specs.Elements.{LowestTaken}
 use Rattle.sets.proofs.Bools.{same_bool}
 use Rattle.sets.proofs.Taken.{other_in}
 use Rattle.plan.specs.Plan.{Link}

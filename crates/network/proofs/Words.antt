@@ -8,7 +8,8 @@ use Prim.Native.Nat.{ℕ, ◌+◌, ◌-◌, ◌^◌, ◌<◌}
 use native.Mathlib.Omega.{arith}
 use native.Mathlib.Decide.{dec_lt}
 use native.Mathlib.Nat.{zero-add}
-use Rattle.sets.specs.Sets.{bit, joined, any_below, LowestTaken}
+use Rattle.sets.specs.Sets.{bit, joined, any_below}
+use Rattle.sets.specs.Elements.{LowestTaken}
 use Rattle.sets.proofs.Laws.{bit-none, bit_below, bit-joined-low, bit-joined-high}
 use Rattle.sets.proofs.Bools.{and_left, and_right, and_both, or-either, or_left, or_right, clash, not_so, same_bool, any_found, any_here}
 use Rattle.sets.proofs.Taken.{other_in, lowest_or}

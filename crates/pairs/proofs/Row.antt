@@ -11,7 +11,8 @@ use borrow.Author.Tests.{le-leb, lt-leb, eq-eqb, ne_eqb}
 use lib.Dec.{leb}
 use lib.ListN.{length, get_or, set, length-set}
 use lib.Seq.{get_or-set_same, get_or-set_other}
-use Rattle.sets.specs.Sets.{bit, digit, LowestTaken}
+use Rattle.sets.specs.Sets.{bit, digit}
+use Rattle.sets.specs.Elements.{LowestTaken}
 use Rattle.sets.proofs.Laws.{bit-none}
 use Rattle.sets.proofs.Taken.{other_in}
 use Rattle.pairs.specs.Adding.{AddingRow, AddedRow}

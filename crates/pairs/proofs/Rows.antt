@@ -12,7 +12,8 @@ use borrow.Author.Tests.{le-leb, lt-leb, le-ltb, eq-eqb, ne_eqb, ltb-false}
 use lib.Dec.{leb, ltb}
 use lib.ListN.{length, get_or}
 use Rattle.mass.specs.Split.{whole}
-use Rattle.sets.specs.Sets.{bit, digit, LowestTaken}
+use Rattle.sets.specs.Sets.{bit, digit}
+use Rattle.sets.specs.Elements.{LowestTaken}
 use Rattle.sets.proofs.Laws.{bit-none}
 use Rattle.sets.proofs.Bools.{and_left, and_right, and_both, of-not, not-of, not_so, clash, which}
 use Rattle.sets.proofs.Taken.{other_in}

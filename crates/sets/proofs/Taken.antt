@@ -6,7 +6,8 @@ use mathlib.Core.Logic.{◌⊎◌, inl, inr, ⊎_elim}
 use Prim.Native.Nat.{ℕ}
 use lib.Dec.{eqb}
 use borrow.Author.Tests.{eqb-true}
-use Rattle.sets.specs.Sets.{bit, LowestTaken}
+use Rattle.sets.specs.Sets.{bit}
+use Rattle.sets.specs.Elements.{LowestTaken}
 use Rattle.sets.proofs.Bools.{and_left, and_both, which, not-of}
 
 module _ {set i others : ℕ} (t : LowestTaken set i others) where

@@ -1,2 +1,3 @@
 -- What the contracts of the crate `sets` cite.
 pub mod Sets
+pub mod Elements

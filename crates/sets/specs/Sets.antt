@@ -1,6 +1,6 @@
 -- Sets as numbers. Document 01, section "Plan file": "Element i is bit i of a set, of value 2^i."
 -- Assumes nothing.
-use Rattle.std.specs.Prelude.{◌≡◌, Bool, true, false, not, ◌&&◌, ◌||◌, ℕ, zero, suc, ◌+◌, ◌*◌, ◌/◌, ◌%◌, ◌^◌, ◌<◌, eqb}
+use Rattle.std.specs.Prelude.{Bool, true, false, ◌||◌, ℕ, zero, suc, ◌+◌, ◌*◌, ◌/◌, ◌%◌, ◌^◌, eqb}
 
 -- whether i is an element of the set s
 unfoldable pub bit : ℕ → ℕ → Bool
@@ -33,11 +33,3 @@ first_below p (suc k) =
       | true ↦ 0
       | false ↦ suc (first_below (λ i. p (suc i)) k)
     ]
-
--- i is the lowest element of a set, and `others` is the set without it
-pub record LowestTaken (set i others : ℕ) : Type 0 where
-  pub within : i < 64
-  pub found : bit set i ≡ true
-  pub first : (j : ℕ) → j < i → bit set j ≡ false
-  pub rest : (j : ℕ) → bit others j ≡ (bit set j && not (eqb j i))
-  pub smaller : others < set

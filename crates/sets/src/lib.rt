@@ -5,7 +5,8 @@
 ghost use Rattle.std.specs.Prelude.{◌≡◌, true, false, not, ◌&&◌, ◌||◌, ℕ, ◌<◌, ◌≤◌, eqb, ltb, MatchOption};
 ghost use Rattle.std.specs.Int.Count.{count_trailing_zeros};
 ghost use Rattle.std.specs.Iterator.{at_most};
-ghost use Rattle.sets.specs.Sets.{bit, digit, LowestTaken};
+ghost use Rattle.sets.specs.Sets.{bit, digit};
+ghost use Rattle.sets.specs.Elements.{LowestTaken};
 
 // The digit of element i, below 64, in a set of one word.
 pub fn at(set: u64, i: usize) -> u64

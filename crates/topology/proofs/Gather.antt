@@ -6,7 +6,8 @@ use mathlib.Core.List.{List}
 use mathlib.Core.Logic.{◌⊎◌, inl, inr, ⊎_elim, ◌↔◌}
 use Prim.Native.Nat.{ℕ}
 use lib.ListN.{get_or}
-use Rattle.sets.specs.Sets.{bit, LowestTaken}
+use Rattle.sets.specs.Sets.{bit}
+use Rattle.sets.specs.Elements.{LowestTaken}
 use Rattle.sets.proofs.Laws.{bit-none}
 use Rattle.sets.proofs.Bools.{or-either, or_left, or_right, clash}
 use Rattle.sets.proofs.Taken.{other_in, lowest_or}
