@@ -9,6 +9,6 @@ use Rattle.walk_state.proofs.sound.none_above.Goals as goal
 pub returns : goal.returns
 returns c =
     let most = c.args.most in
-    let items = YieldsList-from_slice c.args.sums.now cc in
     above-is most c.args.sums.now c.all.result
-    (cases_from_all _ _ _ (λ x. x ≤ most) (λ x. most < x) c.all.ensures.ran items (λ x q k. search (rules, tests)) (λ x q k. search (rules, tests)))
+    (cases_from_all _ _ _ (λ x. x ≤ most) (λ x. most < x) c.all.ensures.ran (YieldsList-from_slice c.args.sums.now cc)
+    (λ x q k. search (rules, tests)) (λ x q k. search (rules, tests)))
