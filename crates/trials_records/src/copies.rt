@@ -1,28 +1,6 @@
 // Copying a plan by way of records: what is accepted is copied byte for byte, and a refusal changes nothing.
-use plan::Writing;
 use std::io;
-use trials_vectors::{BYTE, all_bytes, header, large_file, same, same_bytes};
-
-// The number with which a copy is refused, or 0.
-fn number_of(answer: Writing) -> u64 {
-    match answer {
-        Writing::Refused(number) => number as u64,
-        Writing::Written(_) => 0,
-    }
-}
-
-// How many bytes a copy has laid down: none where it is refused.
-fn count_of(answer: Writing) -> u64 {
-    match answer {
-        Writing::Refused(_) => 0,
-        Writing::Written(count) => count as u64,
-    }
-}
-
-fn copied(rt: &impl Print, label: &[u8], answer: Writing, want: u64) -> io::Result<()> {
-    same(rt, label, number_of(answer), 0)?;
-    same(rt, label, count_of(answer), want)
-}
+use trials_vectors::{BYTE, all_bytes, large_file, same_bytes, written};
 
 // The triangle of document 01: 20 bytes, 6 for the links and 7 for each event. Three bytes are left over.
 pub fn triangle(rt: &impl Print) -> io::Result<()> {
@@ -31,7 +9,7 @@ pub fn triangle(rt: &impl Print) -> io::Result<()> {
         b"RSG\x01\x00\x03\x03\x03\x01\x00\x00\x00\x00\x00\x00\x00\x64\x00\x00\x00\x00\x01\x00\x02\x01\x02\x01\x00\x00\x00\x01\x01\x00\x01\x00\x00\x00\x01\x01\x01\x01\x00\x00\x00\x01\x01\x02",
         &mut out,
     );
-    copied(rt, b"copy the triangle", answer, 47)?;
+    written(rt, b"copy the triangle", answer, 47)?;
     same_bytes(
         rt,
         b"the copied triangle",
@@ -44,7 +22,7 @@ pub fn triangle(rt: &impl Print) -> io::Result<()> {
 pub fn large(rt: &impl Print) -> io::Result<()> {
     let mut out = [BYTE; 304];
     let answer = record_runs::copy_plan(&large_file(), &mut out);
-    copied(rt, b"copy the large plan", answer, 302)?;
+    written(rt, b"copy the large plan", answer, 302)?;
     same_bytes(rt, b"the copied large plan", &out[0..302], &large_file())?;
     same_bytes(
         rt,
@@ -61,7 +39,7 @@ pub fn header_alone(rt: &impl Print) -> io::Result<()> {
         b"RSG\x01\x00\x02\x00\x00\x01\x00\x00\x00\x00\x00\x00\x00\x64\x00\x00\x00",
         &mut out,
     );
-    copied(rt, b"copy a header", answer, 20)?;
+    written(rt, b"copy a header", answer, 20)?;
     same_bytes(
         rt,
         b"the copied header",
@@ -77,27 +55,17 @@ pub fn refused(rt: &impl Print) -> io::Result<()> {
         b"RSH\x01\x00\x02\x00\x00\x01\x00\x00\x00\x00\x00\x00\x00\x64\x00\x00\x00",
         &mut out,
     );
-    same(rt, b"copy a file of another mark", number_of(mark), 2)?;
+    trials_vectors::refused(rt, b"copy a file of another mark", mark, 2)?;
     let member = record_runs::copy_plan(
         b"RSG\x01\x00\x03\x03\x01\x01\x00\x00\x00\x00\x00\x00\x00\x64\x00\x00\x00\x00\x01\x00\x02\x01\x02\x01\x00\x00\x00\x01\x01\x03",
         &mut out,
     );
-    same(
-        rt,
-        b"copy a plan with a link that is not there",
-        number_of(member),
-        10,
-    )?;
+    trials_vectors::refused(rt, b"copy a plan with a link that is not there", member, 10)?;
     let after = record_runs::copy_plan(
         b"RSG\x01\x00\x02\x00\x00\x01\x00\x00\x00\x00\x00\x00\x00\x64\x00\x00\x00\x00",
         &mut out,
     );
-    same(
-        rt,
-        b"copy a file with a byte too many",
-        number_of(after),
-        11,
-    )?;
+    trials_vectors::refused(rt, b"copy a file with a byte too many", after, 11)?;
     all_bytes(rt, b"after refused copies", &out, BYTE)
 }
 
@@ -108,11 +76,6 @@ pub fn short_output(rt: &impl Print) -> io::Result<()> {
         b"RSG\x01\x00\x03\x03\x03\x01\x00\x00\x00\x00\x00\x00\x00\x64\x00\x00\x00\x00\x01\x00\x02\x01\x02\x01\x00\x00\x00\x01\x01\x00\x01\x00\x00\x00\x01\x01\x01\x01\x00\x00\x00\x01\x01\x02",
         &mut out,
     );
-    same(
-        rt,
-        b"copy the triangle into 46 bytes",
-        number_of(answer),
-        12,
-    )?;
+    trials_vectors::refused(rt, b"copy the triangle into 46 bytes", answer, 12)?;
     all_bytes(rt, b"after a copy without room", &out, BYTE)
 }
