@@ -1,10 +1,10 @@
 -- Laws of started minutes and of the credit for them.
 -- Assumes nothing.
-use mathlib.Core.Path.{◌≡◌, sym, ap, ◌∙◌}
-use Prim.Native.Nat.{ℕ, suc, ◌+◌, ◌-◌, ◌*◌, ◌/◌, ◌^◌, ◌≤◌, ◌<◌, min}
-use native.Mathlib.Nat.{mul-zero, mul-le-mul, mul-le-mul_left, mul-le-mul_right, le_of_mul-le-mul_right, div-lt_iff_lt-mul}
+use mathlib.Core.Path.{◌≡◌}
+use Prim.Native.Nat.{ℕ, suc, ◌+◌, ◌-◌, ◌*◌, ◌/◌, ◌≤◌, ◌<◌, min}
+use native.Mathlib.Nat.{mul-le-mul_left, mul-le-mul_right, le_of_mul-le-mul_right, div-lt_iff_lt-mul}
 use native.Mathlib.Omega.{arith}
-use Rattle.credits.specs.Credit.{most_cents, started_minutes, credit_for}
+use Rattle.credits.specs.Credit.{started_minutes}
 
 -- law: at most k minutes are started exactly where the time is at most k minutes above the limit
 pub minutes-most : (parts limit time k : ℕ) → 1 ≤ parts → time ≤ (limit + 60 * k) * parts → started_minutes parts limit time ≤ k
@@ -35,28 +35,3 @@ minutes-whole limit seconds = omega arith
 -- law: more minutes bring no smaller credit
 pub credit-grows : (fee rate minutes more : ℕ) → minutes ≤ more → min fee (rate * minutes) ≤ min fee (rate * more)
 credit-grows fee rate minutes more h = omega (arith, mul-le-mul_left rate h)
-
--- ---- the credit for whole seconds, as the code works it out
-
--- a rate of at most 10^12 for each of at most 525,600 minutes, those of a year, is at most 5.256 × 10^17, less than 2^64
-pub due-fits : (rate minutes : ℕ) → rate ≤ most_cents → minutes ≤ 525600 → rate * minutes < 2 ^ 64
-due-fits rate minutes r m = omega (arith, mul-le-mul r m)
-
-module _ (fee limit rate seconds : ℕ) where
-  abbrev started : ℕ
-  started = (seconds - limit + 59) / 60
-
-  credit-is : min fee (rate * started) ≡ credit_for fee limit rate 1 seconds
-  credit-is = ap (λ (minutes : ℕ). min fee (rate * minutes)) (sym (minutes-whole limit seconds))
-
-  pub none-due : seconds ≤ limit → 0 ≡ credit_for fee limit rate 1 seconds
-  none-due h =
-      let none : started ≡ 0 = omega arith in
-      let nothing : rate * started ≡ 0 = ap (λ (minutes : ℕ). rate * minutes) none ∙ mul-zero rate in
-      omega (arith, nothing, credit-is)
-
-  pub fee-due : (minutes : ℕ) → fee < rate * minutes → minutes ≤ started → fee ≡ credit_for fee limit rate 1 seconds
-  fee-due minutes h m = omega (arith, h, mul-le-mul_left rate m, credit-is)
-
-  pub rate-due : (minutes : ℕ) → rate * minutes ≤ fee → minutes ≡ started → rate * minutes ≡ credit_for fee limit rate 1 seconds
-  rate-due minutes h m = omega (arith, h, ap (λ (x : ℕ). rate * x) m, credit-is)

@@ -1,9 +1,9 @@
 -- Service credits: document 02, request U6. Fee, rate and credits are in cents, the limit in seconds of a year of 365 days.
 -- Assumes nothing.
 use Rattle.std.specs.Prelude.{◌||◌, [], ◌∷◌, ℕ, ◌+◌, ◌-◌, ◌*◌, ◌/◌, ◌≤◌, min, ltb, ℤ, pos, ◌-ℤ◌, length}
-use Rattle.mass.specs.Refusal.{refuse, first, answered}
+use Rattle.mass.specs.Refusal.{refuse, first}
 use Rattle.plan.specs.Plan.{Plan}
-use Rattle.plan.specs.LentLists.{Lent, plan_lent}
+use Rattle.plan.specs.LentLists.{Lent}
 use Rattle.network.specs.Outage.{Outage}
 use Rattle.sums.specs.Exact.{scale, exact_cut}
 use Rattle.bounds.specs.Bounds.{cuts, lower_of, upper_of}
@@ -11,8 +11,6 @@ use Rattle.bounds.specs.Calls.{pair_number}
 use Rattle.readings.specs.Downtime.{year, seconds_of}
 use Rattle.readings.specs.declared.Seconds.{Seconds}
 use Rattle.credits.specs.declared.Credits.{Credits}
-use Rattle.credits.specs.declared.Credited.{Credited}
-use Rattle.credits.specs.declared.Credited.TheVariants as credited
 
 -- 10^12, the most cents of a fee or a rate
 abbrev pub most_cents : ℕ
@@ -43,29 +41,13 @@ credits_of fee limit rate seconds = record {
   headroom = headroom_of limit seconds.upper;
 }
 
--- the answer of a credit
-abbrev pub credit_answer : ℕ → Credits → Credited
-credit_answer number credits = answered credited.Refused (credited.Given credits) number
-
--- the number of a credit's answer
-abbrev pub credited_number : Credited → ℕ
-credited_number (credited.Refused number) = number
-credited_number (credited.Given credits) = 0
-
--- the credits in an answer: all numbers are 0 where it refuses
-abbrev pub credits_in : Credited → Credits
-credits_in (credited.Refused number) = record { lower = 0; upper = 0; headroom = pos 0 }
-credits_in (credited.Given credits) = credits
-
 -- the number with which a call is refused: that of the bounds of the pair (the lists' tests, 13), then 20, "tested after the pair"
 unfoldable pub credit_number : Lent → (v w fee limit rate : ℕ) → ℕ
 credit_number l v w fee limit rate = first (pair_number l v w ∷ terms_test fee limit rate ∷ [])
 
--- the whole answer of a call
-abbrev pub credit_of : Outage → Lent → (v w fee limit rate : ℕ) → Credited
-credit_of out l v w fee limit rate =
-    credit_answer (credit_number l v w fee limit rate)
-    (credits_of fee limit rate (seconds_of (lower_of out (plan_lent l) v w) (upper_of out (plan_lent l) v w)))
+-- the credits of the pair (v, w)
+abbrev pub credit_of : Outage → Plan → (v w fee limit rate : ℕ) → Credits
+credit_of out p v w fee limit rate = credits_of fee limit rate (seconds_of (lower_of out p v w) (upper_of out p v w))
 
 -- the credit of a pair's exact downtime, D × 31,536,000 seconds, with D in units of 10^-9n
 abbrev pub exact_credit : Outage → Plan → (v w fee limit rate : ℕ) → ℕ

@@ -67,6 +67,11 @@ number-some refusal.Window e = absurd (omega arith)
 number-some refusal.Minute e = absurd (omega arith)
 number-some refusal.Thresholds e = absurd (omega arith)
 
+-- law: a refusal that a test gives has the test's number, and the test holds
+pub refused-by : (test : Bool) (n : ℕ) (r : Refusal) → number r ≡ refuse test n → (test ≡ true) × (number r ≡ n)
+refused-by true n r e = (refl, e)
+refused-by false n r e = absurd (number-some r e)
+
 -- ---- the order of tests, for code that ends with the first `Err`
 
 -- law: a test that refuses decides

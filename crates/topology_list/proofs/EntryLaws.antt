@@ -1,6 +1,6 @@
 -- Entries in memory, four words each: reading them, and changing one.
 -- Assumes nothing.
-use mathlib.Core.Path.{◌≡◌, refl, sym, ap, subst, ◌∙◌}
+use mathlib.Core.Path.{◌≡◌, refl, sym, ap, ◌∙◌}
 use mathlib.Core.List.{List, [], ◌∷◌, ◌++◌, append_assoc}
 use Prim.Native.Nat.{ℕ, zero, suc, ◌+◌, ◌*◌, ◌<◌, ◌≤◌}
 use native.Mathlib.Decide.{dec_lt}
@@ -164,13 +164,3 @@ module _ (count : ℕ) (words : List ℕ) (t : Topology) (m : ℕ) (room : 4 * c
         where
           last : entry_at laid count ≡ entry t m
           last = rw (word-zero, word 1, word 2, word 3)
-
--- what holds of each number below i, and of i, holds of each below i + 1
-pub one_more : (P : ℕ → Type 0) (i : ℕ) → ((j : ℕ) → j < i → P j) → P i → (j : ℕ) → j < i + 1 → P j
-one_more P i known here j h = at (dec_lt j i)
-  where
-    at : Dec (j < i) → P j
-    at (yes l) = known j l
-    at (no n) =
-        let e : i ≡ j = omega arith in
-        subst P e here

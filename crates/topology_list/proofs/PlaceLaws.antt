@@ -1,17 +1,40 @@
 -- One mass placed: what each way of placing it gives.
 -- Assumes nothing.
+use Rattle.std.specs.Prelude.{Result, Ok, Err, IfOk}
+use Rattle.std.proofs.lemmas.Result.{IfOk-weaker}
 use mathlib.Core.Path.{◌≡◌, refl, sym, ap, subst, ◌∙◌}
 use mathlib.Core.Bool.{true, false}
 use mathlib.Core.List.{List, [], ◌∷◌, ◌++◌}
 use Prim.Native.Nat.{ℕ, ◌+◌, ◌*◌, ◌/◌, ◌^◌, ◌<◌, ◌≤◌}
 use native.Mathlib.Omega.{arith}
-use lib.ListN.{length, get_or, set, length-set, length-append}
+use borrow.Author.Tests.{leb-true, leb-false}
+use lib.Dec.{leb}
+use lib.ListN.{length, get_or, set, drop, length-set, length-append}
 use lib.Seq.{sets, length-sets}
-use Rattle.topology_list.specs.Entries.{Entry, entry, same_topology, added, TopologyList, fitted}
+use Rattle.mass.specs.Refusal.{refuse, number, number_in}
+use Rattle.mass.specs.declared.refusal.Refusal.{Refusal}
+use Rattle.mass.proofs.RefusalLaws.{refuse-none, refused-by}
+use Rattle.topology_list.specs.Entries.{Entry, entry, same_topology, added, TopologyList, topology_list, fitted}
 use Rattle.topology_list.specs.Words.{mass_at, entries_of, Found, MassFits, HoldsList}
 use Rattle.topology_list.specs.declared.Topology.{Topology}
 use Rattle.topology_list.proofs.SameLaws.{none, added-at, added_new, mass-part, fits-room, no_room}
 use Rattle.topology_list.proofs.EntryLaws.{entries-length, entry-at, raised-entries, raised-others, laid-entries, laid-others}
+
+-- what an answer promises of words that hold n entries
+pub holds : (list : TopologyList) (count n : ℕ) (words words' : List ℕ) (r : Result ℕ Refusal) → number_in r ≡ list.number → IfOk r (λ k. k ≡ n)
+    → entries_of n words' ≡ list.entries → count ≤ n → 4 * n ≤ length words' → drop (4 * n) words' ≡ drop (4 * n) words
+    → length words' ≡ length words → HoldsList list count words words' r
+holds list count n words words' r number told entries grows room others sized =
+    let long : n ≡ length list.entries = sym (entries-length n words') ∙ ap length entries in
+    record {
+      number = number;
+      count-is = IfOk-weaker r (λ k. k ≡ n) (λ k. k ≡ length list.entries) (λ k e. e ∙ long) told;
+      entries = subst (λ (k : ℕ). entries_of k words' ≡ list.entries) long entries;
+      grows = omega (arith, grows, long);
+      room = omega (arith, room, long);
+      others = subst (λ (k : ℕ). drop (4 * k) words' ≡ drop (4 * k) words) long others;
+      sized = sized;
+    }
 
 module _ (count m : ℕ) (words : List ℕ) (t : Topology) (i : ℕ) (p : MassFits count m words) (f : Found t count words i) where
   abbrev es : List Entry
@@ -43,18 +66,14 @@ module _ (count m : ℕ) (words : List ℕ) (t : Topology) (i : ℕ) (p : MassFi
         ∙ ap (λ (e : Entry). set es i (entry e.topology (e.mass + m))) (entry-at count words i known)
         ∙ sym (raised-entries count words i (mass_at words i + m) known p.room)
 
-    pub placed-known : HoldsList outcome count words raised (record { count = count; number = 0 })
+    pub placed-known : HoldsList outcome count words raised (Ok count)
     placed-known =
-        subst (λ (l : TopologyList). HoldsList l count words raised (record { count = count; number = 0 }))
+        subst (λ (l : TopologyList). HoldsList l count words raised (Ok count))
         (sym (fits-room (length words / 4) es (added t m es) (omega (arith, p.room, ap length is-added, entries-length count raised))))
-        (record {
-          number = refl;
-          entries = sym is-added;
-          grows = omega arith;
-          room = omega (arith, p.room, length-set words (4 * i + 3) (mass_at words i + m));
-          others = raised-others count words i (mass_at words i + m) known p.room;
-          sized = length-set words (4 * i + 3) (mass_at words i + m);
-        })
+        (holds (topology_list (added t m es) 0) count count words raised (Ok count) refl refl (sym is-added) (omega arith)
+        (omega (arith, p.room, length-set words (4 * i + 3) (mass_at words i + m)))
+        (raised-others count words i (mass_at words i + m) known p.room)
+        (length-set words (4 * i + 3) (mass_at words i + m)))
 
   module _ (new : count ≤ i) where
     is-new : added t m es ≡ es ++ (entry t m ∷ [])
@@ -63,29 +82,28 @@ module _ (count m : ℕ) (words : List ℕ) (t : Topology) (i : ℕ) (p : MassFi
     longer : length (added t m es) ≡ count + 1
     longer = omega (arith, ap length is-new, length-append es (entry t m ∷ []), long)
 
-    pub placed-full : length words / 4 ≤ count → HoldsList outcome count words words (record { count = count; number = 15 })
-    placed-full full =
-        subst (λ (l : TopologyList). HoldsList l count words words (record { count = count; number = 15 }))
+    pub placed-full : (r : Refusal) → number r ≡ refuse (leb (length words / 4) count) 15 → HoldsList outcome count words words (Err r)
+    placed-full r e =
+        let at = refused-by (leb (length words / 4) count) 15 r e in
+        let full : length words / 4 ≤ count = leb-true (length words / 4) count at.0 in
+        subst (λ (l : TopologyList). HoldsList l count words words (Err r))
         (sym (no_room (length words / 4) es (added t m es) (omega (arith, longer))))
-        (record { number = refl; entries = refl; grows = omega arith; room = p.room; others = refl; sized = refl })
+        (holds (topology_list es 15) count count words words (Err r) at.1 tt refl (omega arith) p.room refl refl)
 
-    module _ (space : count < length words / 4) where
+    module _ (passes : 0 ≡ refuse (leb (length words / 4) count) 15) where
+      space : count < length words / 4
+      space = leb-false (length words / 4) count (refuse-none (leb (length words / 4) count) 14 (sym passes))
+
       abbrev laid : List ℕ
       laid = sets words (4 * count) (t.nodes ∷ t.low ∷ t.high ∷ m ∷ [])
 
       pub has-space : 4 * count + 4 ≤ length words
-      has-space = omega arith
+      has-space = omega (arith, space)
 
-      pub placed-new : HoldsList outcome count words laid (record { count = count + 1; number = 0 })
+      pub placed-new : HoldsList outcome count words laid (Ok (count + 1))
       placed-new =
           let size : length laid ≡ length words = length-sets words (4 * count) (t.nodes ∷ t.low ∷ t.high ∷ m ∷ []) in
-          subst (λ (l : TopologyList). HoldsList l count words laid (record { count = count + 1; number = 0 }))
-          (sym (fits-room (length words / 4) es (added t m es) (omega (arith, longer))))
-          (record {
-            number = refl;
-            entries = laid-entries count words t m has-space ∙ sym is-new;
-            grows = omega arith;
-            room = omega arith;
-            others = laid-others count words t m has-space;
-            sized = size;
-          })
+          subst (λ (l : TopologyList). HoldsList l count words laid (Ok (count + 1)))
+          (sym (fits-room (length words / 4) es (added t m es) (omega (arith, longer, space))))
+          (holds (topology_list (added t m es) 0) count (count + 1) words laid (Ok (count + 1)) refl refl
+          (laid-entries count words t m has-space ∙ sym is-new) (omega arith) (omega (arith, has-space, size)) (laid-others count words t m has-space) size)

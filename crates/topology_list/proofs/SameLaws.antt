@@ -5,24 +5,10 @@ use mathlib.Core.Bool.{true, false}
 use mathlib.Core.List.{List, [], ◌∷◌, ◌++◌}
 use Prim.Native.Nat.{ℕ, zero, suc, ◌+◌, ◌<◌, ◌≤◌}
 use native.Mathlib.Omega.{arith}
-use borrow.Author.Tests.{ne_eqb, eq-eqb, lt-ltb, le-ltb}
-use lib.Dec.{eqb}
+use borrow.Author.Tests.{lt-ltb, le-ltb}
 use lib.ListN.{length, get_or, set}
 use Rattle.topology_list.specs.Entries.{Entry, entry, masses_in, same_topology, added, topology_list, fitted}
 use Rattle.topology_list.specs.declared.Topology.{Topology}
-
--- what the three tests of a topology say
-pub nodes-differ : (a t : Topology) → (a.nodes ≡ t.nodes → ⊥) → false ≡ same_topology a t
-unfolding same_topology
-nodes-differ a t n = rw (ne_eqb a.nodes t.nodes n)
-
-pub low-differs : (a t : Topology) → a.nodes ≡ t.nodes → (a.low ≡ t.low → ⊥) → false ≡ same_topology a t
-unfolding same_topology
-low-differs a t e n = rw (eq-eqb a.nodes t.nodes e, ne_eqb a.low t.low n)
-
-pub by_high : (a t : Topology) → a.nodes ≡ t.nodes → a.low ≡ t.low → eqb a.high t.high ≡ same_topology a t
-unfolding same_topology
-by_high a t e f = rw (eq-eqb a.nodes t.nodes e, eq-eqb a.low t.low f)
 
 abbrev pub none : Entry
 none = entry (record { nodes = 0; low = 0; high = 0 }) 0

@@ -22,7 +22,7 @@ use Rattle.topology_list.specs.Different.{Different, different_of}
 use Rattle.topology_list.proofs.ListLaws.{different-placed, never-over, sum-placed, masses-are}
 use Rattle.topology_list.specs.ListBounds.{lower_from, upper_from, sum_entries, cut_in}
 use Rattle.topology_list.specs.Words.{entries_of}
-use Rattle.topology_list.specs.Calls.{topology_list_in, topologies_number, listed_answer, count_in, list_after}
+use Rattle.topology_list.specs.Calls.{topology_list_in, topologies_number, list_after}
 use Rattle.topology_list.proofs.EntryLaws.{entry-words-length}
 use mathlib.Core.Logic.{◌↔◌}
 use native.Mathlib.Decide.{dec_le}
@@ -121,12 +121,9 @@ module _ (l : Lent) (list : List ℕ) (accepted : topologies_number intact l lis
   abbrev p : Plan
   p = plan_lent l
 
-  -- the entries in the lent list at exit, as many as the answer says
+  -- the entries in the lent list at exit, as many as the answer says (clause `count` of the call)
   abbrev written : List Entry
-  written =
-      entries_of
-      (count_in (listed_answer (topologies_number intact l list) (length (topology_list_in intact l list).entries)))
-      (list_after intact l list)
+  written = entries_of (length (topology_list_in intact l list).entries) (list_after intact l list)
 
   lists-fine : lists_number l ≡ 0
   unfolding topologies_number
@@ -139,9 +136,8 @@ module _ (l : Lent) (list : List ℕ) (accepted : topologies_number intact l lis
   -- they are the topology list
   pub written_is : written ≡ (topology_list_in intact l list).entries
   written_is =
-      rw accepted
-      (ap (entries_of (length (topology_list_in intact l list).entries)) (left_behind l list lists-fine)
-      ∙ entries-of-words (topology_list_in intact l list).entries _)
+      ap (entries_of (length (topology_list_in intact l list).entries)) (left_behind l list lists-fine)
+      ∙ entries-of-words (topology_list_in intact l list).entries _
 
   few : p.nodes ≤ 64
   unfolding plan_of_lists

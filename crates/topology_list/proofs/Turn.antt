@@ -1,5 +1,7 @@
 -- One turn of the loop over the relevant scenarios of the walk, and the whole walk from its root.
 -- Assumes nothing.
+use Rattle.std.specs.Prelude.{Result, Ok}
+use Rattle.std.proofs.lemmas.Result.{IfOk-at_ok}
 use mathlib.Core.Path.{◌≡◌, refl, sym, ap, subst, ◌∙◌}
 use mathlib.Core.Bool.{true, false}
 use mathlib.Core.List.{List, [], ◌∷◌}
@@ -28,63 +30,72 @@ use Rattle.topology_list.proofs.ListLaws.{refused-stays, masses-placed}
 use Rattle.topology_list.specs.Words.{entries_of, MassFits, HoldsList}
 use Rattle.topology_list.specs.MassesFit.{next_ends, MassesFit}
 use Rattle.topology_list.specs.declared.Topology.{Topology}
-use Rattle.topology_list.specs.declared.Placed.{Placed}
+use Rattle.topology_list.proofs.PlaceLaws.{holds}
+use Rattle.mass.specs.Refusal.{number_in}
+use Rattle.mass.specs.declared.refusal.Refusal.{Refusal}
 
 -- ---- one scenario's topology placed, then the others
 
 -- what is given where no entry is added
 pub none-given : (count : ℕ) (list : List ℕ) → 4 * count ≤ length list
-    → HoldsList (topology_list (entries_of count list) 0) count list list (record { count = count; number = 0 })
-none-given count list room = record { number = refl; entries = refl; grows = omega arith; room = room; others = refl; sized = refl }
+    → HoldsList (topology_list (entries_of count list) 0) count list list (Ok count)
+none-given count list room = holds (topology_list (entries_of count list) 0) count count list list (Ok count) refl refl refl (omega arith) room refl refl
 
-module _ (T : Scenario → Topology) (count : ℕ) (list list₁ : List ℕ) (q : Placed) (s : Scenario) (mass : ℕ) (later : List End)
+module _ (T : Scenario → Topology) (count : ℕ) (list list₁ : List ℕ) (q : Result ℕ Refusal) (s : Scenario) (mass : ℕ) (later : List End)
     (given : HoldsList (placed (length list / 4) T (topology_list (entries_of count list) 0) (relevant s mass)) count list list₁ q) where
   abbrev out : TopologyList
   out = placed (length list / 4) T (topology_list (entries_of count list) 0) (relevant s mass)
 
   -- no entry was left for it: what is given is given for all
-  full-given : (q.number ≡ 0 → ⊥) → HoldsList (placed_all (length list / 4) T out later) count list list₁ q
+  full-given : (number_in q ≡ 0 → ⊥) → HoldsList (placed_all (length list / 4) T out later) count list list₁ q
   full-given full =
       subst (λ (l : TopologyList). HoldsList l count list list₁ q)
       (sym (refused-stays (length list / 4) T out later (λ z. full (given.number ∙ z)))) given
 
   -- what is given for the others, after it, is given for all
-  then-given : q.number ≡ 0 → (list₂ : List ℕ) (q₂ : Placed)
-      → HoldsList (placed_all (length list₁ / 4) T (topology_list (entries_of q.count list₁) 0) later) q.count list₁ list₂ q₂
+  then-given : (n : ℕ) → number_in q ≡ 0 → n ≡ length out.entries → (list₂ : List ℕ) (q₂ : Result ℕ Refusal)
+      → HoldsList (placed_all (length list₁ / 4) T (topology_list (entries_of n list₁) 0) later) n list₁ list₂ q₂
       → HoldsList (placed_all (length list / 4) T out later) count list list₂ q₂
-  then-given z list₂ q₂ next =
+  then-given n z is list₂ q₂ next =
       record {
-        number = next.number ∙ ap (λ (l : TopologyList). l.number) same_list;
-        entries = next.entries ∙ ap (λ (l : TopologyList). l.entries) same_list;
-        grows = omega (arith, given.grows, next.grows);
-        room = next.room;
+        number = next-all.number;
+        count-is = next-all.count-is;
+        entries = next-all.entries;
+        grows = omega (arith, given.grows, next-all.grows, is);
+        room = next-all.room;
         others =
-            next.others
-            ∙ ap (λ (n : ℕ). drop n list₁) more
-            ∙ sym (drop-drop past (4 * q.count) list₁)
+            next-all.others
+            ∙ ap (λ (k : ℕ). drop k list₁) more
+            ∙ sym (drop-drop past (4 * length out.entries) list₁)
             ∙ ap (drop past) given.others
-            ∙ drop-drop past (4 * q.count) list
-            ∙ ap (λ (n : ℕ). drop n list) (sym more);
-        sized = next.sized ∙ given.sized;
+            ∙ drop-drop past (4 * length out.entries) list
+            ∙ ap (λ (k : ℕ). drop k list) (sym more);
+        sized = next-all.sized ∙ given.sized;
       }
     where
-      past : ℕ
-      past = 4 * q₂.count - 4 * q.count
+      entries-are : entries_of n list₁ ≡ out.entries
+      entries-are = ap (λ (k : ℕ). entries_of k list₁) is ∙ given.entries
 
-      more : 4 * q₂.count ≡ 4 * q.count + past
-      more = omega (arith, next.grows)
-
-      same_list : placed_all (length list₁ / 4) T (topology_list (entries_of q.count list₁) 0) later ≡ placed_all (length list / 4) T out later
+      same_list : placed_all (length list₁ / 4) T (topology_list (entries_of n list₁) 0) later ≡ placed_all (length list / 4) T out later
       same_list =
-          ap (λ (n : ℕ). placed_all (n / 4) T (topology_list (entries_of q.count list₁) 0) later) given.sized
+          ap (λ (k : ℕ). placed_all (k / 4) T (topology_list (entries_of n list₁) 0) later) given.sized
           ∙ ap (λ (l : TopologyList). placed_all (length list / 4) T l later)
-          (λ i. record { entries = given.entries i; number = (sym z ∙ given.number) i })
+          (λ i. record { entries = entries-are i; number = (sym z ∙ given.number) i })
+
+      next-all : HoldsList (placed_all (length list / 4) T out later) n list₁ list₂ q₂
+      next-all = subst (λ (l : TopologyList). HoldsList l n list₁ list₂ q₂) same_list next
+
+      past : ℕ
+      past = 4 * length (placed_all (length list / 4) T out later).entries - 4 * length out.entries
+
+      more : 4 * length (placed_all (length list / 4) T out later).entries ≡ 4 * length out.entries + past
+      more = omega (arith, next-all.grows, is)
 
 -- ---- the loop: what is given for the ends that are left is given for the whole
 
 pub record Turn (h : Header) (links words : List ℕ) (at₀ : ℕ) (stack₀ list₀ : List ℕ) (k : ℕ)
     (stack list : List ℕ) (at left count : ℕ) : Type 0 where
-  pub gives : (list' : List ℕ) (q : Placed)
+  pub gives : (list' : List ℕ) (q : Result ℕ Refusal)
       → HoldsList
       (placed_all (length list / 4) (topology_after intact (plan_of_lists h links words)) (topology_list (entries_of count list) 0)
       (next_ends h words at stack left))
@@ -131,10 +142,10 @@ module _ (h : Header) (links words : List ℕ) (at₀ : ℕ) (stack₀ list₀ :
   left-to-place = placed_all (length list / 4) T (topology_list (entries_of count list) 0)
 
   -- no scenario is left
-  pub ended : r.found ≡ false → HoldsList aim 0 list₀ list (record { count = count; number = 0 })
+  pub ended : r.found ≡ false → HoldsList aim 0 list₀ list (Ok count)
   ended e =
       g.gives list _
-      (subst (λ (l : TopologyList). HoldsList l count list list (record { count = count; number = 0 }))
+      (subst (λ (l : TopologyList). HoldsList l count list list (Ok count))
       (sym (value_none h.events h.threshold words at stack left stack' r s left-to-place (λ l. refl) e))
       (none-given count list g.room))
 
@@ -147,7 +158,7 @@ module _ (h : Header) (links words : List ℕ) (at₀ : ℕ) (stack₀ list₀ :
     may-place = record { room = g.room; fits = omega (arith, g.fits, masses) }
 
     -- its topology is placed
-    module _ (t : Topology) (is : t ≡ T here) (list' : List ℕ) (q : Placed)
+    module _ (t : Topology) (is : t ≡ T here) (list' : List ℕ) (q : Result ℕ Refusal)
         (placing : HoldsList (fitted (length list / 4) (entries_of count list) (added t r.mass (entries_of count list)))
         count list list' q) where
       given : HoldsList (placed (length list / 4) T (topology_list (entries_of count list) 0) (relevant here r.mass)) count list list' q
@@ -157,21 +168,21 @@ module _ (h : Header) (links words : List ℕ) (at₀ : ℕ) (stack₀ list₀ :
           HoldsList (fitted (length list / 4) (entries_of count list) (added x r.mass (entries_of count list))) count list list' q)
           is placing
 
-      from_first : (list'' : List ℕ) (q' : Placed)
+      from_first : (list'' : List ℕ) (q' : Result ℕ Refusal)
           → HoldsList (left-to-place (relevant here r.mass ∷ later)) count list list'' q' → HoldsList aim 0 list₀ list'' q'
       from_first list'' q' first =
           g.gives list'' q'
           (subst (λ (l : TopologyList). HoldsList l count list list'' q')
           (sym (value_found h.events h.threshold words at stack left stack' r s left-to-place (λ l. refl) e)) first)
 
-      pub stopped : (q.number ≡ 0 → ⊥) → HoldsList aim 0 list₀ list' q
+      pub stopped : (number_in q ≡ 0 → ⊥) → HoldsList aim 0 list₀ list' q
       stopped full = from_first list' q (full-given T count list list' q here r.mass later given full)
 
-      pub turned : q.number ≡ 0 → Turn h links words at₀ stack₀ list₀ k stack' list' r.at r.left q.count
-      turned z =
+      pub turned : (n : ℕ) → q ≡ Ok n → Turn h links words at₀ stack₀ list₀ k stack' list' r.at r.left n
+      turned n ok =
           record {
-            gives = λ list'' q' next. from_first list'' q' (then-given T count list list' q here r.mass later given z list'' q' next);
-            room = given.room;
+            gives = λ list'' q' next. from_first list'' q' (then-given T count list list' q here r.mass later given n (ap number_in ok) count-is list'' q' next);
+            room = omega (arith, given.room, count-is);
             sized = given.sized ∙ g.sized;
             held = g.held;
             stacked = s.held;
@@ -180,10 +191,14 @@ module _ (h : Header) (links words : List ℕ) (at₀ : ℕ) (stack₀ list₀ :
                   arith,
                   g.fits,
                   masses,
+                  ap (λ (k : ℕ). masses_in (entries_of k list')) count-is,
                   ap masses_in given.entries,
                   masses-placed (length list / 4) T (entries_of count list) here r.mass,
                 );
           }
+        where
+          count-is : n ≡ length (placed (length list / 4) T (topology_list (entries_of count list) 0) (relevant here r.mass)).entries
+          count-is = IfOk-at_ok (λ k. k ≡ length (placed (length list / 4) T (topology_list (entries_of count list) 0) (relevant here r.mass)).entries) ok given.count-is
 
 -- ---- from the root
 

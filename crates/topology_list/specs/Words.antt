@@ -1,11 +1,12 @@
 -- The entries of a topology list in memory, four words each: nodes, links 0 to 63, links 64 to 127, mass. What a search for one and
 -- placing a mass ask and promise.
 -- Assumes nothing.
-use Rattle.std.specs.Prelude.{◌≡◌, true, false, List, [], ◌∷◌, ℕ, zero, suc, ◌+◌, ◌*◌, ◌<◌, ◌≤◌, length, get_or, drop}
+use Rattle.std.specs.Prelude.{◌≡◌, true, false, List, [], ◌∷◌, ℕ, zero, suc, ◌+◌, ◌*◌, ◌<◌, ◌≤◌, length, get_or, drop, Result, IfOk}
+use Rattle.mass.specs.Refusal.{number_in}
+use Rattle.mass.specs.declared.refusal.Refusal.{Refusal}
 use Rattle.mass.specs.Split.{whole}
 use Rattle.topology_list.specs.Entries.{Entry, entry, masses_in, same_topology, TopologyList}
 use Rattle.topology_list.specs.declared.Topology.{Topology}
-use Rattle.topology_list.specs.declared.Placed.{Placed}
 
 -- entry i of a list of words
 abbrev pub topology_at : List ℕ → ℕ → Topology
@@ -33,11 +34,13 @@ pub record MassFits (count mass : ℕ) (words : List ℕ) : Type 0 where
   pub room : 4 * count ≤ length words
   pub fits : masses_in (entries_of count words) + mass ≤ whole
 
--- what it promises: the words hold the entries of a topology list, and those past the last entry stay as they were
-pub record HoldsList (list : TopologyList) (count : ℕ) (words words' : List ℕ) (r : Placed) : Type 0 where
-  pub number : r.number ≡ list.number
-  pub entries : entries_of r.count words' ≡ list.entries
-  pub grows : count ≤ r.count
-  pub room : 4 * r.count ≤ length words'
-  pub others : drop (4 * r.count) words' ≡ drop (4 * r.count) words
+-- what it promises: the answer has the list's number, and how many entries it has where it is given; the words hold the entries of the list,
+-- also at 15, and those past the last entry stay as they were
+pub record HoldsList (list : TopologyList) (count : ℕ) (words words' : List ℕ) (r : Result ℕ Refusal) : Type 0 where
+  pub number : number_in r ≡ list.number
+  pub count-is : IfOk r (λ n. n ≡ length list.entries)
+  pub entries : entries_of (length list.entries) words' ≡ list.entries
+  pub grows : count ≤ length list.entries
+  pub room : 4 * length list.entries ≤ length words'
+  pub others : drop (4 * length list.entries) words' ≡ drop (4 * length list.entries) words
   pub sized : length words' ≡ length words

@@ -11,8 +11,9 @@ ghost use Rattle.topology_list.specs.TopologyList.{placed_all, topology_after, t
 ghost use Rattle.topology_list.specs.Words.{HoldsList};
 ghost use Rattle.topology_list.specs.MassesFit.{next_ends, MassesFit};
 
+use crate::Topology;
 use crate::entries::place_topology;
-use crate::{Placed, Topology};
+use mass::Refusal;
 use network::Failed;
 use plan::Header;
 use walk::Failing;
@@ -57,7 +58,7 @@ fn list_ends(
     stack: &mut [u64; 512],
     start: usize,
     list: &mut [u64],
-) -> Placed
+) -> Result<usize, Refusal>
     requires links_at { LinksAt links.now h.links table.now }
     requires masses_fit { MassesFit h links.now words.now start stack.old }
     ensures { HoldsList
@@ -73,25 +74,26 @@ fn list_ends(
     loop {
         let r = walk::next_relevant(h.events, h.threshold, words, &mut *stack, at, left);
         if !r.found {
-            return Placed { count, number: 0 };
+            return Ok(count);
         }
         let failing = Failing {
             low: r.low,
             high: r.high,
         };
         let t = topology_of(h, links, words, table, failing);
-        let placed = place_topology(&mut *list, count, t, r.mass);
-        if placed.number != 0 {
-            return placed;
-        }
-        count = placed.count;
+        count = place_topology(&mut *list, count, t, r.mass)?;
         at = r.at;
         left = r.left;
     }
 }
 
 // The topology list of an accepted plan, from the root of the walk.
-pub fn list_all(h: Header, links: &[u8; 256], words: &[u64; 512], list: &mut [u64]) -> Placed
+pub fn list_all(
+    h: Header,
+    links: &[u8; 256],
+    words: &[u64; 512],
+    list: &mut [u64],
+) -> Result<usize, Refusal>
     requires { Held h links.now words.now }
     ensures { HoldsList (topology_list_of intact (length list.old / 4) (plan_of_lists h links.now words.now))
         0 list.old list.new result }

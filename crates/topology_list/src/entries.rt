@@ -1,41 +1,35 @@
 // The entries of a topology list, four words each: nodes, links 0 to 63, links 64 to 127, mass.
 // Document 01, section "Further readings of a plan".
-ghost use Rattle.std.specs.Prelude.{◌≡◌, [], ◌∷◌, ◌+◌, ◌*◌, ◌/◌, ◌^◌, ◌<◌, ◌≤◌, length, set};
+ghost use Rattle.std.specs.Prelude.{◌≡◌, [], ◌∷◌, ◌+◌, ◌*◌, ◌/◌, ◌^◌, ◌<◌, ◌≤◌, length, set, MatchOption};
 ghost use Rattle.std.proofs.lemmas.List.Edits.{sets};
 ghost use Rattle.topology_list.specs.Entries.{same_topology, added, fitted};
 ghost use Rattle.topology_list.specs.Words.{topology_at, mass_at, entries_of, Found, MassFits, HoldsList};
 
-use crate::{Placed, Topology};
+use crate::Topology;
+use mass::Refusal;
 
 // Whether entry i has the topology.
+#[tactic(auto, using(std::proofs::Common::tests), unfolding(crate::specs::Entries::same_topology))]
 fn is_at(list: &[u64], i: usize, t: Topology) -> bool
     requires { 4 * i + 4 ≤ length list.now }
     ensures { result ≡ same_topology (topology_at list.now i) t }
 {
     let at = 4 * i;
-    if list[at] != t.nodes {
-        return false;
-    }
-    if list[at + 1] != t.low {
-        return false;
-    }
-    list[at + 2] == t.high
+    list[at] == t.nodes && list[at + 1] == t.low && list[at + 2] == t.high
 }
 
-// The first of `count` entries that has the topology, or `count`.
-fn find(list: &[u64], count: usize, t: Topology) -> usize
+// The first of `count` entries that has the topology, if one has it.
+fn find(list: &[u64], count: usize, t: Topology) -> Option<usize>
     requires { 4 * count ≤ length list.now }
-    ensures { Found t count list.now result }
+    ensures { MatchOption result (Found t count list.now count) (λ i. (i < count) × Found t count list.now i) }
 {
-    let mut i = 0;
-    // None of the first i entries has the topology. Each turn raises i, up to `count`.
-    while i < count {
+    // None of the first i entries has the topology.
+    for i in 0..count {
         if is_at(list, i, t) {
-            return i;
+            return Some(i);
         }
-        i += 1;
     }
-    i
+    None
 }
 
 // Adds to the mass of entry i.
@@ -43,8 +37,7 @@ fn raise(list: &mut [u64], i: usize, mass: u64)
     requires { (4 * i + 4 ≤ length list.old) × (mass_at list.old i + mass < 2 ^ 64) }
     ensures { list.new ≡ set list.old (4 * i + 3) (mass_at list.old i + mass) }
 {
-    let at = 4 * i + 3;
-    list[at] = list[at] + mass;
+    list[4 * i + 3] += mass;
 }
 
 // Lays entry i down.
@@ -60,23 +53,22 @@ fn put(list: &mut [u64], i: usize, t: Topology, mass: u64)
 }
 
 // Adds a mass to the entry of its topology, or to a new entry after the last; 15 where the list has no entry left for it.
-pub fn place_topology(list: &mut [u64], count: usize, t: Topology, mass: u64) -> Placed
+pub fn place_topology(
+    list: &mut [u64],
+    count: usize,
+    t: Topology,
+    mass: u64,
+) -> Result<usize, Refusal>
     requires { MassFits count mass list.old }
     ensures { HoldsList
         (fitted (length list.old / 4) (entries_of count list.old) (added t mass (entries_of count list.old)))
         count list.old list.new result }
 {
-    let i = find(list, count, t);
-    if i < count {
+    if let Some(i) = find(list, count, t) {
         raise(list, i, mass);
-        return Placed { count, number: 0 };
+        return Ok(count);
     }
-    if list.len() / 4 <= count {
-        return Placed { count, number: 15 };
-    }
+    Refusal::ListFull.when(list.len() / 4 <= count)?;
     put(list, count, t, mass);
-    Placed {
-        count: count + 1,
-        number: 0,
-    }
+    Ok(count + 1)
 }

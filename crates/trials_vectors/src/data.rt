@@ -3,7 +3,8 @@ ghost use Rattle.std.specs.Prelude.{◌≡◌, [], ◌∷◌};
 ghost use Rattle.trials_vectors.specs.Data.{LinksUpTo, LargeFile, FullEvents};
 
 use crate::compare::{same, same_part};
-use plan::{Header, Reading, Writing};
+use mass::{Refusal, number_in};
+use plan::Header;
 use plan_lists::copy_first;
 use std::io;
 
@@ -90,44 +91,43 @@ pub fn full_events() -> [u64; 512]
 }
 
 // Holds the answer of a reading to the numbers of an accepted plan.
-pub fn accepted(rt: &impl Print, label: &[u8], answer: Reading, want: Header) -> io::Result<()> {
+pub fn accepted(
+    rt: &impl Print,
+    label: &[u8],
+    answer: Result<Header, Refusal>,
+    want: Header,
+) -> io::Result<()> {
     match answer {
-        Reading::Refused(number) => {
-            same(rt, label, number as u64, 0)?;
-        }
-        Reading::Accepted(h) => {
+        Err(refusal) => same(rt, label, u32::from(refusal) as u64, 0),
+        Ok(h) => {
             same_part(rt, label, b"nodes", h.nodes, want.nodes)?;
             same_part(rt, label, b"links", h.links, want.links)?;
             same_part(rt, label, b"events", h.events, want.events)?;
             same_part(rt, label, b"threshold", h.threshold, want.threshold)?;
-            same_part(rt, label, b"cap", h.cap, want.cap)?;
+            same_part(rt, label, b"cap", h.cap, want.cap)
         }
     }
-    Ok(())
 }
 
-// Holds the answer of a reading to the number of a refusal.
-pub fn refused(rt: &impl Print, label: &[u8], answer: Reading, want: u64) -> io::Result<()> {
-    match answer {
-        Reading::Refused(number) => {
-            same(rt, label, number as u64, want)?;
-        }
-        Reading::Accepted(_) => {
-            same(rt, label, 0, want)?;
-        }
-    }
-    Ok(())
+// Holds an answer to the number of a refusal, or to 0.
+pub fn refused<T: Drop>(
+    rt: &impl Print,
+    label: &[u8],
+    answer: Result<T, Refusal>,
+    want: u64,
+) -> io::Result<()> {
+    same(rt, label, number_in(&answer) as u64, want)
 }
 
 // Holds the answer of a writing to how many bytes it should lay down.
-pub fn written(rt: &impl Print, label: &[u8], answer: Writing, want: u64) -> io::Result<()> {
+pub fn written(
+    rt: &impl Print,
+    label: &[u8],
+    answer: Result<usize, Refusal>,
+    want: u64,
+) -> io::Result<()> {
     match answer {
-        Writing::Refused(number) => {
-            same(rt, label, number as u64, 0)?;
-        }
-        Writing::Written(count) => {
-            same(rt, label, count as u64, want)?;
-        }
+        Err(refusal) => same(rt, label, u32::from(refusal) as u64, 0),
+        Ok(count) => same(rt, label, count as u64, want),
     }
-    Ok(())
 }

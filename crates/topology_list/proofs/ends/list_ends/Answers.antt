@@ -1,5 +1,7 @@
 -- `topology_list::ends::list_ends` meets its contract: the invariant is `Turn`, the measure the ends left. Assumes nothing.
-use mathlib.Core.Path.{◌∙◌}
+use Rattle.std.proofs.lemmas.Result.{err_from_is_err_and}
+use mathlib.Core.Path.{refl}
+use Rattle.mass.proofs.RefusalLaws.{number-some}
 use borrow.Author.Tests.{not-true, not-false}
 use Rattle.walk.proofs.Resume.{left_less}
 use Rattle.topology_list.proofs.Turn.{turn-begun, ended, may-place, stopped, turned}
@@ -28,18 +30,16 @@ topology_of-t-requires c =
       high_bound = c.next_relevant-r.ensures.decided;
     }
 
-pub place_topology-placed-requires : goal.place_topology-placed-requires
-place_topology-placed-requires c =
+pub place_topology-requires : goal.place_topology-requires
+place_topology-requires c =
     may-place _ _ _ _ _ _ _ _ _ _ _ _ c.loop-h.invariant _ _ c.next_relevant-r.ensures (not-false _ c.if-not-r.false)
 
-pub shape_of-list-then-placed-ne0 : goal.shape_of-list-then-placed-ne0
-shape_of-list-then-placed-ne0 c =
-    c.place_topology-placed.ensures.sized ∙ c.loop-h.invariant.sized
-
-pub returns-then-placed-ne0 : goal.returns-then-placed-ne0
-returns-then-placed-ne0 c =
-    stopped _ _ _ _ _ _ _ _ _ _ _ _ c.loop-h.invariant _ _ c.next_relevant-r.ensures (not-false _ c.if-not-r.false)
-    _ c.topology_of-t.ensures _ _ c.place_topology-placed.ensures c.if-placed-ne0.true
+pub returns-in_err-count : goal.returns-in_err-count
+returns-in_err-count c =
+    let p = err_from_is_err_and c.from_residual.result c.from_residual.ensures.1 in
+    rw (p.1, p.2)
+    (stopped _ _ _ _ _ _ _ _ _ _ _ _ c.loop-h.invariant _ _ c.next_relevant-r.ensures (not-false _ c.if-not-r.false)
+    _ c.topology_of-t.ensures _ _ c.in_err-count.ensures (number-some _))
 
 pub loop-h-smaller : goal.loop-h-smaller
 loop-h-smaller c =
@@ -48,4 +48,4 @@ loop-h-smaller c =
 pub loop-h-preserved : goal.loop-h-preserved
 loop-h-preserved c =
     turned _ _ _ _ _ _ _ _ _ _ _ _ c.loop-h.invariant _ _ c.next_relevant-r.ensures (not-false _ c.if-not-r.false)
-    _ c.topology_of-t.ensures _ _ c.place_topology-placed.ensures c.if-placed-ne0.false
+    _ c.topology_of-t.ensures _ _ c.in_ok-count.ensures _ refl
