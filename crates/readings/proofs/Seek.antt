@@ -19,6 +19,7 @@ use Rattle.network.specs.declared.Failed.{Failed}
 use Rattle.walk.specs.Scenario.{Scenario, scenario_of, failing_set}
 use Rattle.walk.proofs.ScenarioLaws.{failing-scenario}
 use Rattle.walk.specs.Steps.{StepTaken}
+use Rattle.walk.specs.declared.Examined.{Examined}
 use Rattle.walk.specs.declared.WalkStep.{WalkStep}
 use Rattle.walk.proofs.Resume.{scenarios-found, scenarios-none}
 use Rattle.bounds.specs.Bounds.{cuts}
@@ -91,27 +92,30 @@ module _ (h : Header) (links words : List ℕ) (at₀ : ℕ) (stack₀ : List �
   abbrev later : List Scenario
   later = reached_scenarios h words r.at stack' r.left
 
-  abbrev here : Scenario
-  here = scenario_of h.events (joined r.low r.high)
-
   -- no scenario is left
-  pub ended : r.found ≡ false → None ≡ searched intact p v w all
+  pub ended : r.found ≡ None → None ≡ searched intact p v w all
   ended e = nothing p v w ∙ ap (searched intact p v w) (sym (scenarios-none h.events h.threshold words at stack left stack' r s e)) ∙ g.answers
 
   -- one is
-  from_first : r.found ≡ true → searched intact p v w (here ∷ later) ≡ searched intact p v w all
-  from_first e = ap (searched intact p v w) (sym (scenarios-found h.events h.threshold words at stack left stack' r s e)) ∙ g.answers
+  module _ {x : Examined} (e : r.found ≡ Some x) where
+    abbrev here : Scenario
+    here = scenario_of h.events (joined x.failing.low x.failing.high)
 
-  pub found_here : r.found ≡ true → cuts intact p v w here ≡ true → r.low < 2 ^ 64
-      → Some (record { low = r.low; high = r.high }) ≡ searched intact p v w all
-  found_here e c fits =
-      ap Some (words_of r.low r.high fits here (sym (failing-scenario h.events (joined r.low r.high) s.decided)))
-      ∙ first-cuts p v w here later c
-      ∙ from_first e
+    from_first : searched intact p v w (here ∷ later) ≡ searched intact p v w all
+    from_first = ap (searched intact p v w) (sym (scenarios-found h.events h.threshold words at stack left stack' r s e)) ∙ g.answers
 
-  pub turned : r.found ≡ true → cuts intact p v w here ≡ false → Seek h links words at₀ stack₀ v w k stack' r.at r.left
-  turned e c =
-      record {
-        seeking = record { held = g.seeking.held; stacked = s.held; inside = g.seeking.inside };
-        answers = first-joins p v w here later c ∙ from_first e;
-      }
+    decided : joined x.failing.low x.failing.high < 2 ^ h.events
+    decided = s.decided x e
+
+    pub found_here : cuts intact p v w here ≡ true → x.failing.low < 2 ^ 64 → Some x.failing ≡ searched intact p v w all
+    found_here c fits =
+        ap Some (words_of x.failing.low x.failing.high fits here (sym (failing-scenario h.events (joined x.failing.low x.failing.high) decided)))
+        ∙ first-cuts p v w here later c
+        ∙ from_first
+
+    pub turned : cuts intact p v w here ≡ false → Seek h links words at₀ stack₀ v w k stack' r.at r.left
+    turned c =
+        record {
+          seeking = record { held = g.seeking.held; stacked = s.held; inside = g.seeking.inside };
+          answers = first-joins p v w here later c ∙ from_first;
+        }

@@ -74,15 +74,9 @@ fn search_on(
     // A scenario that is found takes one end or more, so `left` falls in each turn that does not return.
     loop {
         let r = walk::next_relevant(h.events, h.threshold, words, &mut *stack, at, left);
-        if !r.found {
-            return None;
-        }
-        let failing = Failing {
-            low: r.low,
-            high: r.high,
-        };
-        if cut_by(h, links, words, table, failing, v, w) {
-            return Some(failing);
+        let x = r.found?;
+        if cut_by(h, links, words, table, x.failing, v, w) {
+            return Some(x.failing);
         }
         at = r.at;
         left = r.left;

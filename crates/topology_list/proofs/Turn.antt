@@ -1,9 +1,8 @@
 -- One turn of the loop over the relevant scenarios of the walk, and the whole walk from its root.
 -- Assumes nothing.
-use Rattle.std.specs.Prelude.{Result, Ok}
+use Rattle.std.specs.Prelude.{Result, Ok, Some, None}
 use Rattle.std.proofs.lemmas.Result.{IfOk-at_ok}
 use mathlib.Core.Path.{◌≡◌, refl, sym, ap, subst, ◌∙◌}
-use mathlib.Core.Bool.{true, false}
 use mathlib.Core.List.{List, [], ◌∷◌}
 use Prim.Native.Nat.{ℕ, ◌+◌, ◌-◌, ◌*◌, ◌/◌, ◌≤◌}
 use native.Mathlib.Omega.{arith}
@@ -22,6 +21,7 @@ use Rattle.walk.proofs.Laws.{masses-le}
 use Rattle.walk.specs.Stack.{Stack}
 use Rattle.walk.specs.Steps.{StepTaken}
 use Rattle.walk.proofs.Valid.{held-probable}
+use Rattle.walk.specs.declared.Examined.{Examined}
 use Rattle.walk.specs.declared.WalkStep.{WalkStep}
 use Rattle.walk.proofs.Resume.{Alone, begun-stack, begun-whole, root-entry, value_found, value_none, sum-found}
 use Rattle.topology_list.specs.Entries.{masses_in, added, TopologyList, topology_list, fitted}
@@ -131,9 +131,6 @@ module _ (h : Header) (links words : List ℕ) (at₀ : ℕ) (stack₀ list₀ :
   abbrev aim : TopologyList
   aim = placed_all (length list₀ / 4) T (topology_list [] 0) (next_ends h words at₀ stack₀ k)
 
-  abbrev here : Scenario
-  here = scenario_of h.events (joined r.low r.high)
-
   abbrev later : List End
   later = next_ends h words r.at stack' r.left
 
@@ -142,46 +139,50 @@ module _ (h : Header) (links words : List ℕ) (at₀ : ℕ) (stack₀ list₀ :
   left-to-place = placed_all (length list / 4) T (topology_list (entries_of count list) 0)
 
   -- no scenario is left
-  pub ended : r.found ≡ false → HoldsList aim 0 list₀ list (Ok count)
+  pub ended : r.found ≡ None → HoldsList aim 0 list₀ list (Ok count)
   ended e =
       g.gives list _
       (subst (λ (l : TopologyList). HoldsList l count list list (Ok count))
       (sym (value_none h.events h.threshold words at stack left stack' r s left-to-place (λ l. refl) e))
       (none-given count list g.room))
 
-  module _ (e : r.found ≡ true) where
-    masses : sum_ends (λ s m. m) (next_ends h words at stack left) ≡ r.mass + sum_ends (λ s m. m) later
+  -- one is
+  module _ {x : Examined} (e : r.found ≡ Some x) where
+    abbrev here : Scenario
+    here = scenario_of h.events (joined x.failing.low x.failing.high)
+
+    masses : sum_ends (λ s m. m) (next_ends h words at stack left) ≡ x.mass + sum_ends (λ s m. m) later
     masses = sum-found h.events h.threshold words at stack left stack' r s (λ s m. m) e
 
     -- its mass has room
-    pub may-place : MassFits count r.mass list
+    pub may-place : MassFits count x.mass list
     may-place = record { room = g.room; fits = omega (arith, g.fits, masses) }
 
     -- its topology is placed
     module _ (t : Topology) (is : t ≡ T here) (list' : List ℕ) (q : Result ℕ Refusal)
-        (placing : HoldsList (fitted (length list / 4) (entries_of count list) (added t r.mass (entries_of count list)))
+        (placing : HoldsList (fitted (length list / 4) (entries_of count list) (added t x.mass (entries_of count list)))
         count list list' q) where
-      given : HoldsList (placed (length list / 4) T (topology_list (entries_of count list) 0) (relevant here r.mass)) count list list' q
+      given : HoldsList (placed (length list / 4) T (topology_list (entries_of count list) 0) (relevant here x.mass)) count list list' q
       given =
           subst
-          (λ (x : Topology).
-          HoldsList (fitted (length list / 4) (entries_of count list) (added x r.mass (entries_of count list))) count list list' q)
+          (λ (t : Topology).
+          HoldsList (fitted (length list / 4) (entries_of count list) (added t x.mass (entries_of count list))) count list list' q)
           is placing
 
       from_first : (list'' : List ℕ) (q' : Result ℕ Refusal)
-          → HoldsList (left-to-place (relevant here r.mass ∷ later)) count list list'' q' → HoldsList aim 0 list₀ list'' q'
+          → HoldsList (left-to-place (relevant here x.mass ∷ later)) count list list'' q' → HoldsList aim 0 list₀ list'' q'
       from_first list'' q' first =
           g.gives list'' q'
           (subst (λ (l : TopologyList). HoldsList l count list list'' q')
           (sym (value_found h.events h.threshold words at stack left stack' r s left-to-place (λ l. refl) e)) first)
 
       pub stopped : (number_in q ≡ 0 → ⊥) → HoldsList aim 0 list₀ list' q
-      stopped full = from_first list' q (full-given T count list list' q here r.mass later given full)
+      stopped full = from_first list' q (full-given T count list list' q here x.mass later given full)
 
       pub turned : (n : ℕ) → q ≡ Ok n → Turn h links words at₀ stack₀ list₀ k stack' list' r.at r.left n
       turned n ok =
           record {
-            gives = λ list'' q' next. from_first list'' q' (then-given T count list list' q here r.mass later given n (ap number_in ok) count-is list'' q' next);
+            gives = λ list'' q' next. from_first list'' q' (then-given T count list list' q here x.mass later given n (ap number_in ok) count-is list'' q' next);
             room = omega (arith, given.room, count-is);
             sized = given.sized ∙ g.sized;
             held = g.held;
@@ -193,12 +194,12 @@ module _ (h : Header) (links words : List ℕ) (at₀ : ℕ) (stack₀ list₀ :
                   masses,
                   ap (λ (k : ℕ). masses_in (entries_of k list')) count-is,
                   ap masses_in given.entries,
-                  masses-placed (length list / 4) T (entries_of count list) here r.mass,
+                  masses-placed (length list / 4) T (entries_of count list) here x.mass,
                 );
           }
         where
-          count-is : n ≡ length (placed (length list / 4) T (topology_list (entries_of count list) 0) (relevant here r.mass)).entries
-          count-is = IfOk-at_ok (λ k. k ≡ length (placed (length list / 4) T (topology_list (entries_of count list) 0) (relevant here r.mass)).entries) ok given.count-is
+          count-is : n ≡ length (placed (length list / 4) T (topology_list (entries_of count list) 0) (relevant here x.mass)).entries
+          count-is = IfOk-at_ok (λ k. k ≡ length (placed (length list / 4) T (topology_list (entries_of count list) 0) (relevant here x.mass)).entries) ok given.count-is
 
 -- ---- from the root
 

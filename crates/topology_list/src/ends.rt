@@ -73,15 +73,11 @@ fn list_ends(
     // A scenario that is found takes one end or more, so `left` falls in each turn that does not return.
     loop {
         let r = walk::next_relevant(h.events, h.threshold, words, &mut *stack, at, left);
-        if !r.found {
+        let Some(x) = r.found else {
             return Ok(count);
-        }
-        let failing = Failing {
-            low: r.low,
-            high: r.high,
         };
-        let t = topology_of(h, links, words, table, failing);
-        count = place_topology(&mut *list, count, t, r.mass)?;
+        let t = topology_of(h, links, words, table, x.failing);
+        count = place_topology(&mut *list, count, t, x.mass)?;
         at = r.at;
         left = r.left;
     }

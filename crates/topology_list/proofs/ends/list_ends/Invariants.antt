@@ -2,9 +2,9 @@
 use Rattle.topology_list.proofs.Turn.{Turn}
 use Rattle.topology_list.proofs.ends.list_ends.Given as goal
 
-abbrev pub invariant-loop-h : goal.invariant-loop-h
-invariant-loop-h l =
+abbrev pub invariant-loop-x : goal.invariant-loop-x
+invariant-loop-x l =
     Turn l.h l.links l.words l.initial.at l.initial.stack l.initial.list l.h.cap l.stack l.list l.at l.left l.count
 
-abbrev pub decreases-loop-h : goal.decreases-loop-h
-decreases-loop-h l = l.left
+abbrev pub decreases-loop-x : goal.decreases-loop-x
+decreases-loop-x l = l.left
