@@ -23,21 +23,17 @@ fn list(rt: &impl Print, label: &[u8], cap: u64, ks: &[u8], so_far: &[u8]) -> io
             return Ok(());
         }
         let r = wide_at(so_far, i);
-        let g = went_on(
+        went_on(
             rt,
             label,
-            w,
-            quota,
+            &mut w,
+            &mut quota,
             wide_at(ks, i),
             0,
             less(r, before),
             r,
             left_after(r),
         )?;
-        let next = g.walk;
-        let left = g.quota;
-        w = next;
-        quota = left;
         before = r;
     }
     Ok(())

@@ -36,63 +36,57 @@ fn seconds(rt: &impl Print, label: &[u8], cap: u64, n: u64, a: u64) -> io::Resul
 
 // One go-on for all n ends.
 fn at_once(rt: &impl Print, label: &[u8], cap: u64, n: u64) -> io::Result<()> {
-    let w = begun(rt, cap)?;
-    went_on(
-        rt,
-        label,
-        w,
-        Quota { left: FULL },
-        n,
-        0,
-        n,
-        n,
-        left_after(n),
-    )?;
-    Ok(())
+    let mut w = begun(rt, cap)?;
+    let mut quota = Quota { left: FULL };
+    went_on(rt, label, &mut w, &mut quota, n, 0, n, n, left_after(n))
 }
 
 // One for a ends, then one for the others.
 fn two(rt: &impl Print, label: &[u8], cap: u64, n: u64, a: u64) -> io::Result<()> {
-    let w = begun(rt, cap)?;
-    let first = went_on(
+    let mut w = begun(rt, cap)?;
+    let mut quota = Quota { left: FULL };
+    went_on(rt, label, &mut w, &mut quota, a, 0, a, a, left_after(a))?;
+    let rest = less(n, a);
+    went_on(
         rt,
         label,
-        w,
-        Quota { left: FULL },
-        a,
+        &mut w,
+        &mut quota,
+        rest,
         0,
-        a,
-        a,
-        left_after(a),
-    )?;
-    let w1 = first.walk;
-    let left = first.quota;
-    let rest = less(n, a);
-    went_on(rt, label, w1, left, rest, 0, rest, n, left_after(n))?;
-    Ok(())
+        rest,
+        n,
+        left_after(n),
+    )
 }
 
 // One for a ends, one for b ends, then one for the others: n less what these leave is a and b together.
 fn three(rt: &impl Print, label: &[u8], cap: u64, n: u64, a: u64, b: u64) -> io::Result<()> {
-    let w = begun(rt, cap)?;
+    let mut w = begun(rt, cap)?;
+    let mut quota = Quota { left: FULL };
     let rest = less(less(n, a), b);
     let both = less(n, rest);
-    let first = went_on(
+    went_on(rt, label, &mut w, &mut quota, a, 0, a, a, left_after(a))?;
+    went_on(
         rt,
         label,
-        w,
-        Quota { left: FULL },
-        a,
+        &mut w,
+        &mut quota,
+        b,
         0,
-        a,
-        a,
-        left_after(a),
+        b,
+        both,
+        left_after(both),
     )?;
-    let w1 = first.walk;
-    let left1 = first.quota;
-    let second = went_on(rt, label, w1, left1, b, 0, b, both, left_after(both))?;
-    let w2 = second.walk;
-    let left2 = second.quota;
-    went_on(rt, label, w2, left2, rest, 0, rest, n, left_after(n))?;
-    Ok(())
+    went_on(
+        rt,
+        label,
+        &mut w,
+        &mut quota,
+        rest,
+        0,
+        rest,
+        n,
+        left_after(n),
+    )
 }

@@ -15,30 +15,24 @@ pub const MASS: u64 = 507_000_000_000_000_000;
 
 // The walk after 5 ends.
 pub fn half(rt: &impl Print) -> io::Result<Walk>
-    ensures { IfOk result (λ w. LeftBy (begun_with 100).walk (record { left = 5 }) 5 w) }
+    ensures { IfOk result (λ w. LeftBy (begun_with 100) (record { left = 5 }) 5 w) }
 {
-    let g = went_on(
-        rt,
-        b"half",
-        begun(rt, 100)?,
-        Quota { left: 5 },
-        5,
-        0,
-        5,
-        5,
-        0,
-    )?;
-    Ok(g.walk)
+    let mut w = begun(rt, 100)?;
+    let mut quota = Quota { left: 5 };
+    went_on(rt, b"half", &mut w, &mut quota, 5, 0, 5, 5, 0)?;
+    Ok(w)
 }
 
 // Holds a go-on to number 0, no end, and a walk and a quota that are as they were; with an empty quota too.
 fn stays(rt: &impl Print, label: &[u8], w: Walk) -> io::Result<()> {
-    let g = panel::go_on(w, Quota { left: 100 }, 5);
-    answered(rt, label, 5, g, 0, 0, 100)?;
-    let same = g.walk;
+    let mut same = w;
+    let mut quota = Quota { left: 100 };
+    let answer = panel::go_on(&mut same, &mut quota, 5);
+    answered(rt, label, 5, answer, quota, 0, 0, 100)?;
     same_walk(rt, label, same, w)?;
-    let dry = panel::go_on(w, Quota { left: 0 }, 5);
-    answered(rt, label, 5, dry, 0, 0, 0)
+    let mut dry = Quota { left: 0 };
+    let answer = panel::go_on(&mut same, &mut dry, 5);
+    answered(rt, label, 5, answer, dry, 0, 0, 0)
 }
 
 // The walk with these numbers in its header.
@@ -74,31 +68,22 @@ fn with_numbers(
 
 // With the right numbers it goes on, so it is the wrong ones that stop it below.
 pub fn right(rt: &impl Print) -> io::Result<()> {
-    let w = with_header(rt, 3, 3, 4, THRESHOLD, 100)?;
-    went_on(
-        rt,
-        b"the right header",
-        w,
-        Quota { left: 100 },
-        5,
-        0,
-        5,
-        10,
-        95,
-    )?;
-    let x = with_numbers(rt, 504, 5, 4, MASS)?;
+    let mut w = with_header(rt, 3, 3, 4, THRESHOLD, 100)?;
+    let mut quota = Quota { left: 100 };
+    went_on(rt, b"the right header", &mut w, &mut quota, 5, 0, 5, 10, 95)?;
+    let mut x = with_numbers(rt, 504, 5, 4, MASS)?;
+    let mut other = Quota { left: 100 };
     went_on(
         rt,
         b"the right numbers",
-        x,
-        Quota { left: 100 },
+        &mut x,
+        &mut other,
         5,
         0,
         5,
         10,
         95,
-    )?;
-    Ok(())
+    )
 }
 
 pub fn counts(rt: &impl Print) -> io::Result<()> {

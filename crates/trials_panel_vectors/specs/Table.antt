@@ -1,15 +1,14 @@
--- The plan of the table, what its begin answers, and what a go-on leaves.
+-- The plan of the table, the walk that its begin gives, and what a go-on leaves.
 -- Assumes nothing.
-use Rattle.std.specs.Prelude.{◌≡◌, List, [], ◌∷◌, ℕ}
+use Rattle.std.specs.Prelude.{◌≡◌, List, [], ◌∷◌, ℕ, zero, suc, Result}
+use Rattle.mass.specs.declared.refusal.Refusal.{Refusal}
 use Rattle.plan.specs.LentLists.{in_words, lists_number}
 use Rattle.plan.specs.declared.Header.{Header}
-use Rattle.walk_state.specs.States.{walk_answer}
+use Rattle.walk_state.specs.States.{no_walk}
 use Rattle.walk_state.specs.declared.Walk.{Walk}
-use Rattle.walk_state.specs.declared.WalkAnswer.{WalkAnswer}
 use Rattle.panel.specs.Walks.{root_walk}
-use Rattle.panel.specs.Calls.{WentOn}
+use Rattle.panel.specs.Calls.{GoneOn, gone_on, WentOn}
 use Rattle.panel.specs.declared.Quota.{Quota}
-use Rattle.panel.specs.declared.GoneOn.{GoneOn}
 
 -- its header with a cap, its links, and four words for each event
 abbrev pub table_header : ℕ → Header
@@ -22,10 +21,18 @@ abbrev pub table_events : List ℕ
 table_events =
     400000000 ∷ 0 ∷ 2 ∷ 0 ∷ 300000000 ∷ 0 ∷ 1 ∷ 0 ∷ 250000000 ∷ 2 ∷ 0 ∷ 0 ∷ 200000000 ∷ 0 ∷ 6 ∷ 0 ∷ []
 
--- what a begin of this plan with a cap answers: the walk at its root, or the number and a walk of zeros
-abbrev pub begun_with : ℕ → WalkAnswer
+-- the walk that a begin of this plan with a cap gives; one of zeros where the cap is refused
+abbrev pub begun_with : ℕ → Walk
 begun_with cap =
-    walk_answer (lists_number (in_words (table_header cap) table_links table_events)) (root_walk (table_header cap) table_links table_events)
+    elim (lists_number (in_words (table_header cap) table_links table_events)) [
+      | zero ↦ root_walk (table_header cap) table_links table_events
+      | suc number ↦ no_walk
+    ]
+
+-- a go-on for at most k ends leaves this walk and this quota, with some answer
+pub record WentTo (w : Walk) (quota : Quota) (k : ℕ) (left : Walk) (rest : Quota) : Type 0 where
+  pub answer : Result ℕ Refusal
+  pub went : WentOn w quota k (gone_on answer left rest)
 
 -- the walk that a go-on for at most k ends leaves
 pub record LeftBy (w : Walk) (quota : Quota) (k : ℕ) (r : Walk) : Type 0 where

@@ -1,8 +1,9 @@
 // Holding what a look shows, and what a go-on answers, to what it should be.
 ghost use Rattle.std.specs.Prelude.{◌≡◌, ◌-◌};
 
-use bounds::{Paired, Totals};
-use panel::GoneOn;
+use bounds::Totals;
+use mass::{Refusal, number_in};
+use panel::Quota;
 use std::io;
 use trials_vectors::same_part;
 use walk_state::Walk;
@@ -66,15 +67,20 @@ pub fn bounds(
     lower: u64,
     upper: u64,
 ) -> io::Result<()> {
-    match panel::look_pair(w, v, x) {
-        Paired::Refused(n) => {
-            pair_after(rt, label, r, v, x, b"number", n as u64, number)?;
-        }
-        Paired::Done(b) => {
-            pair_after(rt, label, r, v, x, b"number", 0, number)?;
-            pair_after(rt, label, r, v, x, b"lower", b.lower, lower)?;
-            pair_after(rt, label, r, v, x, b"upper", b.upper, upper)?;
-        }
+    let answer = panel::look_pair(w, v, x);
+    pair_after(
+        rt,
+        label,
+        r,
+        v,
+        x,
+        b"number",
+        u64::from(number_in(&answer)),
+        number,
+    )?;
+    if let Ok(b) = answer {
+        pair_after(rt, label, r, v, x, b"lower", b.lower, lower)?;
+        pair_after(rt, label, r, v, x, b"upper", b.upper, upper)?;
     }
     Ok(())
 }
@@ -98,19 +104,27 @@ fn pair_after(
     Ok(())
 }
 
-// Holds the answer of a go-on to its number, the ends that it reached and what is left of the quota. The walk should have reached r ends.
+// Holds the answer of a go-on and the quota after it to its number, the ends that it reached and what is left of the quota. The walk should
+// have reached r ends.
 pub fn answered(
     rt: &impl Print,
     label: &[u8],
     r: u64,
-    g: GoneOn,
+    answer: Result<u64, Refusal>,
+    quota: Quota,
     number: u64,
     ends: u64,
     left: u64,
 ) -> io::Result<()> {
-    let quota = g.quota;
-    after(rt, label, r, b"number", g.number as u64, number)?;
-    after(rt, label, r, b"ends", g.reached, ends)?;
+    after(
+        rt,
+        label,
+        r,
+        b"number",
+        u64::from(number_in(&answer)),
+        number,
+    )?;
+    after(rt, label, r, b"ends", answer.unwrap_or(0), ends)?;
     after(rt, label, r, b"quota", quota.left, left)
 }
 

@@ -29,21 +29,20 @@
 //
 // The seven relevant ones have 252 + 63 + 84 + 108 + 168 + 56 + 72 = 803, the seven dropped ones 21 + 27 + 45 + 42 + 14 + 18 + 30 = 197.
 ghost use Rattle.std.specs.Prelude.{◌≡◌, IfOk, get_or};
-ghost use Rattle.panel.specs.Calls.{WentOn};
-ghost use Rattle.trials_panel_vectors.specs.Table.{begun_with};
+ghost use Rattle.trials_panel_vectors.specs.Table.{begun_with, WentTo};
 
 use crate::compare::{after, answered, bounds, totals};
-use panel::{GoneOn, Quota};
+use panel::Quota;
 use std::io;
 use trials_vectors::{header, same};
-use walk_state::Walk;
+use walk_state::{Walk, no_walk};
 
 // How many ends the walk has.
 const ENDS: u64 = 14;
 
 // The walk of this plan, begun, with a cap; a walk of zeros where the cap is refused.
 pub fn begun(rt: &impl Print, cap: u64) -> io::Result<Walk>
-    ensures { IfOk result (λ w. w ≡ (begun_with «cap»).walk) }
+    ensures { IfOk result (λ w. w ≡ begun_with «cap») }
 {
     let links = [0u8, 1, 0, 2, 1, 2];
     let events = [
@@ -66,8 +65,13 @@ pub fn begun(rt: &impl Print, cap: u64) -> io::Result<Walk>
     ];
     let h = header(3, 3, 4, 56_000_000_000_000_000, cap);
     let answer = panel::begin(h, &links, &events);
-    same(rt, b"the plan in the table", answer.number as u64, 0)?;
-    Ok(answer.walk)
+    same(
+        rt,
+        b"the plan in the table",
+        u64::from(mass::number_in(&answer)),
+        0,
+    )?;
+    Ok(answer.unwrap_or(no_walk()))
 }
 
 // The byte at a position: 0 past the last one.
@@ -195,20 +199,18 @@ pub fn shown(rt: &impl Print, label: &[u8], w: Walk, r: u64) -> io::Result<()> {
 pub fn went_on(
     rt: &impl Print,
     label: &[u8],
-    w: Walk,
-    quota: Quota,
+    walk: &mut Walk,
+    quota: &mut Quota,
     k: u64,
     number: u64,
     ends: u64,
     r: u64,
     left: u64,
-) -> io::Result<GoneOn>
-    ensures { IfOk result (λ g. WentOn w quota k g) }
+) -> io::Result<()>
+    ensures { WentTo walk.old quota.old k walk.new quota.new }
 {
-    let g = panel::go_on(w, quota, k);
-    answered(rt, label, r, g, number, ends, left)?;
-    let next = g.walk;
-    after(rt, label, r, b"reached", next.reached, r)?;
-    shown(rt, label, next, r)?;
-    Ok(g)
+    let answer = panel::go_on(walk, quota, k);
+    answered(rt, label, r, answer, *quota, number, ends, left)?;
+    after(rt, label, r, b"reached", walk.reached, r)?;
+    shown(rt, label, *walk, r)
 }
