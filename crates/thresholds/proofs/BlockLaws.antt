@@ -4,11 +4,11 @@ use mathlib.Core.Path.{◌≡◌, refl, sym, ap, ◌∙◌}
 use mathlib.Core.List.{List, [], ◌∷◌, map}
 use Prim.Native.Nat.{ℕ, zero, suc, ◌+◌, ◌-◌, ◌*◌, ◌<◌, ◌≤◌}
 use native.Mathlib.Nat.{add-zero, mul-zero, mul-suc, zero-add}
-use native.Mathlib.Decide.{dec_lt, ℕ_discrete}
+use native.Mathlib.Decide.{dec_lt}
 use native.Mathlib.Omega.{arith}
-use lib.ListN.{length, get_or, take, drop, set, replicate, length-append, length-map, length-replicate, length-drop, take-append-drop}
+use lib.ListN.{length, get_or, take, drop, replicate, length-append, length-map, length-replicate, length-drop, take-append-drop}
 use lib.ListN.{get_or-append}
-use lib.Seq.{sets, sets-eq, take-add, get_or-drop, get_or-append-add, ext_get_or, get_or-set_same, get_or-set_other}
+use lib.Seq.{sets, sets-eq, take-add, get_or-drop, get_or-append-add, ext_get_or}
 use Rattle.pairs.specs.Pairs.{table, place, pair_count}
 use Rattle.pairs.proofs.PairLaws.{table_is, table-long}
 use Rattle.bounds.proofs.Zeros.{zeros-at}
@@ -68,15 +68,7 @@ map_at f [] j h = absurd (omega arith)
 map_at f (x ∷ l) zero h = refl
 map_at f (x ∷ l) (suc j) h = map_at f l j (omega arith)
 
--- entries that are set one by one: those of a list under f
-pub one-more-set : (f : ℕ → ℕ) (from entries : List ℕ) (i x : ℕ) → i < length entries → x ≡ f (get_or from i 0)
-    → ((j : ℕ) → j < i → get_or entries j 0 ≡ f (get_or from j 0)) → (j : ℕ) → j < i + 1 → get_or (set entries i x) j 0 ≡ f (get_or from j 0)
-one-more-set f from entries i x room is each j h = go (ℕ_discrete j i)
-  where
-    go : Dec (j ≡ i) → get_or (set entries i x) j 0 ≡ f (get_or from j 0)
-    go (yes e) = rw e (get_or-set_same entries i x 0 room ∙ is)
-    go (no n) = get_or-set_other entries i j x 0 n ∙ each j (omega arith)
-
+-- entries that are those of a list under f
 pub all_set : (f : ℕ → ℕ) (from entries : List ℕ) → length entries ≡ length from → ((j : ℕ) → j < length entries → get_or entries j 0 ≡ f (get_or from j 0))
     → entries ≡ map f from
 all_set f from entries sized each =

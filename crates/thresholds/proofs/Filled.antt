@@ -24,7 +24,8 @@ use Rattle.pairs.specs.Pairs.{place, pair_count}
 use Rattle.pairs.proofs.PairLaws.{pairs-most, place-lt, unplace}
 use Rattle.bounds.specs.Bounds.{cuts, lower_of, upper_of, lower_list, upper_list}
 use Rattle.bounds.proofs.Answers.{mass-most, raised, enclosed}
-use Rattle.thresholds_sums.specs.Walked.{plan_with, plans_of, PlaceNumbers}
+use Rattle.thresholds_sums.specs.Walked.{plan_with, plans_of}
+use Rattle.thresholds_sums.specs.declared.PlaceNumbers.{PlaceNumbers}
 use Rattle.thresholds.specs.Thresholds.{thresholds_test, blocks, places, answer_of, EnclosesBlocks}
 use Rattle.thresholds.specs.Steps.{BlocksWalked, Raising, Raised}
 use Rattle.thresholds.specs.declared.Answered.{Answered}
@@ -109,8 +110,8 @@ module _ (h : Header) (links words list : List ℕ) (valid : plan_refusal (plan_
       (λ i l. flag_at i ∙ ap (λ (x : ℕ). digit (ltb 0 x)) (b.none i l).0)
 
   pub answers : (complete' : List ℕ) → complete' ≡ flags
-      → ◌≡◌ {A = Answered} (record { number = 0; count = n.counts; complete = complete'; mass = n.masses }) (answer_of plan list)
-  answers complete' e = λ i. record { number = 0; count = counts-are i; complete = (e ∙ flags-are) i; mass = masses-are i }
+      → ◌≡◌ {A = Answered} (record { count = n.counts; complete = complete'; mass = n.masses }) (answer_of plan list)
+  answers complete' e = λ i. record { count = counts-are i; complete = (e ∙ flags-are) i; mass = masses-are i }
 
   -- the blocks of upper bounds
   module _ (upper upper' : List ℕ) (room : pair_count h.nodes * length list ≤ length upper)

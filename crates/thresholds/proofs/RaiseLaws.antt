@@ -1,9 +1,9 @@
 -- Entries of a list after a run of stores, and one turn of the loop that raises the blocks.
 -- Assumes nothing.
-use mathlib.Core.Path.{◌≡◌, refl, ap, subst, ◌∙◌}
+use mathlib.Core.Path.{◌≡◌, ap, subst, ◌∙◌}
 use mathlib.Core.List.{List, ◌++◌, map}
-use Prim.Native.Nat.{ℕ, ◌+◌, ◌-◌, ◌*◌, ◌^◌, ◌<◌, ◌≤◌}
-use native.Mathlib.Nat.{mul-le-mul, mul-le-mul_left, add_comm}
+use Prim.Native.Nat.{ℕ, ◌+◌, ◌-◌, ◌*◌, ◌<◌, ◌≤◌}
+use native.Mathlib.Nat.{mul-le-mul_left, add_comm}
 use native.Mathlib.Decide.{dec_lt}
 use native.Mathlib.Omega.{arith}
 use lib.ListN.{length, get_or, take, drop, length-append, length-map, length-drop, get_or-append}
@@ -46,23 +46,13 @@ module _ (l : List ℕ) (k : ℕ) (vs : List ℕ) (room : k + length vs ≤ leng
 -- ---- the loop
 
 module _ (pairs count : ℕ) (masses lower upper₀ : List ℕ) (asked : Raising pairs count masses lower upper₀) where
-  -- no block is raised yet
-  pub none-raised : Raised pairs 0 masses lower upper₀ upper₀
-  none-raised = record { sized = refl; each = λ i j h k. absurd (omega arith); past = λ j h. refl }
-
   module _ (i : ℕ) (more : i < count) where
     last_block : pairs * i + pairs ≤ pairs * count
     last_block = omega (arith, mul-le-mul_left pairs more)
 
     -- block i may be raised
-    pub block-fits : (pairs + pairs * i ≤ length lower) × (pairs + pairs * i ≤ length upper₀)
+    block-fits : (pairs + pairs * i ≤ length lower) × (pairs + pairs * i ≤ length upper₀)
     block-fits = (omega (arith, last_block, asked.lower-room), omega (arith, last_block, asked.upper-room))
-
-    pub entry-fits : (j : ℕ) → j < pairs → (whole - get_or masses i 0) + get_or lower (j + pairs * i) 0 < 2 ^ 64
-    entry-fits j h = omega (arith, asked.below i j more h)
-
-    pub start_fits : pairs * i < 2 ^ 64
-    start_fits = let few : i ≤ 16 = omega (arith, asked.few) in omega (arith, mul-le-mul asked.small few)
 
     -- and then one block more is
     module _ (upper upper' : List ℕ) (r : Raised pairs i masses lower upper₀ upper)

@@ -1,36 +1,23 @@
--- The test of a list of thresholds: its loop, and what it says of the thresholds.
+-- The test of a list of thresholds: what it says of the thresholds.
 -- Assumes nothing.
-use mathlib.Core.Path.{◌≡◌, refl, sym, ap, ◌∙◌}
-use mathlib.Core.Bool.{Bool, true, false, ◌&&◌, ◌||◌}
+use mathlib.Core.Path.{◌≡◌, refl}
+use mathlib.Core.Bool.{true, ◌&&◌, ◌||◌}
 use mathlib.Core.List.{List, [], ◌∷◌}
 use Prim.Native.Nat.{ℕ, zero, suc, ◌+◌, ◌<◌, ◌≤◌}
 use native.Mathlib.Numerals.{add-one}
 use native.Mathlib.Omega.{arith}
 use borrow.Author.Tests.{leb-true, leb-false, ltb-true, ltb-false, lt-ltb, le-ltb, le-leb, lt-leb, not-false}
 use lib.Dec.{leb, ltb}
-use lib.ListN.{length, get_or, drop}
-use lib.Seq.{drop-cons}
-use Rattle.mass.specs.Refusal.{refuse}
+use lib.ListN.{length, get_or}
 use Rattle.mass.proofs.RefusalLaws.{refuse-none}
 use Rattle.mass.specs.Split.{whole}
-use Rattle.sets.proofs.Bools.{and_left, and_right, or_left, or_right, not-of}
+use Rattle.sets.proofs.Bools.{and_left, and_right}
 use Rattle.refusals.proofs.TestLaws.{or-none}
 use Rattle.thresholds.specs.Thresholds.{falls, thresholds_test}
 
 -- ---- the test
 
 module _ (list : List ℕ) where
-  -- what refuses
-  pub no-threshold : length list ≡ 0 → 23 ≡ thresholds_test list
-  no-threshold e = rw e
-
-  pub too_many : 16 < length list → 23 ≡ thresholds_test list
-  too_many h =
-      sym (ap (λ (b : Bool). refuse b 23) (or_left _ _ (or_right (leb (length list) 0) _ (lt-ltb 16 (length list) h))))
-
-  pub not-falling : falls (suc whole) list ≡ false → 23 ≡ thresholds_test list
-  not-falling e = sym (ap (λ (b : Bool). refuse b 23) (or_right (leb (length list) 0 || ltb 16 (length list)) _ (not-of _ e)))
-
   -- what passes
   pub test-passes : 0 < length list → length list ≤ 16 → falls (suc whole) list ≡ true → 0 ≡ thresholds_test list
   test-passes some few e = rw (lt-leb (length list) 0 some, le-ltb 16 (length list) few, e)
@@ -40,33 +27,6 @@ module _ (list : List ℕ) where
       let a = or-none (leb (length list) 0 || ltb 16 (length list)) _ (refuse-none _ 22 e) in
       let b = or-none (leb (length list) 0) (ltb 16 (length list)) a.0 in
       (leb-false (length list) 0 b.0, ltb-false 16 (length list) b.1, not-false _ a.1)
-
--- ---- its loop, at the threshold i of a list
-
-module _ (above : ℕ) (list : List ℕ) (i : ℕ) (h : i < length list) where
-  falls_at : falls above (drop i list) ≡ (leb 1 (get_or list i 0) && ltb (get_or list i 0) above && falls (get_or list i 0) (drop (i + 1) list))
-  falls_at = rw (add-one, drop-cons list i 0 h)
-
-  pub zero-stops : get_or list i 0 ≡ 0 → falls above (drop i list) ≡ false
-  zero-stops e = falls_at ∙ rw e
-
-  pub high-stops : above ≤ get_or list i 0 → falls above (drop i list) ≡ false
-  high-stops l = falls_at ∙ rw (le-ltb (get_or list i 0) above l) (and_none (leb 1 (get_or list i 0)))
-    where
-      and_none : (a : Bool) → (a && false && falls (get_or list i 0) (drop (i + 1) list)) ≡ false
-      and_none true = refl
-      and_none false = refl
-
-  pub falls-on : (get_or list i 0 ≡ 0 → ⊥) → get_or list i 0 < above → falls (get_or list i 0) (drop (i + 1) list) ≡ falls above (drop i list)
-  falls-on some l = sym (falls_at ∙ rw (le-leb 1 (get_or list i 0) (positive (get_or list i 0) some), lt-ltb (get_or list i 0) above l))
-    where
-      positive : (t : ℕ) → (t ≡ 0 → ⊥) → 1 ≤ t
-      positive zero n = absurd (n refl)
-      positive (suc t) n = omega arith
-
--- nothing is left to fall
-pub falls-end : (above : ℕ) (list : List ℕ) (i : ℕ) → length list ≤ i → falls above (drop i list) ≡ true
-falls-end above list i h = rw (lib.ListN.drop_of_length-le list h)
 
 -- ---- the thresholds of a list that falls
 

@@ -1,7 +1,7 @@
 -- Several thresholds in one walk: document 02, request U8. What the test of the list asks, where each place and each block stands, and "Each
 -- block, and its count, complete flag and E, equal those of a run on the same plan with that threshold and the plan's cap".
 -- Assumes nothing.
-use mathlib.Core.Path.{◌≡◌, refl, sym, ap, ◌∙◌}
+use mathlib.Core.Path.{◌≡◌, refl, sym, ◌∙◌}
 use mathlib.Core.List.{List, [], ◌∷◌, ◌++◌, append-nil}
 use mathlib.Core.Logic.{◌↔◌}
 use Prim.Native.Nat.{ℕ, zero, suc, ◌+◌, ◌*◌, ◌<◌, ◌≤◌}
@@ -13,7 +13,6 @@ use lib.Seq.{sets, sets-eq, drop-length, drop-drop, drop_at, take_at, take-appen
 use Rattle.mass.specs.Refusal.{first}
 use Rattle.mass.specs.Split.{whole}
 use Rattle.mass.proofs.RefusalLaws.{first-none, first-skip}
-use Rattle.refusals.proofs.OrderLaws.{none}
 use Rattle.refusals.proofs.TestLaws.{room-none, room-pass}
 use Rattle.plan.specs.LentLists.{Lent, plan_of_lists, plan_lent, lists_number}
 use Rattle.plan.specs.Calls.{filled}
@@ -22,8 +21,7 @@ use Rattle.walk.specs.Walk.{count, complete, mass_examined}
 use Rattle.pairs.specs.Pairs.{pair_count}
 use Rattle.pairs.proofs.PairLaws.{table-long}
 use Rattle.bounds.specs.Bounds.{lower_of, upper_of, lower_list, upper_list}
-use Rattle.bounds.specs.Calls.{run_number, ran_answer, totals_of}
-use Rattle.bounds.specs.declared.Ran.TheVariants as ran
+use Rattle.bounds.specs.Calls.{run_number, totals_of}
 use Rattle.thresholds.specs.Thresholds.{lent_at, plan_at, thresholds_test, thresholds_number, blocks, places, thresholds_answer}
 use Rattle.thresholds.specs.declared.CommonHeader.{CommonHeader}
 use Rattle.thresholds.specs.declared.Answered.{Answered}
@@ -94,6 +92,11 @@ all_laid values list e =
 
 -- ---- a run with one of the thresholds
 
+-- no test is left
+none : first [] ≡ 0
+unfolding first
+none = refl
+
 -- the lists are refused alike with every threshold from 1 to 10^18
 lists-alike : (h : CommonHeader) (links events : List ℕ) (t : ℕ) → 1 ≤ t → t ≤ whole
     → lists_number (lent_at h links events t) ≡ lists_number (lent_at h links events 1)
@@ -140,7 +143,7 @@ module _ (h : CommonHeader) (links events list lower upper : List ℕ) (accepted
       first-skip _ _ (lists-alike h links events (get_or list i 0) r.0 r.1 ∙ tests.0)
       ∙ first-skip _ _ (room-pass (length low) (pair_count h.nodes) (omega arith))
       ∙ first-skip _ _ (room-pass (length high) (pair_count h.nodes) (omega arith))
-      ∙ sym none
+      ∙ none
 
   -- law: block i of each list is what the run leaves in its list
   pub lower-as-run : take (pair_count h.nodes) (drop (pair_count h.nodes * i)
@@ -164,13 +167,14 @@ module _ (h : CommonHeader) (links events list lower upper : List ℕ) (accepted
       ∙ sym (all_laid (upper_list intact (plan_at h links events (get_or list i 0))) high (high-sized ∙ sym (long (get_or list i 0)))))
 
   -- law: its answer is what stands at place i
-  pub answer-as-run : ran_answer (run_number lent (length low) (length high)) (totals_of (plan_lent lent))
-      ≡ ran.Done (record { count = get_or answer.count i 0; complete = get_or answer.complete i 0; mass = get_or answer.mass i 0 })
-  answer-as-run =
-      rw (accepted, run-accepted)
-      (ap ran.Done
-      (λ k. record {
-        count = sym (places-at (λ t. count (plan_at h links events t)) list i l) k;
-        complete = sym (places-at (λ t. complete (plan_at h links events t)) list i l) k;
-        mass = sym (places-at (λ t. mass_examined (plan_at h links events t)) list i l) k;
-      }))
+  pub answer-as-run : (run_number lent (length low) (length high) ≡ 0)
+      × (totals_of (plan_lent lent) ≡ record { count = get_or answer.count i 0; complete = get_or answer.complete i 0; mass = get_or answer.mass i 0 })
+  answer-as-run = (
+    run-accepted,
+    rw accepted
+        (λ k. record {
+          count = sym (places-at (λ t. count (plan_at h links events t)) list i l) k;
+          complete = sym (places-at (λ t. complete (plan_at h links events t)) list i l) k;
+          mass = sym (places-at (λ t. mass_examined (plan_at h links events t)) list i l) k;
+        }),
+  )

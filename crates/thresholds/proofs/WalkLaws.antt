@@ -12,7 +12,8 @@ use Rattle.plan_lists.proofs.CopyLaws.{copied}
 use Rattle.pairs.specs.Pairs.{pair_count}
 use Rattle.pairs.proofs.PairLaws.{pairs-most}
 use Rattle.bounds.proofs.Zeros.{zeros-at}
-use Rattle.thresholds_sums.specs.Walked.{plan_with, plans_of, PlaceNumbers, place_numbers, numbers_at, FallingFirst, HoldsAnswers, Fresh, AllHoldAnswers}
+use Rattle.thresholds_sums.specs.declared.PlaceNumbers.{PlaceNumbers}
+use Rattle.thresholds_sums.specs.Walked.{plan_with, plans_of, place_numbers, numbers_at, FallingFirst, HoldsAnswers, Fresh, AllHoldAnswers}
 use Rattle.thresholds.specs.Thresholds.{thresholds_test}
 use Rattle.thresholds.specs.Steps.{BlocksWalked}
 use Rattle.thresholds.proofs.TestLaws.{test-none, in-range, in_order}

@@ -48,7 +48,6 @@ three = whole ∷ 500000000000000000 ∷ 1 ∷ []
 
 example-answer : answer_of (plan_at (header 9) (0 ∷ 1 ∷ []) event) three
     ≡ record {
-      number = 0;
       count = 0 ∷ 1 ∷ 2 ∷ replicate 13 0;
       complete = 1 ∷ 1 ∷ 1 ∷ replicate 13 0;
       mass = 0 ∷ 900000000000000000 ∷ whole ∷ replicate 13 0;

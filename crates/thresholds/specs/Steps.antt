@@ -3,7 +3,8 @@
 use Rattle.std.specs.Prelude.{◌≡◌, List, ℕ, ◌+◌, ◌-◌, ◌*◌, ◌<◌, ◌≤◌, length, get_or}
 use Rattle.mass.specs.Split.{whole}
 use Rattle.pairs.specs.Pairs.{pair_count}
-use Rattle.thresholds_sums.specs.Walked.{Plans, plan_for, PlaceNumbers, numbers_at, HoldsAnswers, Places}
+use Rattle.thresholds_sums.specs.Walked.{Plans, plan_for, numbers_at, HoldsAnswers, Places}
+use Rattle.thresholds_sums.specs.declared.PlaceNumbers.{PlaceNumbers}
 use Rattle.thresholds.specs.Thresholds.{thresholds_test}
 use Rattle.thresholds.specs.declared.CommonHeader.{CommonHeader}
 

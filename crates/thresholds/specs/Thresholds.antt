@@ -1,7 +1,7 @@
 -- Several thresholds in one walk: document 02, request U8.
 -- Assumes nothing.
-use Rattle.std.specs.Prelude.{Bool, true, not, ◌&&◌, ◌||◌, List, [], ◌∷◌, ◌++◌, map, ℕ, suc, ◌-◌, ◌*◌, ◌<◌, leb, ltb, length, get_or, drop, replicate}
-use Rattle.mass.specs.Refusal.{refuse, first, answered}
+use Rattle.std.specs.Prelude.{Bool, true, not, ◌&&◌, ◌||◌, List, [], ◌∷◌, ◌++◌, map, ℕ, zero, suc, ◌-◌, ◌*◌, ◌<◌, leb, ltb, length, get_or, drop, replicate}
+use Rattle.mass.specs.Refusal.{refuse, first}
 use Rattle.mass.specs.Split.{whole}
 use Rattle.refusals.specs.Tests.{room_test}
 use Rattle.plan.specs.Plan.{Plan}
@@ -59,19 +59,19 @@ places f list = map f list ++ replicate (16 - length list) 0
 abbrev pub answer_of : (ℕ → Plan) → List ℕ → Answered
 answer_of plan list =
     record {
-      number = 0;
       count = places (λ t. count (plan t)) list;
       complete = places (λ t. complete (plan t)) list;
       mass = places (λ t. mass_examined (plan t)) list;
     }
 
--- a refusal: all numbers are 0
-abbrev pub refused_with : ℕ → Answered
-refused_with number = record { number = number; count = replicate 16 0; complete = replicate 16 0; mass = replicate 16 0 }
+-- of a refusal: all numbers are 0
+abbrev pub no_answer : Answered
+no_answer = record { count = replicate 16 0; complete = replicate 16 0; mass = replicate 16 0 }
 
--- the whole answer
+-- what a call hands out, by its number
 abbrev pub thresholds_answer : ℕ → (ℕ → Plan) → List ℕ → Answered
-thresholds_answer number plan list = answered refused_with (answer_of plan list) number
+thresholds_answer zero plan list = answer_of plan list
+thresholds_answer (suc number) plan list = no_answer
 
 -- demand 3 for every pair of every block: that of place i begins at i times the number of pairs
 abbrev pub EnclosesBlocks : (ℕ → Plan) → List ℕ → List ℕ → List ℕ → List ℕ → Type 0

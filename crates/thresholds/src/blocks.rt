@@ -7,67 +7,47 @@ ghost use Rattle.plan.specs.Held.{Held};
 ghost use Rattle.network.specs.Outage.{intact};
 ghost use Rattle.pairs.specs.Pairs.{pair_count};
 ghost use Rattle.bounds.specs.Bounds.{lower_list, upper_list};
-ghost use Rattle.thresholds_sums.specs.Walked.{plan_with, plans_of, place_numbers};
+ghost use Rattle.thresholds_sums.specs.Walked.{plan_with, plans_of};
 ghost use Rattle.thresholds.specs.Thresholds.{thresholds_test, blocks, answer_of, EnclosesBlocks};
 ghost use Rattle.thresholds.specs.Steps.{BlocksWalked, Raising, Raised};
 
 use crate::Answered;
 use pairs::{copy_raised, pair_count};
 use plan::Header;
-use thresholds_sums::walk_thresholds;
+use thresholds_sums::{PlaceNumbers, walk_thresholds};
 
-// The walk of an accepted plan for the thresholds of a list. The arrays of places and the blocks of `lower` take what it gives.
+// The walk of an accepted plan for the thresholds of a list. The places and the blocks of `lower` take what it gives.
 fn walk_blocks(
     h: Header,
     links: &[u8; 256],
     words: &[u64; 512],
     list: &[u64],
-    rooms: &mut [u64; 16],
-    counts: &mut [u64; 16],
-    masses: &mut [u64; 16],
+    places: &mut PlaceNumbers,
     lower: &mut [u64],
 )
     requires held { Held h links.now words.now }
     requires cap_bound { (h.cap < 4294967296) × (thresholds_test list.now ≡ 0) }
-    requires rooms_value { (rooms.old ≡ replicate 16 0) × ((counts.old ≡ replicate 16 0) × (masses.old ≡ replicate 16 0)) }
+    requires rooms_value { (places.old.rooms ≡ replicate 16 0)
+        × ((places.old.counts ≡ replicate 16 0) × (places.old.masses ≡ replicate 16 0)) }
     requires list_in_bounds { pair_count h.nodes * length list.now ≤ length lower.old }
     ensures { BlocksWalked (plans_of h links.now words.now list.now)
-        (place_numbers rooms.new counts.new masses.new) lower.old lower.new }
+        places.new lower.old lower.new }
 {
     let count = list.len();
     let n = h.nodes as usize;
     let mut falling = [0u64; 16];
     plan_lists::copy_first(list, &mut falling, 0, count);
     // Zeros, raised by one more than the cap where there is a threshold.
-    copy_raised(masses, &mut *rooms, 0, count, h.cap + 1);
+    copy_raised(&places.masses, &mut places.rooms, 0, count, h.cap + 1);
     pairs::clear(&mut *lower, pair_count(n) * count);
-    walk_thresholds(
-        h, links, words, &falling, count, rooms, counts, masses, lower,
-    );
+    walk_thresholds(h, links, words, &falling, count, places, lower);
 }
 
-// 1 where room is left, else 0.
-fn some_left(room: u64) -> u64
-    ensures { result ≡ digit (ltb 0 room) }
-{
-    if 0 < room {
-        return 1;
-    }
-    0
-}
-
-// The complete flags of 16 places, from what is left of the rooms.
+// The complete flags of 16 places: 1 where room is left, else 0.
 fn completes(rooms: [u64; 16]) -> [u64; 16]
     ensures { result ≡ map (λ room. digit (ltb 0 room)) rooms }
 {
-    let mut flags = [0u64; 16];
-    let mut i = 0;
-    // The first i flags are those of the first i rooms. Each turn raises i, up to 16.
-    while i < 16 {
-        flags[i] = some_left(rooms[i]);
-        i += 1;
-    }
-    flags
+    rooms.map(|room| u64::from(0 < room))
 }
 
 // Lays the blocks of upper bounds down: those of the lower bounds, with what each threshold did not examine added.
@@ -75,9 +55,8 @@ fn raise_blocks(pairs: usize, count: usize, masses: &[u64; 16], lower: &[u64], u
     requires { Raising pairs count masses.now lower.now upper.old }
     ensures { Raised pairs count masses.now lower.now upper.old upper.new }
 {
-    let mut i = 0;
-    // The first i blocks are laid down, and all else is untouched. Each turn raises i, up to `count`.
-    while i < count {
+    // The first i blocks are laid down, and all else is untouched.
+    for i in 0..count {
         copy_raised(
             lower,
             &mut *upper,
@@ -85,7 +64,6 @@ fn raise_blocks(pairs: usize, count: usize, masses: &[u64; 16], lower: &[u64], u
             pairs,
             mass::Mass::WHOLE.units - masses[i],
         );
-        i += 1;
     }
 }
 
@@ -110,26 +88,17 @@ pub fn fill_blocks(
     ensures demand3 { EnclosesBlocks (plan_with h links.now words.now) list.now
         lower.new upper.new result.count }
 {
-    let mut rooms = [0u64; 16];
-    let mut counts = [0u64; 16];
-    let mut masses = [0u64; 16];
-    walk_blocks(
-        h,
-        links,
-        words,
-        list,
-        &mut rooms,
-        &mut counts,
-        &mut masses,
-        &mut *lower,
-    );
+    let mut places = PlaceNumbers {
+        rooms: [0; 16],
+        counts: [0; 16],
+        masses: [0; 16],
+    };
+    walk_blocks(h, links, words, list, &mut places, &mut *lower);
     let n = h.nodes as usize;
-    raise_blocks(pair_count(n), list.len(), &masses, lower, upper);
-    let flags = completes(rooms);
+    raise_blocks(pair_count(n), list.len(), &places.masses, lower, upper);
     Answered {
-        number: 0,
-        count: counts,
-        complete: flags,
-        mass: masses,
+        count: places.counts,
+        complete: completes(places.rooms),
+        mass: places.masses,
     }
 }

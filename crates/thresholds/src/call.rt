@@ -1,17 +1,19 @@
 // The call for several thresholds: its tests, and what it answers.
-ghost use Rattle.std.specs.Prelude.{◌≡◌, length};
+ghost use Rattle.std.specs.Prelude.{◌≡◌, length, IfOk, OnOk};
+ghost use Rattle.mass.specs.Refusal.{number_in};
 ghost use Rattle.plan.specs.Calls.{filled};
 ghost use Rattle.plan_lists.specs.Taken.{Taken};
 ghost use Rattle.network.specs.Outage.{intact};
 ghost use Rattle.bounds.specs.Bounds.{lower_list, upper_list};
-ghost use Rattle.thresholds.specs.Thresholds.{header_at, lent_at, plan_at, thresholds_number, thresholds_answer, blocks};
+ghost use Rattle.thresholds.specs.Thresholds.{header_at, lent_at, plan_at, thresholds_number, answer_of, blocks};
 ghost use Rattle.thresholds.specs.Thresholds.{EnclosesBlocks};
 ghost use Rattle.thresholds.specs.Steps.{Accepted};
 
 use crate::blocks::fill_blocks;
-use crate::lists::{header_at, refused, thresholds_test};
+use crate::lists::{header_at, thresholds_test};
 use crate::{Answered, CommonHeader};
 use bounds::bounds_test;
+use mass::Refusal;
 use pairs::pair_count;
 
 // The tests of the call: those of the lists, which are taken into the arrays, 23, then 12 for the two lists of bounds.
@@ -24,21 +26,14 @@ fn accept_thresholds(
     upper_room: usize,
     bytes: &mut [u8; 256],
     words: &mut [u64; 512],
-) -> u32
-    ensures number { result ≡ thresholds_number (lent_at h links.now events.now 1) list.now
+) -> Result<(), Refusal>
+    ensures number { number_in result ≡ thresholds_number (lent_at h links.now events.now 1) list.now
         lower_room upper_room }
-    ensures accepted { result ≡ 0
-        → Taken (header_at h 1) links.now events.now bytes.new words.new
-        × Accepted h list.now lower_room upper_room }
+    ensures accepted { OnOk result (Taken (header_at h 1) links.now events.now bytes.new words.new
+        × Accepted h list.now lower_room upper_room) }
 {
-    let lists = plan_lists::accept(header_at(h, 1), links, events, bytes, words);
-    if lists != 0 {
-        return lists;
-    }
-    let wrong = thresholds_test(list);
-    if wrong != 0 {
-        return wrong;
-    }
+    plan_lists::accept(header_at(h, 1), links, events, bytes, words)?;
+    thresholds_test(list)?;
     let n = h.nodes as usize;
     bounds_test(pair_count(n) * list.len(), lower_room, upper_room)
 }
@@ -52,22 +47,20 @@ pub fn thresholds(
     list: &[u64],
     lower: &mut [u64],
     upper: &mut [u64],
-) -> Answered
-    ensures answer { result ≡ thresholds_answer
-        (thresholds_number (lent_at h links.now events.now 1) list.now
-        (length lower.old) (length upper.old))
-        (plan_at h links.now events.now) list.now }
-    ensures lowers { lower.new ≡ filled result.number
+) -> Result<Answered, Refusal>
+    ensures number { number_in result ≡ thresholds_number (lent_at h links.now events.now 1) list.now
+        (length lower.old) (length upper.old) }
+    ensures answer { IfOk result (λ a. a ≡ answer_of (plan_at h links.now events.now) list.now) }
+    ensures lowers { lower.new ≡ filled (number_in result)
         (blocks (λ t. lower_list intact (plan_at h links.now events.now t)) list.now) lower.old }
-    ensures uppers { upper.new ≡ filled result.number
+    ensures uppers { upper.new ≡ filled (number_in result)
         (blocks (λ t. upper_list intact (plan_at h links.now events.now t)) list.now) upper.old }
-    ensures demand3 { result.number ≡ 0
-        → EnclosesBlocks (plan_at h links.now events.now) list.now
-        lower.new upper.new result.count }
+    ensures demand3 { IfOk result (λ a. EnclosesBlocks (plan_at h links.now events.now) list.now
+        lower.new upper.new a.count) }
 {
     let mut bytes = [0u8; 256];
     let mut words = [0u64; 512];
-    let number = accept_thresholds(
+    accept_thresholds(
         h,
         links,
         events,
@@ -76,9 +69,6 @@ pub fn thresholds(
         upper.len(),
         &mut bytes,
         &mut words,
-    );
-    if number != 0 {
-        return refused(number);
-    }
-    fill_blocks(header_at(h, 1), &bytes, &words, list, lower, upper)
+    )?;
+    Ok(fill_blocks(header_at(h, 1), &bytes, &words, list, lower, upper))
 }

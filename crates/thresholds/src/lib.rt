@@ -17,10 +17,10 @@ pub struct CommonHeader {
     pub cap: u64,
 }
 
-// What the call answers: the number of the refusal (0 for none) and, for each of 16 places, the examined count, complete (1 or 0) and E.
+// What the call answers: for each of 16 places, the examined count, complete (1 or 0) and E. Three arrays, since the export and the
+// computed example list the counts, the flags and the masses each by itself.
 #[derive(Clone, Copy)]
 pub struct Answered {
-    pub number: u32,
     pub count: [u64; 16],
     pub complete: [u64; 16],
     pub mass: [u64; 16],

@@ -1,8 +1,11 @@
-// The list of thresholds: its test, and the places that its answers stand at.
-ghost use Rattle.std.specs.Prelude.{◌≡◌};
-ghost use Rattle.thresholds.specs.Thresholds.{header_at, thresholds_test, refused_with};
+// The list of thresholds: its test.
+ghost use Rattle.std.specs.Prelude.{◌≡◌, ◌&&◌, leb, ltb, suc};
+ghost use Rattle.mass.specs.Refusal.{number_in};
+ghost use Rattle.mass.specs.Split.{whole};
+ghost use Rattle.thresholds.specs.Thresholds.{header_at, falls, thresholds_test};
 
-use crate::{Answered, CommonHeader};
+use crate::CommonHeader;
+use mass::{Mass, Refusal};
 use plan::Header;
 
 // The header of a run with a threshold.
@@ -18,41 +21,31 @@ pub fn header_at(h: CommonHeader, threshold: u64) -> Header
     }
 }
 
-// 23: no threshold, more than 16, one outside 1 to 10^18, or one that is not below the one before.
-pub fn thresholds_test(list: &[u64]) -> u32
-    ensures { result ≡ thresholds_test list.now }
+// Whether a threshold is 1 or more, and below `above`.
+fn in_range(t: u64, above: u64) -> bool
+    ensures { result ≡ (leb 1 t && ltb t above) }
 {
-    if list.len() == 0 {
-        return 23;
-    }
-    if 16 < list.len() {
-        return 23;
-    }
-    let mut above = mass::Mass::WHOLE.units + 1;
-    let mut i = 0;
-    // The thresholds from i on fall from below `above` exactly where all do from below 10^18 + 1. Each turn raises i, up to the length.
-    while i < list.len() {
-        let t = list[i];
-        if t == 0 {
-            return 23;
-        }
-        if above <= t {
-            return 23;
-        }
-        above = t;
-        i += 1;
-    }
-    0
+    1 <= t && t < above
 }
 
-// The answer of a refusal.
-pub fn refused(number: u32) -> Answered
-    ensures { result ≡ refused_with number }
+// Whether the thresholds are 1 to 10^18, and each is below the one before.
+fn falls(list: &[u64]) -> bool
+    ensures { result ≡ falls (suc whole) list.now }
 {
-    Answered {
-        number,
-        count: [0u64; 16],
-        complete: [0u64; 16],
-        mass: [0u64; 16],
+    let mut above = Mass::WHOLE.units + 1;
+    // The thresholds that are left fall from below `above` exactly where all do from below 10^18 + 1.
+    for t in list {
+        if !in_range(*t, above) {
+            return false;
+        }
+        above = *t;
     }
+    true
+}
+
+// 23: no threshold, more than 16, one outside 1 to 10^18, or one that is not below the one before.
+pub fn thresholds_test(list: &[u64]) -> Result<(), Refusal>
+    ensures { number_in result ≡ thresholds_test list.now }
+{
+    Refusal::Thresholds.when(list.is_empty() || 16 < list.len() || !falls(list))
 }

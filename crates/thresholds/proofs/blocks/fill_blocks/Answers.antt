@@ -29,7 +29,7 @@ returns c =
     let few = c.requires.held.0.links-held.nodes-fit in
     let r = rw c.pair_count.ensures at c.raise_blocks.ensures in
     record {
-      answer = answers a.h a.links.now a.words.now a.list.now c.requires.held.1 few c.requires.cap_bound.1 _ a.lower.now _ b _ c.completes-flags.ensures;
+      answer = answers a.h a.links.now a.words.now a.list.now c.requires.held.1 few c.requires.cap_bound.1 _ a.lower.now _ b _ c.completes.ensures;
       lowers = lowers-laid a.h a.links.now a.words.now a.list.now c.requires.held.1 few c.requires.cap_bound.1 _ a.lower.now _ b c.requires.list_in_bounds.0;
       uppers = uppers-laid a.h a.links.now a.words.now a.list.now c.requires.held.1 few c.requires.cap_bound.1 _ a.lower.now _ b a.upper.now _ c.requires.list_in_bounds.1 r;
       demand3 = blocks-enclosed a.h a.links.now a.words.now a.list.now c.requires.held.1 few c.requires.cap_bound.1 _ a.lower.now _ b a.upper.now _ c.requires.list_in_bounds.1 r;

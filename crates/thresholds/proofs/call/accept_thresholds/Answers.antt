@@ -1,72 +1,52 @@
--- `thresholds::call::accept_thresholds` meets its contract: the test that refuses first decides. Assumes nothing.
+-- `thresholds::call::accept_thresholds` meets its contract: the tests in their order. Assumes nothing.
 use mathlib.Core.Path.{◌≡◌, sym, ap, subst, ◌∙◌}
+use mathlib.Core.List.{List}
+use Prim.Native.Nat.{ℕ, ◌≤◌}
 use native.Mathlib.Omega.{arith}
-use Rattle.plan.specs.LentLists.{Lent, in_words, lists_number}
+use Rattle.mass.proofs.RefusalLaws.{stops, passes, hands-on}
+use Rattle.plan.specs.LentLists.{in_words, lists_number}
 use Rattle.plan.specs.declared.Header.{Header}
 use Rattle.plan_lists.specs.Taken.{Taken}
-use Rattle.thresholds.specs.Thresholds.{header_at, lent_at}
+use Rattle.thresholds.specs.Thresholds.{lent_at, header_at, thresholds_number}
+use Rattle.thresholds.specs.declared.CommonHeader.{CommonHeader}
 use Rattle.thresholds.proofs.WalkLaws.{size-most}
-use Rattle.thresholds.proofs.Outcome.{lists-refuse, thresholds-refuse, rooms-decide, rooms-fit}
-use Rattle.thresholds.proofs.call.accept_thresholds.Goals.{After-accept-lists}
 use Rattle.thresholds.proofs.call.accept_thresholds.Goals as goal
 
 -- what is lent, with the threshold 1
-abbrev lent : After-accept-lists → Lent
-lent k = lent_at k.args.h k.args.links.now k.args.events.now 1
+lists-are : (h : CommonHeader) (links events : List ℕ) (x : Header) → x ≡ header_at h 1
+    → lists_number (in_words x links events) ≡ lists_number (lent_at h links events 1)
+lists-are h links events x e = ap (λ (y : Header). lists_number (in_words y links events)) e
 
-lists-are : (k : After-accept-lists) → k.accept-lists.result ≡ lists_number (lent k)
-lists-are k =
-    k.accept-lists.ensures.number
-    ∙ ap (λ (x : Header). lists_number (in_words x k.args.links.now k.args.events.now)) k.header_at.ensures
+few : (h : CommonHeader) (links events bytes words : List ℕ) (x : Header) → x ≡ header_at h 1 → Taken x links events bytes words → h.nodes ≤ 64
+few h links events bytes words x e t =
+    (subst (λ (y : Header). Taken y links events bytes words) e t).held.links-held.nodes-fit
 
-taken : (k : After-accept-lists) → k.accept-lists.result ≡ 0
-    → Taken (header_at k.args.h 1) k.args.links.now k.args.events.now k.accept-lists.new.bytes k.accept-lists.new.words
-taken k z =
-    subst (λ (x : Header). Taken x k.args.links.now k.args.events.now k.accept-lists.new.bytes k.accept-lists.new.words) k.header_at.ensures
-    (k.accept-lists.ensures.taken z)
-
-pub returns-then-lists-ne0 : goal.returns-then-lists-ne0
-returns-then-lists-ne0 c =
+pub returns-in_err-accept-clause-number : goal.returns-in_err-accept-clause-number
+unfolding thresholds_number
+returns-in_err-accept-clause-number c =
     let a = c.args in
-    record {
-      number = lists-refuse (lent (goal.at.returns-then-lists-ne0 c).After-accept-lists) a.list.now a.lower_room a.upper_room _ (lists-are (goal.at.returns-then-lists-ne0 c).After-accept-lists) c.if-lists-ne0.true;
-      accepted = λ z. absurd (c.if-lists-ne0.true z);
-    }
+    hands-on _ _ c.from_residual.ensures
+    (stops _ _ (c.in_err-accept.ensures.number ∙ lists-are a.h a.links.now a.events.now _ c.header_at.ensures))
 
-pub returns-then-wrong-ne0 : goal.returns-then-wrong-ne0
-returns-then-wrong-ne0 c =
+pub returns-in_err-thresholds_test-clause-number : goal.returns-in_err-thresholds_test-clause-number
+unfolding thresholds_number
+returns-in_err-thresholds_test-clause-number c =
     let a = c.args in
-    record {
-      number = thresholds-refuse (lent (goal.at.returns-then-wrong-ne0 c).After-accept-lists) a.list.now a.lower_room a.upper_room _ (lists-are (goal.at.returns-then-wrong-ne0 c).After-accept-lists) c.if-lists-ne0.false _
-          c.thresholds_test-wrong.ensures
-          c.if-wrong-ne0.true;
-      accepted = λ z. absurd (c.if-wrong-ne0.true z);
-    }
-
-pub pair_count-requires : goal.pair_count-requires
-pair_count-requires c = (taken (goal.at.pair_count-requires c).After-accept-lists c.if-lists-ne0.false).held.links-held.nodes-fit
+    hands-on _ _ c.from_residual-in_err-thresholds_test.ensures
+    (passes _ (c.in_ok-accept.ensures.number ∙ lists-are a.h a.links.now a.events.now _ c.header_at.ensures)
+    (stops _ _ c.in_err-thresholds_test.ensures))
 
 pub overflow_mul-pair_count : goal.overflow_mul-pair_count
 overflow_mul-pair_count c =
     let a = c.args in
-    let few = (taken (goal.at.overflow_mul-pair_count c).After-accept-lists c.if-lists-ne0.false).held.links-held.nodes-fit in
     omega (
       arith,
-      size-most a.h.nodes _ a.list.now few c.pair_count.ensures (sym c.thresholds_test-wrong.ensures ∙ c.if-wrong-ne0.false),
+      size-most a.h.nodes _ a.list.now (few a.h _ _ _ _ _ c.header_at.ensures c.in_ok-accept.ensures.taken) c.pair_count.ensures (sym c.in_ok-thresholds_test.ensures),
     )
 
-pub returns : goal.returns
-returns c =
+pub returns-clause-number : goal.returns-clause-number
+unfolding thresholds_number
+returns-clause-number c =
     let a = c.args in
-    let short = rw c.pair_count.ensures at c.bounds_test.ensures in
-    record {
-      number = rooms-decide (lent (goal.at.returns c).After-accept-lists) a.list.now a.lower_room a.upper_room _ (lists-are (goal.at.returns c).After-accept-lists) c.if-lists-ne0.false _ _
-          c.thresholds_test-wrong.ensures
-          c.if-wrong-ne0.false
-          short;
-      accepted = λ z.
-          let fit = rooms-fit (lent (goal.at.returns c).After-accept-lists) a.list.now a.lower_room a.upper_room (sym short ∙ z) in (
-            taken (goal.at.returns c).After-accept-lists c.if-lists-ne0.false,
-            record { tested = sym c.thresholds_test-wrong.ensures ∙ c.if-wrong-ne0.false; lower-room = fit.0; upper-room = fit.1 },
-          );
-    }
+    passes _ (c.in_ok-accept.ensures.number ∙ lists-are a.h a.links.now a.events.now _ c.header_at.ensures)
+    (passes _ c.in_ok-thresholds_test.ensures (rw c.pair_count.ensures at c.bounds_test.ensures.number))
