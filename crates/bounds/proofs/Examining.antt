@@ -13,7 +13,8 @@ use borrow.Author.Tests.{ltb-true, eq-eqb, ne_eqb}
 use lib.Dec.{ltb, eqb}
 use lib.ListN.{length, get_or}
 use Rattle.mass.specs.Split.{whole}
-use Rattle.sets.specs.Sets.{bit, joined, digit, LowestTaken}
+use Rattle.sets.specs.Sets.{bit, joined, digit}
+use Rattle.sets.specs.Elements.{LowestTaken}
 use Rattle.sets.proofs.Bools.{and_left, which, clash}
 use Rattle.sets.proofs.Laws.{bit-zero, bit-none, bit_below}
 use Rattle.plan.specs.Lists.{links_of, events_of}
