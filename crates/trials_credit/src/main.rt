@@ -3,7 +3,8 @@
 // stored output is that line alone.
 #![tactic(auto)]
 
-use credits::Credited;
+use credits::Credits;
+use mass::Refusal;
 use plan::Header;
 use std::io;
 use trials_vectors::{header, same, same_part};
@@ -26,31 +27,22 @@ fn main(rt: HostRuntime) -> io::Result<()> {
 fn same_answer(
     rt: &impl Print,
     label: &[u8],
-    answer: Credited,
+    answer: Result<Credits, Refusal>,
     number: u64,
     lower: u64,
     upper: u64,
     headroom: i64,
 ) -> io::Result<()> {
     match answer {
-        Credited::Refused(n) => {
-            same(rt, label, n as u64, number)?;
-        }
-        Credited::Given(c) => {
+        Err(refusal) => same(rt, label, u32::from(refusal) as u64, number),
+        Ok(c) => {
             same(rt, label, 0, number)?;
             same_part(rt, label, b"lower", c.lower, lower)?;
             same_part(rt, label, b"upper", c.upper, upper)?;
-            let found = c.headroom;
-            same_part(
-                rt,
-                label,
-                b"headroom as it must be",
-                (found == headroom) as u64,
-                1,
-            )?;
+            let right = c.headroom == headroom;
+            same_part(rt, label, b"headroom as it must be", right as u64, 1)
         }
     }
-    Ok(())
 }
 
 // The credits of the pair 0, 1 of a plan with the contract, held to what they must be.

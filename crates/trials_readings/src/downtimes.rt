@@ -1,5 +1,4 @@
 // The downtime: document 01, "Further readings of a plan", with the rounding of document 02, U1.
-use readings::Timed;
 use std::io;
 use trials_vectors::{same, same_part};
 
@@ -16,16 +15,13 @@ fn seconds(
     high: u64,
 ) -> io::Result<()> {
     match readings::downtime(lower, upper) {
-        Timed::Refused(n) => {
-            same(rt, label, n as u64, number)?;
-        }
-        Timed::Given(s) => {
+        Err(refusal) => same(rt, label, u32::from(refusal) as u64, number),
+        Ok(s) => {
             same(rt, label, 0, number)?;
             same_part(rt, label, b"lower", s.lower, low)?;
-            same_part(rt, label, b"upper", s.upper, high)?;
+            same_part(rt, label, b"upper", s.upper, high)
         }
     }
-    Ok(())
 }
 
 // Masses that make whole seconds are not raised: 10^18 units are 31,536,000 seconds, so 62,500,000,000,000 are 1,971.

@@ -3,7 +3,7 @@ ghost use Rattle.std.specs.Prelude.{not, T};
 ghost use Rattle.std.specs.Float.Ieee.{is_nan};
 
 use plan::Header;
-use readings::{Figured, Shares};
+use readings::Shares;
 use std::io;
 use trials_vectors::{header, same, same_part};
 
@@ -68,20 +68,14 @@ fn bits(
     disconnected: u64,
     examined: u64,
 ) -> io::Result<()> {
-    let answer = readings::figure(h, links, events, v, w);
-    match answer {
-        Figured::Refused(n) => {
-            same_case(rt, label, n as u64, number, 0, given)?;
-        }
-        Figured::NoFigure => {
-            same_case(rt, label, 0, number, 0, given)?;
-        }
-        Figured::Given(shares) => {
+    match readings::figure(h, links, events, v, w) {
+        Err(refusal) => same_case(rt, label, u32::from(refusal) as u64, number, 0, given),
+        Ok(None) => same_case(rt, label, 0, number, 0, given),
+        Ok(Some(shares)) => {
             same_bits(rt, label, shares, disconnected, examined)?;
-            same_case(rt, label, 0, number, 1, given)?;
+            same_case(rt, label, 0, number, 1, given)
         }
     }
-    Ok(())
 }
 
 // A single link with one event on it.

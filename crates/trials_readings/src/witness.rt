@@ -1,6 +1,5 @@
 // The witness: document 01, "Further readings of a plan", and document 02, request U5.
 use plan::Header;
-use readings::Witnessed;
 use std::io;
 use trials_vectors::{header, same, same_part};
 
@@ -30,16 +29,13 @@ fn failing(
     high: u64,
 ) -> io::Result<()> {
     match readings::witness(h, links, events, v, w) {
-        Witnessed::Refused(n) => {
-            same(rt, label, n as u64, number)?;
-        }
-        Witnessed::Found(set) => {
+        Err(refusal) => same(rt, label, u32::from(refusal) as u64, number),
+        Ok(set) => {
             same(rt, label, 0, number)?;
             same_part(rt, label, b"low", set.low, low)?;
-            same_part(rt, label, b"high", set.high, high)?;
+            same_part(rt, label, b"high", set.high, high)
         }
     }
-    Ok(())
 }
 
 // A single link with one event, on the link or on node 0.

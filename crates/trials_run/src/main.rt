@@ -4,7 +4,8 @@
 
 mod with_windows;
 
-use bounds::Ran;
+use bounds::Totals;
+use mass::Refusal;
 use std::io;
 use trials_vectors::{all_words, header, many_links, same, same_part};
 
@@ -22,24 +23,21 @@ fn main(rt: HostRuntime) -> io::Result<()> {
 fn totals(
     rt: &impl Print,
     label: &[u8],
-    answer: Ran,
+    answer: Result<Totals, Refusal>,
     number: u64,
     count: u64,
     complete: u64,
     mass: u64,
 ) -> io::Result<()> {
     match answer {
-        Ran::Refused(n) => {
-            same(rt, label, n as u64, number)?;
-        }
-        Ran::Done(t) => {
+        Err(refusal) => same(rt, label, u32::from(refusal) as u64, number),
+        Ok(t) => {
             same(rt, label, 0, number)?;
             same_part(rt, label, b"examined", t.count, count)?;
             same_part(rt, label, b"complete", t.complete, complete)?;
-            same_part(rt, label, b"E", t.mass, mass)?;
+            same_part(rt, label, b"E", t.mass, mass)
         }
     }
-    Ok(())
 }
 
 // "With 128 events of q = 5 x 10^8 and t = 1 nothing is relevant: examined 0, complete 0 for every cap." The sets of the events do not

@@ -1,7 +1,7 @@
 // The run with windows: document 02, request U7. A window is five words: start, end, nodes, links 0 to 63, links 64 to 127.
-use bounds::Ran;
+use crate::totals;
 use std::io;
-use trials_vectors::{header, same, same_part, same_words};
+use trials_vectors::{header, same_words};
 
 const WHOLE: u64 = 1_000_000_000_000_000_000;
 
@@ -18,24 +18,8 @@ pub fn windows(rt: &impl Print) -> io::Result<()> {
     order(rt)
 }
 
-// Holds an answer to its number; a run that is done has examined both scenarios.
-fn totals(rt: &impl Print, label: &[u8], answer: Ran, number: u64) -> io::Result<()> {
-    match answer {
-        Ran::Refused(n) => {
-            same(rt, label, n as u64, number)?;
-        }
-        Ran::Done(t) => {
-            same(rt, label, 0, number)?;
-            same_part(rt, label, b"examined", t.count, 2)?;
-            same_part(rt, label, b"complete", t.complete, 1)?;
-            same_part(rt, label, b"E", t.mass, WHOLE)?;
-        }
-    }
-    Ok(())
-}
-
 // A triangle, links 0 (0-1), 1 (0-2) and 2 (1-2), with an event of 1/10 on link 0: held to its number and to the bounds of the pairs 0-1,
-// 0-2 and 1-2. Everything is examined, so the two bounds of a pair are equal. The entry past the last pair stays.
+// 0-2 and 1-2. Both scenarios are examined, so the two bounds of a pair are equal. The entry past the last pair stays.
 fn at(
     rt: &impl Print,
     label: &[u8],
@@ -56,6 +40,9 @@ fn at(
         label,
         bounds::run_at(h, &links, &events, windows, minute, &mut lower, &mut upper),
         number,
+        2,
+        1,
+        WHOLE,
     )?;
     let bounds = [first, second, third, 7];
     same_words(rt, label, &lower, &bounds)?;

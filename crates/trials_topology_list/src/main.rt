@@ -2,9 +2,9 @@
 // by hand; a difference is printed, and `trials ended` is the last line. The stored output is that line alone.
 #![tactic(auto)]
 
+use mass::Refusal;
 use plan::Header;
 use std::io;
-use topology_list::Listed;
 use trials_vectors::{header, many_links, same, same_part, same_words};
 
 fn main(rt: HostRuntime) -> io::Result<()> {
@@ -24,20 +24,17 @@ fn main(rt: HostRuntime) -> io::Result<()> {
 fn answered(
     rt: &impl Print,
     label: &[u8],
-    answer: Listed,
+    answer: Result<usize, Refusal>,
     number: u64,
     count: u64,
 ) -> io::Result<()> {
     match answer {
-        Listed::Refused(n) => {
-            same(rt, label, n as u64, number)?;
-        }
-        Listed::Entries(n) => {
+        Err(refusal) => same(rt, label, u32::from(refusal) as u64, number),
+        Ok(n) => {
             same(rt, label, 0, number)?;
-            same_part(rt, label, b"entries", n as u64, count)?;
+            same_part(rt, label, b"entries", n as u64, count)
         }
     }
-    Ok(())
 }
 
 // Holds the topology list of a plan to its number, its number of entries and the words of the lent list.
