@@ -3,6 +3,7 @@
 use mathlib.Core.Path.{◌≡◌, refl}
 use mathlib.Core.List.{List, [], ◌∷◌}
 use Prim.Native.Nat.{ℕ, suc, ◌+◌, ◌<◌}
+use native.Mathlib.Nat.{zero-add}
 use native.Mathlib.Numerals.{add-one}
 use native.Mathlib.Omega.{arith}
 use lib.ListN.{length, get_or, take, set}
@@ -35,4 +36,4 @@ pub laid_more : (values list laid' : List ℕ) (i : ℕ) → laid' ≡ sets list
     → set laid' i (get_or values i 0) ≡ sets list 0 (take (i + 1) values)
 laid_more values list laid' i e h =
     let n : length (take i values) ≡ i = length-take-le i values (omega arith) in
-    rw (e, add-one, take-suc values i 0, sets-append, n)
+    rw (e, add-one, take-suc values i 0, sets-append, n, zero-add)

@@ -50,13 +50,6 @@ module _ (nodes count : ℕ) (links words bytes words' : List ℕ) where
 
 -- ---- the answer
 
-pub refused-values : (number : ℕ) (reach : Reach) → (number ≡ 0 → ⊥) → 0 ∷ 0 ∷ [] ≡ reach_values number reach
-refused-values zero reach some = absurd (some refl)
-refused-values (suc number) reach some = refl
-
-pub node-inside : (nodes v : ℕ) → node_test nodes v ≡ 0 → v < nodes
-node-inside nodes v e = leb-false nodes v (refuse-none (leb nodes v) 12 e)
-
 pub same-links : (nodes count : ℕ) (links bytes : List ℕ) (failed : Failed) (v : ℕ) → LinksTaken nodes count links bytes
     → reach_in nodes count bytes failed v ≡ reach_in nodes count links failed v
 same-links nodes count links bytes failed v t = ap (λ ls. reach_of (network_of nodes ls (outage failed)) v) t.same

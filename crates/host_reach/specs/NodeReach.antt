@@ -28,10 +28,9 @@ reach_number nodes count links v = first (links_number nodes count links ∷ nod
 abbrev pub reach_in : ℕ → ℕ → List ℕ → Failed → ℕ → Reach
 reach_in nodes count links failed v = reach_of (network_in nodes failed links count) v
 
--- the two words that are handed out with a number: the set and the number of rounds, and 0, 0 in a refusal
-abbrev pub reach_values : ℕ → Reach → List ℕ
-reach_values zero reach = reach.set ∷ reach.rounds ∷ []
-reach_values (suc number) reach = 0 ∷ 0 ∷ []
+-- the two words that are handed out: the set and the number of rounds
+abbrev pub reach_values : Reach → List ℕ
+reach_values reach = reach.set ∷ reach.rounds ∷ []
 
 -- accepted links were taken into an array: it holds the same links, of so few nodes and links as every later function asks
 pub record LinksTaken (nodes count : ℕ) (links bytes : List ℕ) : Type 0 where

@@ -1,5 +1,5 @@
 // Splits of a mass: document 01, "Units and the splitting of mass".
-use mass::{Mass, Parts};
+use mass::Mass;
 use std::io;
 use trials_vectors::same;
 
@@ -14,18 +14,17 @@ fn split(
     works: u64,
 ) -> io::Result<()> {
     match (Mass { units: m }).split(q) {
-        Parts::Refused(n) => {
-            same(rt, label, n as u64, number)?;
+        Err(refusal) => {
+            same(rt, label, u32::from(refusal) as u64, number)?;
             same(rt, label, 0, fails)?;
-            same(rt, label, 0, works)?;
+            same(rt, label, 0, works)
         }
-        Parts::Split { fails: f, works: w } => {
+        Ok(parts) => {
             same(rt, label, 0, number)?;
-            same(rt, label, f.units, fails)?;
-            same(rt, label, w.units, works)?;
+            same(rt, label, parts.fails.units, fails)?;
+            same(rt, label, parts.works.units, works)
         }
     }
-    Ok(())
 }
 
 pub fn splits(rt: &impl Print) -> io::Result<()> {

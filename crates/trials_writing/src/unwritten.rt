@@ -1,7 +1,7 @@
 // What the writer refuses: document 01, "Refused". The output is left as it was.
-use plan::{Header, Writing};
+use plan::Header;
 use std::io;
-use trials_vectors::{BYTE, all_bytes, header, large_events, many_links, same};
+use trials_vectors::{BYTE, all_bytes, header, large_events, many_links};
 
 // Holds the answer of a writing to the number of a refusal, and the output to the pattern.
 fn refused_into(
@@ -13,14 +13,8 @@ fn refused_into(
     out: &mut [u8],
     want: u64,
 ) -> io::Result<()> {
-    match plan_writing::write(h, links, events, out) {
-        Writing::Refused(number) => {
-            same(rt, label, number as u64, want)?;
-        }
-        Writing::Written(_) => {
-            same(rt, label, 0, want)?;
-        }
-    }
+    let answer = plan_writing::write(h, links, events, out);
+    trials_vectors::refused(rt, label, answer, want)?;
     all_bytes(rt, label, out, BYTE)
 }
 
