@@ -1,76 +1,46 @@
 // The answers of reading, writing, the run and the bounds of a pair.
 ghost use Rattle.std.specs.Prelude.{◌≡◌};
-ghost use Rattle.host_answers.specs.Laid.{laid};
-ghost use Rattle.plan.specs.Calls.{reading_number, written_number};
-ghost use Rattle.bounds.specs.Calls.{ran_number, paired_number};
+ghost use Rattle.mass.specs.Refusal.{number_in};
+ghost use Rattle.host_answers.specs.Laid.{laid, given};
 ghost use Rattle.host_answers.specs.Answers.{header_values, size_values, totals_values, bounds_values};
 
-use crate::lay::{give_three, give_two, put};
-use bounds::{Paired, Ran};
-use plan::{Reading, Writing};
+use crate::lay::give;
+use bounds::{PairBounds, Totals};
+use mass::Refusal;
+use plan::Header;
 
 // The five numbers of the plan that was read.
-pub fn give_header(answer: Reading, numbers: &mut [u64]) -> u32
-    ensures number { result ≡ reading_number answer }
-    ensures numbers { numbers.new ≡ laid (header_values answer) numbers.old }
+pub fn give_header(answer: Result<Header, Refusal>, numbers: &mut [u64]) -> u32
+    ensures number { result ≡ number_in answer }
+    ensures numbers { numbers.new ≡ laid (given header_values 5 answer) numbers.old }
 {
-    let h = plan_reading::header_in(answer);
-    give_three(numbers, h.nodes, h.links, h.events);
-    put(numbers, 3, h.threshold);
-    put(numbers, 4, h.cap);
-    match answer {
-        Reading::Refused(number) => number,
-        Reading::Accepted(_) => 0,
-    }
+    let values = answer.map(|h| [h.nodes, h.links, h.events, h.threshold, h.cap]);
+    give(values, numbers)
 }
 
 // The size of what was written.
-pub fn give_size(answer: Writing, size: &mut [u64]) -> u32
-    ensures number { result ≡ written_number answer }
-    ensures size { size.new ≡ laid (size_values answer) size.old }
+pub fn give_size(answer: Result<usize, Refusal>, size: &mut [u64]) -> u32
+    ensures number { result ≡ number_in answer }
+    ensures size { size.new ≡ laid (given size_values 1 answer) size.old }
 {
-    match answer {
-        Writing::Refused(number) => {
-            put(size, 0, 0);
-            number
-        }
-        Writing::Written(count) => {
-            put(size, 0, count as u64);
-            0
-        }
-    }
+    let values = answer.map(|count| [count as u64]);
+    give(values, size)
 }
 
 // The examined count, complete and E.
-pub fn give_totals(answer: Ran, res: &mut [u64]) -> u32
-    ensures number { result ≡ ran_number answer }
-    ensures res { res.new ≡ laid (totals_values answer) res.old }
+pub fn give_totals(answer: Result<Totals, Refusal>, res: &mut [u64]) -> u32
+    ensures number { result ≡ number_in answer }
+    ensures res { res.new ≡ laid (given totals_values 3 answer) res.old }
 {
-    match answer {
-        Ran::Refused(number) => {
-            give_three(res, 0, 0, 0);
-            number
-        }
-        Ran::Done(totals) => {
-            give_three(res, totals.count, totals.complete, totals.mass);
-            0
-        }
-    }
+    let values = answer.map(|totals| [totals.count, totals.complete, totals.mass]);
+    give(values, res)
 }
 
 // The lower and the upper bound.
-pub fn give_pair(answer: Paired, res: &mut [u64]) -> u32
-    ensures number { result ≡ paired_number answer }
-    ensures res { res.new ≡ laid (bounds_values answer) res.old }
+pub fn give_pair(answer: Result<PairBounds, Refusal>, res: &mut [u64]) -> u32
+    ensures number { result ≡ number_in answer }
+    ensures res { res.new ≡ laid (given bounds_values 2 answer) res.old }
 {
-    match answer {
-        Paired::Refused(number) => {
-            give_two(res, 0, 0);
-            number
-        }
-        Paired::Done(bounds) => {
-            give_two(res, bounds.lower, bounds.upper);
-            0
-        }
-    }
+    let values = answer.map(|bounds| [bounds.lower, bounds.upper]);
+    give(values, res)
 }

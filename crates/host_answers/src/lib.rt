@@ -8,4 +8,4 @@ mod calls;
 mod lay;
 
 pub use calls::{give_header, give_pair, give_size, give_totals};
-pub use lay::{give_three, give_two, put};
+pub use lay::{give, put};

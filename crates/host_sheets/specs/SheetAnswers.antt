@@ -1,8 +1,12 @@
 -- The values that the exports of reading a sheet hand out: its counts of nodes, links and lines, all 0 where the answer is a refusal.
 -- Assumes nothing.
-use Rattle.std.specs.Prelude.{List, [], ◌∷◌, ℕ}
-use Rattle.sheets.specs.SheetCalls.{counts_in}
-use Rattle.sheets.specs.declared.SheetReading.{SheetReading}
+use Rattle.std.specs.Prelude.{List, [], ◌∷◌, ℕ, zero, suc}
+use Rattle.sheets.specs.declared.Counts.{Counts}
 
-abbrev pub counts_values : SheetReading → List ℕ
-counts_values answer = (counts_in answer).nodes ∷ (counts_in answer).links ∷ (counts_in answer).lines ∷ []
+abbrev pub counts_values : Counts → List ℕ
+counts_values counts = counts.nodes ∷ counts.links ∷ counts.lines ∷ []
+
+-- the values of an answer: a number, and the counts that it gives where the number is 0
+abbrev pub counts_answer : ℕ → Counts → List ℕ
+counts_answer zero counts = counts_values counts
+counts_answer (suc number) counts = 0 ∷ 0 ∷ 0 ∷ []

@@ -4,19 +4,21 @@
 #![tactic(auto)]
 
 ghost use Rattle.std.specs.Prelude.{◌≡◌};
+ghost use Rattle.mass.specs.Refusal.{number_in};
 ghost use Rattle.plan.specs.Calls.{filled};
 ghost use Rattle.sheets.specs.SheetFile.{sheet_refusal};
-ghost use Rattle.sheets.specs.SheetCalls.{sheet_number, counts_of, read_sheet_number, read_sheet_answer, sheet_words};
+ghost use Rattle.sheets.specs.SheetCalls.{counts_in, counts_of, read_sheet_number, sheet_words};
 ghost use Rattle.host_answers.specs.Laid.{laid};
-ghost use Rattle.host_sheets.specs.SheetAnswers.{counts_values};
+ghost use Rattle.host_sheets.specs.SheetAnswers.{counts_values, counts_answer};
 
 use host_answers::give_three;
-use sheets::SheetReading;
+use mass::Refusal;
+use sheets::Counts;
 
 // The counts of a sheet: nodes, links and lines.
-fn give_counts(answer: SheetReading, counts: &mut [u64]) -> u32
-    ensures number { result ≡ sheet_number answer }
-    ensures counts { counts.new ≡ laid (counts_values answer) counts.old }
+fn give_counts(answer: Result<Counts, Refusal>, counts: &mut [u64]) -> u32
+    ensures number { result ≡ number_in answer }
+    ensures counts { counts.new ≡ laid (counts_values (counts_in answer)) counts.old }
 {
     let c = sheets::counts_in(answer);
     give_three(counts, c.nodes, c.links, c.lines);
@@ -27,15 +29,14 @@ fn give_counts(answer: SheetReading, counts: &mut [u64]) -> u32
 pub fn check(sheet: &[u8]) -> u32
     ensures { result ≡ sheet_refusal sheet.now }
 {
-    sheets::check(sheet)
+    mass::number_in(&sheets::check(sheet))
 }
 
 // Reads a sheet into a lent list of words, and lays down its counts of nodes, links and lines.
 pub fn read(sheet: &[u8], events: &mut [u64], counts: &mut [u64]) -> u32
     ensures number { result ≡ read_sheet_number sheet.now events.old }
     ensures events { events.new ≡ filled result (sheet_words sheet.now) events.old }
-    ensures counts { counts.new ≡ laid
-        (counts_values (read_sheet_answer result (counts_of sheet.now))) counts.old }
+    ensures counts { counts.new ≡ laid (counts_answer result (counts_of sheet.now)) counts.old }
 {
     give_counts(sheets::read(sheet, events), counts)
 }
@@ -44,8 +45,7 @@ pub fn read(sheet: &[u8], events: &mut [u64], counts: &mut [u64]) -> u32
 pub fn read_by_records(sheet: &[u8], events: &mut [u64], counts: &mut [u64]) -> u32
     ensures number { result ≡ read_sheet_number sheet.now events.old }
     ensures events { events.new ≡ filled result (sheet_words sheet.now) events.old }
-    ensures counts { counts.new ≡ laid
-        (counts_values (read_sheet_answer result (counts_of sheet.now))) counts.old }
+    ensures counts { counts.new ≡ laid (counts_answer result (counts_of sheet.now)) counts.old }
 {
     give_counts(sheet_records::read_by_records(sheet, events), counts)
 }

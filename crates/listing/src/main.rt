@@ -8,13 +8,12 @@ ghost use Rattle.std.specs.Prelude.{◌≤◌, IfOk, length};
 
 use std::io;
 use std::io::Read;
-use text::Formatted;
 
 fn main(rt: HostRuntime) -> io::Result<()> {
     let mut plan = [0u8; 50070];
     let mut out = [0u8; 92789];
     let got = read_full(&mut rt.reader(), &mut plan)?;
-    if let Formatted::Text(size) = text::listing_text(&plan[..got], &mut out) {
+    if let Ok(size) = text::listing_text(&plan[..got], &mut out) {
         if let Err(error) = rt.write_all(&out[..size]) {
             eprintln!(rt; "listing: standard output was not written whole")?;
             return Err(error);

@@ -8,13 +8,12 @@ use Prim.Native.Nat.{ℕ, ◌+◌, ◌-◌, ◌*◌, ◌/◌, ◌%◌, ◌^◌, 
 use native.Mathlib.Omega.{arith}
 use native.Mathlib.Decide.{dec_lt, ℕ_discrete}
 use lib.Dec.{eqb, ltb}
-use lib.ListN.{length, get_or, set, replicate}
-use lib.Seq.{get_or-set_same, get_or-set_other}
+use lib.ListN.{get_or, set, replicate}
 use borrow.Author.Tests.{eqb-true, eq-eqb, ne_eqb, ltb-true, lt-ltb, le-ltb}
 use Rattle.sets.specs.Sets.{bit, joined, LowestTaken}
 use Rattle.plan.specs.Plan.{Link}
 use Rattle.sets.proofs.Laws.{bit-none, bit_past, bit-joined-low, bit-joined-high}
-use Rattle.sets.proofs.Bools.{not_so, same_bool, and_left, and_right, and_both, or-either, or_left, or_right, any_found, any_here}
+use Rattle.sets.proofs.Bools.{same_bool, and_left, and_right, and_both, or-either, or_left, or_right, any_found, any_here}
 use Rattle.plan.specs.Lists.{links_of}
 use Rattle.plan_layout.proofs.ListLaws.{length-links-of}
 use Rattle.network.specs.Outage.{Outage}
@@ -24,36 +23,6 @@ use Rattle.network.specs.Table.{ends_of, link_in, is_end, table_has, at_nodes, L
 use Rattle.network.proofs.LinkBytes.{link-at, link-below}
 use Rattle.network.proofs.RowSets.{empty-row}
 use Rattle.network.proofs.Words.{any-rest, any_none, joined_by_lem}
-
--- ---- one link put into the table at one node
-
-module _ (table : List ℕ) (v i new : ℕ) (size : length table ≡ 128) (hv : v < 64) (hi : i < 128)
-    (law : (k : ℕ) → bit new k ≡ (bit (get_or table (2 * v + i / 64) 0) k || eqb k (i % 64)))
-  where
-    pub table-put : (u j : ℕ) → u < 64 → j < 128
-        → table_has (set table (2 * v + i / 64) new) u j ≡ (table_has table u j || (eqb v u && eqb j i))
-    table-put u j hu hj = at (ℕ_discrete (2 * u + j / 64) (2 * v + i / 64))
-      where
-        same : 2 * u + j / 64 ≡ 2 * v + i / 64 → eqb (j % 64) (i % 64) ≡ (eqb v u && eqb j i)
-        same e =
-            same_bool _ _
-            (λ s. and_both _ _ (eq-eqb v u (omega arith)) (eq-eqb j i (omega (arith, eqb-true (j % 64) (i % 64) s))))
-            (λ s. eq-eqb _ _ (ap (λ (x : ℕ). x % 64) (eqb-true j i (and_right (eqb v u) _ s))))
-
-        other : (2 * u + j / 64 ≡ 2 * v + i / 64 → ⊥) → (eqb v u && eqb j i) ≡ false
-        other n =
-            not_so _
-            (λ s. n (omega (arith, eqb-true v u (and_left _ _ s), ap (λ (x : ℕ). x / 64) (eqb-true j i (and_right (eqb v u) _ s)))))
-
-        at : Dec (2 * u + j / 64 ≡ 2 * v + i / 64) → table_has (set table (2 * v + i / 64) new) u j ≡ (table_has table u j || (eqb v u && eqb j i))
-        at (yes e) =
-            ap (λ (x : ℕ). bit (get_or (set table (2 * v + i / 64) new) x 0) (j % 64)) e
-            ∙ ap (λ (x : ℕ). bit x (j % 64)) (get_or-set_same table (2 * v + i / 64) new 0 (omega arith))
-            ∙ law (j % 64)
-            ∙ ap₂ (λ (x : ℕ) (y : Bool). bit (get_or table x 0) (j % 64) || y) (sym e) (same e)
-        at (no n) =
-            ap (λ (x : ℕ). bit x (j % 64)) (get_or-set_other table (2 * v + i / 64) (2 * u + j / 64) new 0 n)
-            ∙ sym (ap (λ (y : Bool). table_has table u j || y) (other n) ∙ or-false (table_has table u j))
 
 -- ---- the table of all links, link by link
 

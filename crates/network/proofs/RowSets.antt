@@ -62,9 +62,6 @@ module _ (bytes : List ℕ) (base s : ℕ) (before : List ℕ) where
     pub within : (i : ℕ) → bit left i ≡ true → bit s i ≡ true
     pub rest : (v w : ℕ) → (bit (get_or rows v 0) w || joined_by bytes base left v w) ≡ (bit (get_or before v 0) w || joined_by bytes base s v w)
 
-  pub putting-none : length before ≡ 64 → Putting before s
-  putting-none h = record { size = h; within = λ i e. e; rest = λ v w. refl }
-
   -- the next link
   module _ (rows after : List ℕ) {left found rest : ℕ} (a b : ℕ) (t : LowestTaken left found rest) (e : ends_of a b ≡ link_in bytes (base + found)) where
     next : (v w : ℕ) → joined_by bytes base left v w ≡ (has_ends (ends_of a b) v w || joined_by bytes base rest v w)

@@ -2,8 +2,8 @@
 -- Assumes nothing.
 use mathlib.Core.Path.{◌≡◌, refl, sym, ap, subst, fun_ext, ◌∙◌}
 use mathlib.Core.List.{List, [], ◌∷◌, map, map-append}
-use Prim.Native.Nat.{ℕ, zero, suc, ◌+◌, ◌-◌, ◌*◌, ◌^◌, ◌<◌, ◌≤◌}
-use native.Mathlib.Nat.{add-zero, add-suc, zero-add, suc-add, sub-zero, mul-le-mul, mul-le-mul_left}
+use Prim.Native.Nat.{ℕ, zero, suc, ◌+◌, ◌-◌, ◌*◌, ◌<◌, ◌≤◌}
+use native.Mathlib.Nat.{add-zero, add-suc, zero-add, suc-add, sub-zero}
 use native.Mathlib.Decide.{dec_lt}
 use native.Mathlib.Numerals.{add-one}
 use native.Mathlib.Omega.{arith}
@@ -172,15 +172,6 @@ pub start-most : (n v : ℕ) → n ≤ 64 → v ≤ n → start n v ≤ 2016
 start-most n v few h =
     let e : v + (n - v) ≡ n = omega arith in
     omega (arith, rw e at (start-mono n v (n - v)), pairs-most n few)
-
--- law: a product of small numbers fits a word
-pub product-fits : (a b : ℕ) → a ≤ 64 → b ≤ 128 → a * b < 2 ^ 64
-product-fits a b h k = omega (arith, mul-le-mul h k)
-
--- law: v times a number that is not 0, unless v is
-pub once-at-least : (v d : ℕ) → (0 < v → 0 < d) → v ≤ v * d
-once-at-least zero d h = omega arith
-once-at-least (suc v) d h = omega (arith, mul-le-mul_left (suc v) (h (omega arith)))
 
 -- law: the place of node v's first pair, by a product; d is 2n − v
 start-twice : (n v : ℕ) → v ≤ n → 2 * start n v + v * v + v ≡ 2 * (n * v)

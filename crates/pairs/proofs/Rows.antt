@@ -9,7 +9,7 @@ use native.Mathlib.Nat.{mul-le-mul_left}
 use native.Mathlib.Decide.{ℕ_discrete, dec_lt}
 use native.Mathlib.Omega.{arith}
 use borrow.Author.Tests.{le-leb, lt-leb, le-ltb, eq-eqb, ne_eqb, ltb-false}
-use lib.Dec.{leb, ltb, eqb}
+use lib.Dec.{leb, ltb}
 use lib.ListN.{length, get_or}
 use Rattle.mass.specs.Split.{whole}
 use Rattle.sets.specs.Sets.{bit, digit, LowestTaken}
@@ -30,17 +30,6 @@ pub record RowsTurn (list₀ : List ℕ) (base n all others mass : ℕ) (list : 
       → get_or list (place n v w + base) 0 + mass * digit (bit left v && bit others w) ≡ get_or list₀ (place n v w + base) 0 + mass * digit (bit all v && bit others w)
   pub before : (i : ℕ) → i < base → get_or list i 0 ≡ get_or list₀ i 0
   pub past : (i : ℕ) → pair_count n + base ≤ i → get_or list i 0 ≡ get_or list₀ i 0
-
-pub rows-begin : (list : List ℕ) (base n all others mass : ℕ) → AddingRows base n all others mass list → RowsTurn list base n all others mass list all
-rows-begin list base n all others mass a =
-    record {
-      asked = a;
-      sized = refl;
-      sub = λ v e. e;
-      each = λ v w l k. refl;
-      before = λ i h. refl;
-      past = λ i h. refl;
-    }
 
 module _ {list₀ : List ℕ} {base n all others mass : ℕ} {list : List ℕ} {left : ℕ} (g : RowsTurn list₀ base n all others mass list left) where
   -- nothing is left

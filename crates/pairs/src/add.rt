@@ -40,7 +40,8 @@ pub fn add_cut(lower: &mut [u64], base: usize, n: usize, rows: [u64; 64], nodes:
     let all = sets::all_below(n);
     let mut left = nodes;
     // The pairs whose first node works and is not in `left` are done, all others are untouched, and no path leads out of `left`.
-    // Each turn takes out of `left` a part that has its lowest element, so `left` falls as a number.
+    // Each turn takes out of `left` a whole part, not one element: no `for` over elements. The part has its lowest element, so `left` falls
+    // as a number.
     while left != 0 {
         let part = topology::reach_by_rows(rows, nodes, sets::lowest(left)).set;
         let others = sets::less(all, part);

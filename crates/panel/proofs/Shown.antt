@@ -2,7 +2,7 @@
 -- Assumes nothing.
 use mathlib.Core.Path.{◌≡◌, refl, sym, ap, subst, ◌∙◌}
 use mathlib.Core.Bool.{true, false, ◌&&◌}
-use Prim.Native.Nat.{ℕ, zero, suc, ◌+◌, ◌-◌, ◌≤◌, ◌<◌}
+use Prim.Native.Nat.{ℕ, ◌+◌, ◌-◌, ◌≤◌, ◌<◌}
 use native.Mathlib.Decide.{dec_le}
 use native.Mathlib.Omega.{arith}
 use borrow.Author.Tests.{le-leb, lt-leb, leb-true}
@@ -21,8 +21,7 @@ use Rattle.walk.proofs.Valid.{plan-probable}
 use Rattle.sums.proofs.BoundsLaws.{upper-lower}
 use Rattle.pairs.specs.Pairs.{place, pair_test}
 use Rattle.bounds.specs.Bounds.{cuts, lower_of, upper_of}
-use Rattle.bounds.specs.Calls.{totals_of, bounds_of, pair_answer}
-use Rattle.bounds.proofs.Answers.{pair_inside}
+use Rattle.bounds.specs.Calls.{totals_of, bounds_of}
 use Rattle.panel.specs.Walks.{capped, walk_plan, WalkAt}
 use Rattle.panel.specs.Calls.{look_of, may_show, bounds_shown, look_pair_of}
 use Rattle.walk_state.specs.declared.Walk.{Walk}
@@ -98,27 +97,17 @@ module _ (w : Walk) (n : ℕ) (at : WalkAt intact (walk_plan w) n w) (v x : ℕ)
       shown-true w.header.nodes w.mass sum (sym (sum-decides w.header.nodes w.mass sum few light) ∙ le-leb sum w.mass below)
       ∙ λ i. record { lower = low i; upper = high i }
 
-  own-answer : pair_answer (pair_test w.header.nodes v x) (look_pair_of w v x) ≡ pair_answer (pair_test w.header.nodes v x) (bounds_of intact (capped p n) v x)
-  own-answer = step (pair_test w.header.nodes v x) refl
-    where
-      step : (number : ℕ) → pair_test w.header.nodes v x ≡ number → pair_answer number (look_pair_of w v x) ≡ pair_answer number (bounds_of intact (capped p n) v x)
-      step zero e = let i = pair_inside w.header.nodes v x e in ap (pair_answer 0) (own_pair i.0 i.1)
-      step (suc number) e = refl
-
-pub looked-pair : (p : Plan) (n : ℕ) (w : Walk) → WalkAt intact p n w → (v x : ℕ)
-    → pair_answer (pair_test w.header.nodes v x) (look_pair_of w v x) ≡ pair_answer (pair_test p.nodes v x) (bounds_of intact (capped p n) v x)
-unfolding plan_of_lists
-looked-pair p n w at v x =
-    subst
-    (λ (q : Plan). WalkAt intact q n w
-    → pair_answer (pair_test w.header.nodes v x) (look_pair_of w v x) ≡ pair_answer (pair_test q.nodes v x) (bounds_of intact (capped q n) v x))
-    at.plan
-    (λ (here : WalkAt intact (walk_plan w) n w). own-answer w n here v x)
-    at
-
 pub pair-looked : (p : Plan) (n : ℕ) (w : Walk) → WalkAt intact p n w → (v x : ℕ) → v < x → x < p.nodes → look_pair_of w v x ≡ bounds_of intact (capped p n) v x
 unfolding plan_of_lists
 pair-looked p n w at v x =
     subst (λ (q : Plan). WalkAt intact q n w → v < x → x < q.nodes → look_pair_of w v x ≡ bounds_of intact (capped q n) v x) at.plan
     (λ (here : WalkAt intact (walk_plan w) n w). own_pair w n here v x)
     at
+
+-- the walk has as many nodes as its plan, so a look tests a pair as the plan does
+pub nodes-same : (p : Plan) (n : ℕ) (w : Walk) → WalkAt intact p n w → w.header.nodes ≡ p.nodes
+unfolding plan_of_lists
+nodes-same p n w at = ap (λ (q : Plan). q.nodes) at.plan
+
+pub tested-same : (p : Plan) (n : ℕ) (w : Walk) → WalkAt intact p n w → (v x : ℕ) → pair_test w.header.nodes v x ≡ pair_test p.nodes v x
+tested-same p n w at v x = ap (λ (m : ℕ). pair_test m v x) (nodes-same p n w at)

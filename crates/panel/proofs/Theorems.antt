@@ -29,11 +29,10 @@ use Rattle.bounds.specs.declared.Totals.{Totals}
 use Rattle.bounds.proofs.Answers.{enclosed}
 use Rattle.walk_state.specs.Sound.{sound}
 use Rattle.panel.specs.Walks.{capped, walk_plan, ends_left, WalkAt}
-use Rattle.panel.specs.Calls.{full_quota, quota_test, ends_wanted, WentOn, look_of, look_pair_of}
+use Rattle.panel.specs.Calls.{full_quota, quota_test, ends_wanted, GoneOn, WentOn, look_of, look_pair_of}
 use Rattle.panel.specs.Sessions.{On, own, other, Call, made_on, walk_after, own_ends, CallsAnswered, last_walk, last_quota, ends_of_walk, ends_of_all}
 use Rattle.walk_state.specs.declared.Walk.{Walk}
 use Rattle.panel.specs.declared.Quota.{Quota}
-use Rattle.panel.specs.declared.GoneOn.{GoneOn}
 use Rattle.walk_state.proofs.SoundLaws.{SoundWalk, sound-pass}
 use Rattle.walk_state.proofs.StateLaws.{entries-pass, below-pass}
 use Rattle.panel.proofs.GoingOn.{take-there}

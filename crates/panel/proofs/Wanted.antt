@@ -7,10 +7,13 @@ use mathlib.Core.List.{[]}
 use Prim.Native.Nat.{ℕ, ◌+◌, ◌-◌, ◌≤◌, ◌<◌, min}
 use native.Mathlib.Decide.{dec_lt}
 use native.Mathlib.Omega.{arith}
-use borrow.Author.Tests.{lt-ltb, le-ltb, eqb-true, eqb-false, eq-eqb, ne_eqb}
+use borrow.Author.Tests.{lt-ltb, le-ltb, eqb-true, ne_eqb}
 use lib.Dec.{eqb}
 use lib.ListN.{length}
-use Rattle.mass.proofs.RefusalLaws.{refuse-none}
+use Rattle.std.specs.Prelude.{Ok, Err}
+use Rattle.mass.specs.Refusal.{number}
+use Rattle.mass.specs.declared.refusal.Refusal.{Refusal}
+use Rattle.mass.proofs.RefusalLaws.{number-some as refused-some}
 use Rattle.sets.proofs.Bools.{which, so-unless}
 use Rattle.plan.specs.Plan.{Plan}
 use Rattle.network.specs.Outage.{intact}
@@ -18,7 +21,7 @@ use Rattle.walk.specs.Stack.{to_come}
 use Rattle.walk.proofs.Resume.{none-to-come, some-to-come}
 use Rattle.walk_state.specs.Sound.{sound}
 use Rattle.panel.specs.Walks.{ends_to_come, ends_left, WalkAt}
-use Rattle.panel.specs.Calls.{quota_test, ends_wanted, go_on_number, WentOn}
+use Rattle.panel.specs.Calls.{quota_test, ends_wanted, go_on_number, gone_on, WentOn}
 use Rattle.panel.specs.Steps.{open_ends, ends_there, WalkedOn}
 use Rattle.walk_state.specs.declared.Walk.{Walk}
 use Rattle.panel.specs.declared.Quota.{Quota}
@@ -107,15 +110,8 @@ module _ (w : Walk) (size : length w.stack ≡ 512) (k : ℕ) where
 
 -- ---- the quota
 
-pub quota-refused : (left : ℕ) → left ≡ 0 → 19 ≡ quota_test left
-quota-refused left e = rw (eq-eqb left 0 e)
-
 pub quota-passed : (left : ℕ) → 0 < left → 0 ≡ quota_test left
 quota-passed left h = rw (ne_eqb left 0 (λ z. omega arith))
-
--- a quota that is not refused holds an end or more
-pub quota-some : (left : ℕ) → quota_test left ≡ 0 → 0 < left
-quota-some left e = let some = eqb-false left 0 (refuse-none (eqb left 0) 18 e) in omega arith
 
 -- ---- the answers
 
@@ -141,7 +137,7 @@ module _ (w : Walk) (quota : Quota) (k : ℕ) where
   still p n at = let same : n ≡ n + 0 = omega arith in subst (λ (x : ℕ). WalkAt intact p x w) same at
 
   -- nothing is to be reached
-  pub none-wanted : ends_wanted w k ≡ 0 → WentOn w quota k (record { number = 0; reached = 0; walk = w; quota = quota })
+  pub none-wanted : ends_wanted w k ≡ 0 → WentOn w quota k (gone_on (Ok 0) w quota)
   none-wanted e =
       record {
         number = sym (number-none e);
@@ -152,9 +148,8 @@ module _ (w : Walk) (quota : Quota) (k : ℕ) where
       }
 
   -- the quota is empty
-  pub none-drawn : 0 < ends_wanted w k → (number : ℕ) → number ≡ quota_test quota.left → (number ≡ 0 → ⊥)
-      → WentOn w quota k (record { number = number; reached = 0; walk = w; quota = quota })
-  none-drawn some number e not_None =
+  pub none-drawn : 0 < ends_wanted w k → (r : Refusal) → number r ≡ quota_test quota.left → WentOn w quota k (gone_on (Err r) w quota)
+  none-drawn some r e =
       record {
         number = e ∙ sym (number-some some);
         reached = omega (arith, empty);
@@ -164,7 +159,7 @@ module _ (w : Walk) (quota : Quota) (k : ℕ) where
       }
     where
       empty : quota.left ≡ 0
-      empty = eqb-true quota.left 0 (so-unless (eqb quota.left 0) (λ f. not_None (e ∙ rw f)))
+      empty = eqb-true quota.left 0 (so-unless (eqb quota.left 0) (λ f. refused-some r (e ∙ rw f)))
 
 -- so many ends are allowed
 module _ (w : Walk) (quota : Quota) (k : ℕ) (size : length w.stack ≡ 512) (o : Open w size k) (allowed : ℕ)
@@ -178,32 +173,23 @@ module _ (w : Walk) (quota : Quota) (k : ℕ) (size : length w.stack ≡ 512) (o
   pub under-cap : allowed + w.reached ≤ w.header.cap
   under-cap = omega (arith, fits-cap, (sound-is w o.is-sound).under-cap)
 
-  -- the walk goes on to `r`
-  module _ (some : 0 < allowed) (full : quota_test quota.left ≡ 0) (r : Walk) (on : WalkedOn w allowed r) where
-    -- how many ends it reached
-    got : r.reached - w.reached ≡ ends_there w allowed
-    got = omega (arith, on.reached)
-
-    reached-is : ends_there w allowed ≡ min (ends_wanted w k) quota.left
+  -- the walk goes on to `r`, by so many ends as there are of those
+  module _ (some : 0 < quota.left) (r : Walk) (reached : ℕ) (is : reached ≡ ends_there w allowed) (on : WalkedOn w allowed r) where
+    reached-is : reached ≡ min (ends_wanted w k) quota.left
     reached-is =
-        smallest k cap-left (length (ends_to_come w)) quota.left allowed fits-cap
+        is
+        ∙ smallest k cap-left (length (ends_to_come w)) quota.left allowed fits-cap
         ∙ ap (λ (x : ℕ). min x quota.left) (sym (wanted-sound w k o.is-sound))
 
-    pub in-quota : r.reached - w.reached ≤ quota.left
-    in-quota = omega (arith, got, within k cap-left quota.left allowed fits-cap)
+    pub in-quota : reached ≤ quota.left
+    in-quota = omega (arith, is, within k cap-left quota.left allowed fits-cap)
 
-    pub went : WentOn w quota k
-        (record {
-          number = 0;
-          reached = r.reached - w.reached;
-          walk = r;
-          quota = record { left = quota.left - (r.reached - w.reached) };
-        })
+    pub went : WentOn w quota k (gone_on (Ok reached) r (record { left = quota.left - reached }))
     went =
         record {
-          number = sym (number-some w quota k o.wanted ∙ full);
-          reached = got ∙ reached-is;
-          drawn = put_back quota.left (r.reached - w.reached) in-quota;
-          unmoved = λ (z : r.reached - w.reached ≡ 0). absurd (omega (arith, got, some, o.some));
-          moved = λ p n at. subst (λ (x : ℕ). WalkAt intact p (n + x) r) (sym got) (on.moved p n at);
+          number = sym (not-empty w quota k some);
+          reached = reached-is;
+          drawn = put_back quota.left reached in-quota;
+          unmoved = λ (z : reached ≡ 0). absurd (omega (arith, reached-is, some, o.wanted));
+          moved = λ p n at. subst (λ (x : ℕ). WalkAt intact p (n + x) r) (sym is) (on.moved p n at);
         }

@@ -1,7 +1,8 @@
 -- What the calls of the crate `panel` answer, for every input: document 02, request U4.
 -- Assumes nothing.
-use Rattle.std.specs.Prelude.{◌≡◌, Bool, true, false, ◌&&◌, ℕ, ◌+◌, ◌-◌, min, ltb, leb, eqb, get_or}
-use Rattle.mass.specs.Refusal.{refuse}
+use Rattle.std.specs.Prelude.{◌≡◌, Bool, true, false, ◌&&◌, ℕ, ◌+◌, ◌-◌, min, ltb, leb, eqb, get_or, Result, Ok, Err}
+use Rattle.mass.specs.Refusal.{refuse, number_in}
+use Rattle.mass.specs.declared.refusal.Refusal.{Refusal}
 use Rattle.mass.specs.Split.{whole}
 use Rattle.sets.specs.Sets.{digit}
 use Rattle.plan.specs.Plan.{Plan}
@@ -13,7 +14,6 @@ use Rattle.walk_state.specs.Sound.{sound}
 use Rattle.panel.specs.Walks.{WalkAt, ends_left}
 use Rattle.walk_state.specs.declared.Walk.{Walk}
 use Rattle.panel.specs.declared.Quota.{Quota}
-use Rattle.panel.specs.declared.GoneOn.{GoneOn}
 
 -- "One quota of 10,000,000 ends serves all go-on calls": what is left of it at power-up
 abbrev pub full_quota : Quota
@@ -31,6 +31,22 @@ ends_wanted w k = elim (sound w) [ true ↦ min k (ends_left w) | false ↦ 0 ]
 -- "Refused: after those two cases, 19 where the quota is empty": an ended walk, or k = 0, is to reach no end
 unfoldable pub go_on_number : Walk → Quota → ℕ → ℕ
 go_on_number w quota k = elim (ltb 0 (ends_wanted w k)) [ true ↦ quota_test quota.left | false ↦ 0 ]
+
+-- a go-on that was made: its number, which is 0 where nothing is refused; how many ends it reached; the walk and the quota after it
+pub record GoneOn : Type 0 where
+  pub number : ℕ
+  pub reached : ℕ
+  pub walk : Walk
+  pub quota : Quota
+
+-- how many ends an answer says were reached: none where it refuses
+abbrev pub reached_in : Result ℕ Refusal → ℕ
+reached_in (Ok reached) = reached
+reached_in (Err refused) = 0
+
+-- the go-on that has this answer and leaves this walk and this quota
+abbrev pub gone_on : Result ℕ Refusal → Walk → Quota → GoneOn
+gone_on answer walk quota = record { number = number_in answer; reached = reached_in answer; walk = walk; quota = quota }
 
 -- what a go-on for at most k ends answers: its number, how many ends it reached ("exactly the smallest of k, the ends the walk still has
 -- under the plan's cap, and what the quota still holds"), and what is left of the quota. Where it reached none, the walk is as it was; a

@@ -1,10 +1,9 @@
 -- Lists of go-on calls on one quota: a walk, and others that draw on the same quota in between.
 -- Assumes nothing.
 use Rattle.std.specs.Prelude.{List, [], ◌∷◌, ℕ, ◌+◌}
-use Rattle.panel.specs.Calls.{WentOn}
+use Rattle.panel.specs.Calls.{GoneOn, WentOn}
 use Rattle.walk_state.specs.declared.Walk.{Walk}
 use Rattle.panel.specs.declared.Quota.{Quota}
-use Rattle.panel.specs.declared.GoneOn.{GoneOn}
 
 -- the walk that a call goes on with: the one in question, or another, in any state
 pub data On : Type 0 where

@@ -1,48 +1,31 @@
 // A walk begun, and gone on with, under a quota.
-ghost use Rattle.std.specs.Prelude.{◌≡◌, true, ◌+◌, ◌≤◌, min};
+ghost use Rattle.std.specs.Prelude.{◌≡◌, true, ◌+◌, ◌≤◌, ◌<◌, length, IfOk, OnOk};
+ghost use Rattle.mass.specs.Refusal.{number_in};
 ghost use Rattle.plan.specs.LentLists.{plan_of_lists, in_words, lists_number};
 ghost use Rattle.network.specs.Outage.{intact};
 ghost use Rattle.walk_state.specs.Sound.{sound};
-ghost use Rattle.walk_state.specs.States.{walk_answer};
 ghost use Rattle.panel.specs.Walks.{WalkAt, root_walk};
-ghost use Rattle.panel.specs.Calls.{full_quota, quota_test, WentOn};
-ghost use Rattle.panel.specs.Steps.{open_ends, WalkedOn};
+ghost use Rattle.panel.specs.Calls.{full_quota, quota_test, gone_on, WentOn};
+ghost use Rattle.panel.specs.Steps.{open_ends, ends_there, WalkedOn};
 
-use crate::{GoneOn, Quota};
+use crate::Quota;
 use bounds::Tally;
+use mass::Refusal;
 use plan::Header;
-use walk_state::{Walk, WalkAnswer, is_sound, no_walk};
+use walk_state::{Walk, is_sound, no_walk};
 
 // Begins the walk of a plan in lent lists.
-pub fn begin(h: Header, links: &[u8], events: &[u64]) -> WalkAnswer
-    ensures answer { result ≡ walk_answer (lists_number (in_words h links.now events.now))
-        (root_walk h links.now events.now) }
-    ensures begun { lists_number (in_words h links.now events.now) ≡ 0
-        → WalkAt intact (plan_of_lists h links.now events.now) 0 result.walk }
+pub fn begin(h: Header, links: &[u8], events: &[u64]) -> Result<Walk, Refusal>
+    ensures number { number_in result ≡ lists_number (in_words h links.now events.now) }
+    ensures root { IfOk result (λ w. w ≡ root_walk h links.now events.now) }
+    ensures begun { IfOk result (λ w.
+        WalkAt intact (plan_of_lists h links.now events.now) 0 w) }
 {
-    let mut bytes = [0u8; 256];
-    let mut words = [0u64; 512];
-    let number = plan_lists::accept(h, links, events, &mut bytes, &mut words);
-    if number != 0 {
-        return WalkAnswer {
-            number,
-            walk: no_walk(),
-        };
-    }
-    let mut stack = [0u64; 512];
-    let at = walk::begin(&mut stack);
-    let walk = Walk {
-        header: h,
-        links: bytes,
-        events: words,
-        stack,
-        sums: [0u64; 2016],
-        at,
-        reached: 0,
-        count: 0,
-        mass: 0,
-    };
-    WalkAnswer { number: 0, walk }
+    let mut walk = no_walk();
+    walk.header = h;
+    plan_lists::accept(h, links, events, &mut walk.links, &mut walk.events)?;
+    walk.at = walk::begin(&mut walk.stack);
+    Ok(walk)
 }
 
 // The quota at power-up: 10,000,000 ends.
@@ -53,117 +36,71 @@ pub fn power_up() -> Quota
 }
 
 // 19: the quota is empty.
-fn quota_test(left: u64) -> u32
-    ensures { result ≡ quota_test left }
+fn quota_test(left: u64) -> Result<(), Refusal>
+    ensures number { number_in result ≡ quota_test left }
+    ensures some { OnOk result (0 < left) }
 {
-    if left == 0 {
-        return 19;
-    }
-    0
-}
-
-// The smaller of two numbers.
-fn fewer_of(a: u64, b: u64) -> u64
-    ensures { result ≡ min a b }
-{
-    if a < b {
-        return a;
-    }
-    b
+    Refusal::Quota.when(left == 0)
 }
 
 // How many ends the cap still allows: none from a state that is no walk or has no end to come.
-fn ends_open(w: Walk) -> u64
-    ensures { result ≡ open_ends w }
+fn ends_open(w: &Walk) -> u64
+    ensures allowed { result ≡ open_ends w.now }
+    ensures sized { length w.now.stack ≡ 512 }
 {
-    let h = w.header;
-    let links = w.links;
-    let events = w.events;
-    let stack = w.stack;
-    let sums = w.sums;
     if !is_sound(
-        h, &links, &events, &stack, &sums, w.at, w.reached, w.count, w.mass,
+        w.header, &w.links, &w.events, &w.stack, &w.sums, w.at, w.reached, w.count, w.mass,
     ) {
         return 0;
     }
     if 512 <= w.at {
         return 0;
     }
-    h.cap - w.reached
+    w.header.cap - w.reached
 }
 
-// Goes on with a walk, by the loop of the run, for at most so many ends as are allowed.
-fn reach_ends(w: Walk, allowed: u64) -> Walk
-    requires { (sound w ≡ true) × (allowed + w.reached ≤ w.header.cap) }
-    ensures { WalkedOn w allowed result }
+// Goes on with a walk, by the loop of the run, for at most so many ends as are allowed. Answers how many it reached.
+fn reach_ends(walk: &mut Walk, allowed: u64) -> u64
+    requires { (sound walk.old ≡ true) × (allowed + walk.old.reached ≤ walk.old.header.cap) }
+    ensures reached { result ≡ ends_there walk.old allowed }
+    ensures walked { WalkedOn walk.old allowed walk.new }
 {
-    let h = w.header;
-    let links = w.links;
-    let events = w.events;
-    let mut stack = w.stack;
-    let mut sums = w.sums;
-    let table = network::links_at(h.nodes as usize, &links, h.links as usize);
+    let h = walk.header;
+    let table = network::links_at(h.nodes as usize, &walk.links, h.links as usize);
     let so_far = Tally {
-        at: w.at,
+        at: walk.at,
         left: allowed,
-        count: w.count,
-        mass: w.mass,
+        count: walk.count,
+        mass: walk.mass,
     };
     let r = bounds::go_on(
         h,
-        &links,
-        &events,
+        &walk.links,
+        &walk.events,
         &table,
         network::Failed::NONE,
-        &mut stack,
-        &mut sums,
+        &mut walk.stack,
+        &mut walk.sums,
         so_far,
     );
-    Walk {
-        header: h,
-        links,
-        events,
-        stack,
-        sums,
-        at: r.at,
-        reached: w.reached + (allowed - r.left),
-        count: r.count,
-        mass: r.mass,
-    }
+    let reached = allowed - r.left;
+    walk.at = r.at;
+    walk.reached += reached;
+    walk.count = r.count;
+    walk.mass = r.mass;
+    reached
 }
 
-// The answer of a go-on that reaches no end.
-fn unmoved(number: u32, walk: Walk, quota: Quota) -> GoneOn
-    ensures { result ≡ record { number = number; reached = 0; walk = walk; quota = quota } }
+// Goes on with a walk for at most k ends, drawing on the quota, and answers how many ends it reached. A refusal leaves both as they were.
+pub fn go_on(walk: &mut Walk, quota: &mut Quota, k: u64) -> Result<u64, Refusal>
+    ensures { WentOn walk.old quota.old k (gone_on result walk.new quota.new) }
 {
-    GoneOn {
-        number,
-        reached: 0,
-        walk,
-        quota,
-    }
-}
-
-// Goes on with a walk for at most k ends, drawing on the quota.
-pub fn go_on(w: Walk, quota: Quota, k: u64) -> GoneOn
-    ensures { WentOn w quota k result }
-{
-    let wanted = fewer_of(k, ends_open(w));
+    let wanted = k.min(ends_open(walk));
     if wanted == 0 {
-        return unmoved(0, w, quota);
+        return Ok(0);
     }
-    let empty = quota_test(quota.left);
-    if empty != 0 {
-        return unmoved(empty, w, quota);
-    }
-    let walk = reach_ends(w, fewer_of(wanted, quota.left));
-    let reached = walk.reached - w.reached;
-    GoneOn {
-        number: 0,
-        reached,
-        walk,
-        quota: Quota {
-            left: quota.left - reached,
-        },
-    }
+    quota_test(quota.left)?;
+    let reached = reach_ends(walk, wanted.min(quota.left));
+    quota.left -= reached;
+    Ok(reached)
 }

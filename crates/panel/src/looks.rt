@@ -1,13 +1,15 @@
 // Looks at a walk. They test the fields that they show, and no others.
-ghost use Rattle.std.specs.Prelude.{◌≡◌, ℕ, ◌≤◌, ◌<◌, get_or};
+ghost use Rattle.std.specs.Prelude.{◌≡◌, ℕ, ◌≤◌, ◌<◌, get_or, IfOk};
+ghost use Rattle.mass.specs.Refusal.{number_in};
 ghost use Rattle.plan.specs.Plan.{Plan};
 ghost use Rattle.network.specs.Outage.{intact};
 ghost use Rattle.pairs.specs.Pairs.{place, pair_test};
-ghost use Rattle.bounds.specs.Calls.{totals_of, bounds_of, pair_answer};
+ghost use Rattle.bounds.specs.Calls.{totals_of, bounds_of};
 ghost use Rattle.panel.specs.Walks.{capped, WalkAt};
 ghost use Rattle.panel.specs.Calls.{look_of, may_show, bounds_shown, look_pair_of};
 
-use bounds::{PairBounds, Paired, Totals};
+use bounds::{PairBounds, Totals};
+use mass::Refusal;
 use pairs::{pair_test, place_of};
 use walk_state::Walk;
 
@@ -64,15 +66,14 @@ fn sum_of(nodes: u64, sums: &[u64; 2016], v: u64, x: u64) -> u64
 }
 
 // The bounds of a pair of a walk.
-pub fn look_pair(w: Walk, v: u64, x: u64) -> Paired
-    ensures answer { result ≡ pair_answer (pair_test w.header.nodes v x) (look_pair_of w v x) }
-    ensures shown { (p : Plan) (n : ℕ) → WalkAt intact p n w → result ≡ pair_answer (pair_test p.nodes v x) (bounds_of intact (capped p n) v x) }
+pub fn look_pair(w: Walk, v: u64, x: u64) -> Result<PairBounds, Refusal>
+    ensures number { number_in result ≡ pair_test w.header.nodes v x }
+    ensures bounds { IfOk result (λ b. b ≡ look_pair_of w v x) }
+    ensures shown { (p : Plan) (n : ℕ) → WalkAt intact p n w
+        → (number_in result ≡ pair_test p.nodes v x) × IfOk result (λ b. b ≡ bounds_of intact (capped p n) v x) }
 {
     let nodes = w.header.nodes;
-    let wrong = pair_test(nodes, v, x);
-    if wrong != 0 {
-        return Paired::Refused(wrong);
-    }
+    pair_test(nodes, v, x)?;
     let sums = w.sums;
-    Paired::Done(bounds_from(nodes, w.mass, sum_of(nodes, &sums, v, x)))
+    Ok(bounds_from(nodes, w.mass, sum_of(nodes, &sums, v, x)))
 }

@@ -7,16 +7,18 @@
 mod copying;
 mod running;
 
-ghost use Rattle.std.specs.Prelude.{◌≡◌, ◌*◌, length};
+ghost use Rattle.std.specs.Prelude.{◌≡◌, ◌*◌, length, IfOk};
+ghost use Rattle.mass.specs.Refusal.{number_in};
 ghost use Rattle.plan.specs.LentLists.{plan_of_lists, in_words};
 ghost use Rattle.plan.specs.Calls.{filled};
 ghost use Rattle.network.specs.Outage.{intact};
 ghost use Rattle.bounds.specs.Bounds.{lower_list, upper_list, EnclosesAll};
-ghost use Rattle.bounds.specs.Calls.{run_number, ran_answer, ran_number, totals_of, totals_in};
+ghost use Rattle.bounds.specs.Calls.{run_number, totals_of};
 ghost use Rattle.record_lists.specs.Events.{words_of, words_used, in_records};
 
-use bounds::Ran;
+use bounds::Totals;
 pub use copying::copy_plan;
+use mass::Refusal;
 use plan::Header;
 use record_lists::{Event, flatten, used_words};
 pub use running::run_plan;
@@ -29,17 +31,16 @@ pub fn run_words(
     words: &[u64; 512],
     lower: &mut [u64],
     upper: &mut [u64],
-) -> Ran
-    ensures answer { result ≡ ran_answer
-        (run_number (in_words h links.now (words_used count words.now)) (length lower.old) (length upper.old))
-        (totals_of (plan_of_lists h links.now (words_used count words.now))) }
-    ensures lowers { lower.new ≡ filled (ran_number result)
+) -> Result<Totals, Refusal>
+    ensures number { number_in result
+        ≡ run_number (in_words h links.now (words_used count words.now)) (length lower.old) (length upper.old) }
+    ensures totals { IfOk result (λ t. t ≡ totals_of (plan_of_lists h links.now (words_used count words.now))) }
+    ensures lowers { lower.new ≡ filled (number_in result)
         (lower_list intact (plan_of_lists h links.now (words_used count words.now))) lower.old }
-    ensures uppers { upper.new ≡ filled (ran_number result)
+    ensures uppers { upper.new ≡ filled (number_in result)
         (upper_list intact (plan_of_lists h links.now (words_used count words.now))) upper.old }
-    ensures demand3 { ran_number result ≡ 0
-        → EnclosesAll intact (plan_of_lists h links.now (words_used count words.now))
-        lower.new upper.new (totals_in result).count }
+    ensures demand3 { IfOk result (λ t. EnclosesAll intact (plan_of_lists h links.now (words_used count words.now))
+        lower.new upper.new t.count) }
 {
     bounds::run(h, links, used_words(words, count), lower, upper)
 }
@@ -51,17 +52,16 @@ pub fn run_records(
     events: &[Event],
     lower: &mut [u64],
     upper: &mut [u64],
-) -> Ran
-    ensures answer { result ≡ ran_answer
-        (run_number (in_records h links.now events.now) (length lower.old) (length upper.old))
-        (totals_of (plan_of_lists h links.now (words_of events.now))) }
-    ensures lowers { lower.new ≡ filled (ran_number result)
+) -> Result<Totals, Refusal>
+    ensures number { number_in result
+        ≡ run_number (in_records h links.now events.now) (length lower.old) (length upper.old) }
+    ensures totals { IfOk result (λ t. t ≡ totals_of (plan_of_lists h links.now (words_of events.now))) }
+    ensures lowers { lower.new ≡ filled (number_in result)
         (lower_list intact (plan_of_lists h links.now (words_of events.now))) lower.old }
-    ensures uppers { upper.new ≡ filled (ran_number result)
+    ensures uppers { upper.new ≡ filled (number_in result)
         (upper_list intact (plan_of_lists h links.now (words_of events.now))) upper.old }
-    ensures demand3 { ran_number result ≡ 0
-        → EnclosesAll intact (plan_of_lists h links.now (words_of events.now))
-        lower.new upper.new (totals_in result).count }
+    ensures demand3 { IfOk result (λ t. EnclosesAll intact (plan_of_lists h links.now (words_of events.now))
+        lower.new upper.new t.count) }
 {
     let mut words = [0u64; 512];
     flatten(events, &mut words);

@@ -32,9 +32,6 @@ only-is on i j h l = ap (λ (x : ℕ). bit x j) (shl_exact 1 i 64 h (omega arith
 one_shifted : (k : ℕ) → k < 64 → 1 * 2 ^ k % 2 ^ 64 ≡ 2 ^ k
 one_shifted k h = shl_exact 1 k 64 (omega arith) (omega arith) ∙ one-mul (2 ^ k)
 
-pub shifted-pos : (k : ℕ) → k < 64 → 1 ≤ 1 * 2 ^ k % 2 ^ 64
-shifted-pos k h = omega (arith, one_shifted k h, lib.Pow.pow_pos k)
-
 pub first-is : (k j : ℕ) → k < 64 → bit (1 * 2 ^ k % 2 ^ 64 - 1) j ≡ ltb j k
 first-is k j h = ap (λ (x : ℕ). bit (x - 1) j) (one_shifted k h) ∙ bit-first k j
 

@@ -1,14 +1,11 @@
 -- Reading an equipment sheet into a lent list of records: document 02, request U2.
 -- Assumes nothing.
-use Rattle.std.specs.Prelude.{List, [], ◌∷◌, ℕ, length}
-use Rattle.mass.specs.Refusal.{first}
-use Rattle.refusals.specs.Tests.{room_test}
+use Rattle.std.specs.Prelude.{List, ℕ, length}
 use Rattle.record_lists.specs.declared.Event.{Event}
 use Rattle.record_reading.specs.Filled.{event_records}
 use Rattle.sheets.specs.Sheet.{sheet_events}
 use Rattle.sheets.specs.SheetFile.{sheet_of}
-use Rattle.sheets.specs.SheetCalls.{read_sheet_refusal, sheet_number, counts_in}
-use Rattle.sheets.specs.declared.SheetReading.{SheetReading}
+use Rattle.sheets.specs.SheetCalls.{read_sheet_refusal}
 
 -- the number with which reading into a lent list of records is refused: a record holds an event
 abbrev pub sheet_records_number : List ℕ → List Event → ℕ
@@ -17,7 +14,3 @@ sheet_records_number s events = read_sheet_refusal (length events) s
 -- the records of the events of the sheet that bytes stand for
 abbrev pub sheet_records : List ℕ → List Event
 sheet_records b = event_records (sheet_events (sheet_of b))
-
--- the number with which an answer's events are handed over to a list with room for `room` of them: the answer's own, then 12
-unfoldable pub handed_number : SheetReading → ℕ → ℕ
-handed_number answer room = first (sheet_number answer ∷ room_test room (counts_in answer).lines ∷ [])

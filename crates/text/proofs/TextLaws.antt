@@ -8,14 +8,15 @@ use borrow.Author.Tests.{lt-ltb, le-ltb}
 use lib.ListN.{length, get_or, take, length-append}
 use lib.Seq.{sets, length-sets}
 use Rattle.mass.specs.Split.{whole}
-use Rattle.mass.proofs.RefusalLaws.{refuses}
+use Rattle.mass.specs.Refusal.{number}
+use Rattle.mass.specs.declared.refusal.Refusal.{Refusal}
+use Rattle.mass.proofs.RefusalLaws.{number-some}
 use Rattle.plan.specs.Plan.{Plan}
 use Rattle.refusals.specs.Tests.{room_test}
 use Rattle.plan.specs.File.{refusal, plan_of}
 use Rattle.plan.specs.LentLists.{plan_refusal, plan_of_lists}
-use Rattle.plan.specs.Calls.{filled, header_of, read_answer}
+use Rattle.plan.specs.Calls.{filled, header_of}
 use Rattle.plan.specs.declared.Header.{Header}
-use Rattle.plan.specs.declared.Reading.TheVariants as reading
 use Rattle.plan_layout.proofs.ListLaws.{length-links-of, length-events-of}
 use Rattle.plan_reading.proofs.ReaderLawsAnswer.{take-sets}
 use Rattle.network.specs.Outage.{intact}
@@ -28,11 +29,8 @@ use Rattle.bounds.specs.Summed.{Summed}
 use Rattle.bounds.specs.declared.Totals.{Totals}
 use Rattle.bounds.proofs.Answers.{raised}
 use Rattle.plan_reading.specs.Loaded.{Loaded}
-use Rattle.plan_reading.proofs.LoadedLaws.{reading-refused, reading-accepted}
 use Rattle.text.specs.Listing.{line, pairs_text, pair_line, plan_text, refused_text, answer_text, listing}
 use Rattle.text.specs.Sums.{Listable, sum_line, head_line, sums_text}
-use Rattle.text.specs.Calls.{formatted_answer}
-use Rattle.text.specs.declared.Formatted.TheVariants as formatted
 use Rattle.text.proofs.FieldLaws.{TextLaid, then}
 
 -- ---- the first line and the rows
@@ -105,42 +103,35 @@ sums-text h links words sums t valid e s =
 
 -- ---- from the plan to the file
 
-pub refused-listing : (b : List ℕ) (n : ℕ) (h : Header) → reading.Refused n ≡ read_answer (refusal b) h → refused_text n ≡ listing intact b
+pub refused-listing : (b : List ℕ) (n : ℕ) (r : Refusal) → n ≡ number r → number r ≡ refusal b → refused_text n ≡ listing intact b
 unfolding listing answer_text
-refused-listing b n h e = let r = reading-refused (refusal b) n h e in refuses refused_text _ r.0 r.1
+refused-listing b n r e f = ap refused_text (e ∙ f) ∙ go (refusal b) (λ z. number-some r (f ∙ z))
+  where
+    go : (k : ℕ) → (k ≡ 0 → ⊥) → refused_text k ≡ answer_text intact k (plan_of b)
+    go zero n = absurd (n refl)
+    go (suc k) n = refl
 
-module _ (b links words : List ℕ) (h : Header) (e : reading.Accepted h ≡ read_answer (refusal b) (header_of b))
-    (l : refusal b ≡ 0 → Loaded b links words) where
-  pub loaded-header : h ≡ header_of b
-  loaded-header = (reading-accepted (refusal b) h (header_of b) e).1
-
-  pub loaded-lists : Loaded b links words
-  loaded-lists = l (reading-accepted (refusal b) h (header_of b) e).0
-
+module _ (b links words : List ℕ) (h : Header) (e : h ≡ header_of b) (z : refusal b ≡ 0) (l : refusal b ≡ 0 → Loaded b links words) where
   pub loaded-valid : plan_refusal (plan_of_lists h links words) ≡ 0
-  loaded-valid = subst (λ (x : Header). plan_refusal (plan_of_lists x links words) ≡ 0) (sym loaded-header) loaded-lists.valid
+  loaded-valid = subst (λ (x : Header). plan_refusal (plan_of_lists x links words) ≡ 0) (sym e) (l z).valid
 
   pub accepted-listing : plan_text intact (plan_of_lists h links words) ≡ listing intact b
   unfolding listing answer_text
   accepted-listing =
-      ap (λ (x : Header). plan_text intact (plan_of_lists x links words)) loaded-header
-      ∙ ap (plan_text intact) loaded-lists.denoted
-      ∙ ap (λ (k : ℕ). answer_text intact k (plan_of b)) (sym (reading-accepted (refusal b) h (header_of b) e).0)
+      ap (λ (x : Header). plan_text intact (plan_of_lists x links words)) e
+      ∙ ap (plan_text intact) (l z).denoted
+      ∙ ap (λ (k : ℕ). answer_text intact k (plan_of b)) (sym z)
 
 -- ---- the answer
 
-pub short-answer : (room size : ℕ) (out text : List ℕ) → room < size
-    → (formatted.Refused 12 ≡ formatted_answer (room_test room size) size) × ((out ≡ filled (room_test room size) text out) × (0 ≤ length out))
-short-answer room size out text h = rw (lt-ltb room size h) (refl, (refl, omega arith))
-
-pub text-answer : (size : ℕ) (buffer made text out out' : List ℕ) → length text ≤ length buffer
+-- the text fits the output, and is copied there
+pub text-copied : (size : ℕ) (buffer made text out out' : List ℕ) → length text ≤ length buffer
     → made ≡ sets buffer 0 text → size ≡ length text → size ≤ length out → out' ≡ sets out 0 (take size made)
-    → (formatted.Text size ≡ formatted_answer (room_test (length out) (length text)) (length text))
-    × ((out' ≡ filled (room_test (length out) (length text)) text out) × (size ≤ length out'))
-text-answer size buffer made text out out' fit m s room e =
+    → out' ≡ filled (room_test (length out) (length text)) text out
+text-copied size buffer made text out out' fit m s room e =
     let copy : take size made ≡ text = ap₂ (λ (n : ℕ) (x : List ℕ). take n x) s m ∙ take-sets buffer text fit in
     let enough : length text ≤ length out = omega arith in
-    rw (le-ltb (length out) (length text) enough) (ap formatted.Text s, (e ∙ ap (sets out 0) copy, omega (arith, ap length e, length-sets out 0 (take size made))))
+    rw (le-ltb (length out) (length text) enough) (e ∙ ap (sets out 0) copy)
 
 -- what was laid down has room where it was laid down
 pub size-kept : (buffer made text : List ℕ) (size : ℕ) → made ≡ sets buffer 0 text → size ≡ length text → length text ≤ length buffer → size ≤ length made

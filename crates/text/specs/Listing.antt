@@ -1,8 +1,7 @@
 -- The listing of a plan file: document 01, section "Listing", to the byte. 32 is a space, 10 a line feed.
 -- Assumes nothing.
 use mathlib.Core.List.{List, [], ◌∷◌, ◌++◌, flatten}
-use Rattle.std.specs.Prelude.{ℕ, length}
-use Rattle.mass.specs.Refusal.{answered}
+use Rattle.std.specs.Prelude.{ℕ, zero, suc, length}
 use Rattle.plan.specs.Plan.{Plan}
 use Rattle.plan.specs.File.{refusal, plan_of}
 use Rattle.network.specs.Outage.{Outage}
@@ -41,7 +40,8 @@ refused_text number = 114 ∷ 101 ∷ 102 ∷ 117 ∷ 115 ∷ 101 ∷ 100 ∷ 32
 
 -- the text of the answer to a call that is refused with a number, 0 if it is not
 unfoldable pub answer_text : Outage → ℕ → Plan → List ℕ
-answer_text out number p = answered refused_text (plan_text out p) number
+answer_text out zero p = plan_text out p
+answer_text out (suc number) p = refused_text (suc number)
 
 -- the listing of a list of bytes
 unfoldable pub listing : Outage → List ℕ → List ℕ

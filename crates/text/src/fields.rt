@@ -45,13 +45,6 @@ pub fn put_refused(out: &mut [u8], number: u32) -> usize
     requires { length (refused_text number) ≤ length out.old }
     ensures { (out.new ≡ sets out.old 0 (refused_text number)) × (result ≡ length (refused_text number)) }
 {
-    out[0] = b'r';
-    out[1] = b'e';
-    out[2] = b'f';
-    out[3] = b'u';
-    out[4] = b's';
-    out[5] = b'e';
-    out[6] = b'd';
-    out[7] = b' ';
+    plan_lists::copy_first(b"refused ", out, 0, 8);
     put_field(out, 8, number as u64, b'\n')
 }

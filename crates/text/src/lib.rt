@@ -7,10 +7,3 @@ mod fields;
 mod rows;
 
 pub use calls::listing_text;
-
-// What making the listing answers: the number of the refusal, which is 12, or how many bytes the listing has.
-#[derive(Clone, Copy)]
-pub enum Formatted {
-    Refused(u32),
-    Text(usize),
-}

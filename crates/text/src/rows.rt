@@ -24,17 +24,15 @@ pub fn put_row(
         × (result ≡ at + length (row_text (sum_line n rest sums.now) v (v + 1) (n - (v + 1)))) }
 {
     let mut place = pairs::start_of(n, v);
-    let mut i = at;
-    let mut w = v + 1;
-    // `place` is that of the pair of v and w. With the lines of v with w and with the nodes after w laid down from i on, the row is
-    // whole. Each turn raises w, up to n.
-    while w < n {
+    let mut next = at;
+    // `place` is that of the pair of v and w. With the lines of v with w and with the nodes after w laid down from `next` on, the row is
+    // whole.
+    for w in v + 1..n {
         let lower = sums[place];
-        i = put_line(out, i, v as u64, w as u64, lower, rest + lower);
+        next = put_line(out, next, v as u64, w as u64, lower, rest + lower);
         place += 1;
-        w += 1;
     }
-    i
+    next
 }
 
 // The lines of all pairs.
@@ -44,14 +42,12 @@ pub fn put_rows(out: &mut [u8], at: usize, n: usize, sums: &[u64; 2016], rest: u
     ensures { (out.new ≡ sets out.old at (pairs_text (sum_line n rest sums.now) n))
         × (result ≡ at + length (pairs_text (sum_line n rest sums.now) n)) }
 {
-    let mut i = at;
-    let mut v = 0;
-    // With the rows of v and of the nodes after it laid down from i on, the lines are those of all pairs. Each turn raises v, up to n.
-    while v < n {
-        i = put_row(out, i, n, v, sums, rest);
-        v += 1;
+    let mut next = at;
+    // With the rows of v and of the nodes after it laid down from `next` on, the lines are those of all pairs.
+    for v in 0..n {
+        next = put_row(out, next, n, v, sums, rest);
     }
-    i
+    next
 }
 
 // The first line: nodes, links, events, examined count, complete, E.

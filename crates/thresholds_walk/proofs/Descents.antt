@@ -1,6 +1,6 @@
 -- From a branch in hand down to where no "fails" side is left pending, as laws of the stack's words, for every threshold at once.
 -- Assumes nothing.
-use mathlib.Core.Path.{◌≡◌, ap, ◌∙◌}
+use mathlib.Core.Path.{◌≡◌, ap, subst, ◌∙◌}
 use mathlib.Core.List.{List, [], ◌∷◌, ◌++◌, append_assoc}
 use Prim.Native.Nat.{ℕ, ◌+◌, ◌-◌, ◌*◌, ◌^◌, ◌≤◌, ◌<◌}
 use native.Mathlib.Decide.{dec_lt}
@@ -17,12 +17,12 @@ use Rattle.plan.specs.Held.{Falling}
 use Rattle.walk.specs.Scenario.{scenario_of}
 use Rattle.walk.specs.Ends.{End, after, ends}
 use Rattle.walk.specs.Pending.{branch_ends}
-use Rattle.walk.specs.Stack.{branch_of}
+use Rattle.walk.specs.Stack.{branch_of, entry_at}
 use Rattle.walk.specs.Steps.{Stopped}
 use Rattle.walk.specs.declared.Stop.{Stop}
 use Rattle.walk.proofs.Descents.{probable, branch-parts}
 use Rattle.walk.proofs.Resume.{ends_some}
-use Rattle.thresholds_walk.specs.Stack.{entry_ends, shared_to_come, SoundShared, AllSoundShared, SharedStack}
+use Rattle.thresholds_walk.specs.Stack.{entry_ends, shared_to_come, shared_entry, SoundShared, AllSoundShared, SharedStack}
 use Rattle.thresholds_walk.specs.Paths.{SharedWalk, shared_walk, SharedPushed, FailsBelow, Halted, path_ends, left_to_take, PathTaken}
 use Rattle.thresholds_walk.specs.declared.Halt.{Halt}
 use Rattle.thresholds_walk.specs.declared.SharedEntry.{SharedEntry}
@@ -32,17 +32,17 @@ use Rattle.thresholds_walk.proofs.Stops.{entry-none, entry-some, branch-cut}
 
 -- the branch in hand on the way down from an entry, where the way has come to
 abbrev in_hand : SharedEntry → Halt → SharedEntry
-in_hand e r = record { depth = r.depth; mass = r.mass; low = e.low; high = e.high; parent = e.parent }
+in_hand e r = shared_entry r.depth r.mass e.branch.failing.low e.branch.failing.high e.parent
 
 -- on the way down: a branch in hand, the pending entries on the stack, and for every threshold the same ends to come as at the start
 pub record Going (k : SharedWalk) (at : ℕ) (e : SharedEntry) (stack₀ stack : List ℕ) (r : Halt) : Type 0 where
   pub hand : SoundShared k.count (in_hand e r) (length (drop r.at stack))
   pub held : SharedStack k.count r.at stack
   pub ahead : (t : ℕ)
-      → branch_ends t (events_of k.count k.words) (branch_of e.depth e.mass e.low e.high) ++ shared_to_come k.count t k.words at stack₀
-      ≡ branch_ends t (events_of k.count k.words) (branch_of r.depth r.mass e.low e.high) ++ shared_to_come k.count t k.words r.at stack
-  pub lighter : r.mass ≤ e.mass
-  pub still : e.mass < k.lowest → r.at ≡ at
+      → branch_ends t (events_of k.count k.words) (branch_of e.branch.depth e.branch.mass e.branch.failing.low e.branch.failing.high) ++ shared_to_come k.count t k.words at stack₀
+      ≡ branch_ends t (events_of k.count k.words) (branch_of r.depth r.mass e.branch.failing.low e.branch.failing.high) ++ shared_to_come k.count t k.words r.at stack
+  pub lighter : r.mass ≤ e.branch.mass
+  pub still : e.branch.mass < k.lowest → r.at ≡ at
 
 module _ (k : SharedWalk) (at : ℕ) (e : SharedEntry) (stack₀ stack : List ℕ) (r : Halt) (g : Going k at e stack₀ stack r) where
   abbrev count : ℕ
@@ -52,10 +52,10 @@ module _ (k : SharedWalk) (at : ℕ) (e : SharedEntry) (stack₀ stack : List �
   words = k.words
 
   abbrev low : ℕ
-  low = e.low
+  low = e.branch.failing.low
 
   abbrev high : ℕ
-  high = e.high
+  high = e.branch.failing.high
 
   abbrev depth : ℕ
   depth = r.depth
@@ -78,6 +78,13 @@ module _ (k : SharedWalk) (at : ℕ) (e : SharedEntry) (stack₀ stack : List �
         still = g.still;
       }
 
+  -- where no event is left
+  pub ended : count ≤ depth → Halted k at e stack₀ stack (record { at = top; depth = count; mass = mass })
+  ended over = subst (λ (d : ℕ). Halted k at e stack₀ stack (record { at = top; depth = d; mass = mass })) last (halts (λ a b. absurd (omega arith)))
+    where
+      last : depth ≡ count
+      last = omega (arith, g.hand.deep)
+
   module _ (few : count ≤ 128) (falls : Falling certain (events_of count words)) (h : k.lowest ≤ mass) (l : depth < count) where
     pub room : 5 ≤ top
     room = omega (arith, g.hand.room, length-drop top stack, g.held.sized)
@@ -91,7 +98,7 @@ module _ (k : SharedWalk) (at : ℕ) (e : SharedEntry) (stack₀ stack : List �
     -- the "fails" side is laid down, and the "works" side is in hand
     module _ (stack' : List ℕ) (fails works : ℕ) (failed : fails ≡ failing mass (get_or words (depth * 4) 0))
         (worked : works ≡ working mass (get_or words (depth * 4) 0))
-        (d : SharedPushed (record { depth = depth; mass = fails; low = low; high = high; parent = mass }) (top - 5) stack stack') where
+        (d : SharedPushed (shared_entry depth fails low high mass) (top - 5) stack stack') where
       events : List Event
       events = events_of count words
 
@@ -110,7 +117,7 @@ module _ (k : SharedWalk) (at : ℕ) (e : SharedEntry) (stack₀ stack : List �
       less : works ≤ mass
       less = omega (arith, worked, works-le mass (get_or words (depth * 4) 0) fits)
 
-      laid : SoundShared count (record { depth = depth + 1; mass = fails; low = d.set_low; high = d.set_high; parent = mass }) (length (drop top stack))
+      laid : SoundShared count (shared_entry (depth + 1) fails d.set_low d.set_high mass) (length (drop top stack))
       laid =
           record {
             deep = omega arith;
@@ -171,19 +178,12 @@ module _ (k : SharedWalk) (at : ℕ) (e : SharedEntry) (stack₀ stack : List �
 -- the next branch is taken off the stack
 module _ (count : ℕ) (words : List ℕ) (at : ℕ) (stack : List ℕ) (s : SharedStack count at stack) (h : at < 640) where
   abbrev e : SharedEntry
-  e =
-      record {
-        depth = get_or stack at 0;
-        mass = get_or stack (at + 1) 0;
-        low = get_or stack (at + 2) 0;
-        high = get_or stack (at + 3) 0;
-        parent = get_or stack (at + 4) 0;
-      }
+  e = record { branch = entry_at at stack; parent = get_or stack (at + 4) 0 }
 
   inside : at + 5 ≤ length stack
   inside = omega (arith, s.fives, s.sized)
 
-  all_sound : AllSoundShared count (e.depth ∷ e.mass ∷ e.low ∷ e.high ∷ e.parent ∷ drop (at + 5) stack)
+  all_sound : AllSoundShared count (e.branch.depth ∷ e.branch.mass ∷ e.branch.failing.low ∷ e.branch.failing.high ∷ e.parent ∷ drop (at + 5) stack)
   all_sound = rw (words-at stack at inside) at s.entries
 
   pub under : SharedStack count (at + 5) stack
@@ -193,7 +193,7 @@ module _ (count : ℕ) (words : List ℕ) (at : ℕ) (stack : List ℕ) (s : Sha
   taken = all_sound.0
 
   taken-ends : (t : ℕ) → shared_to_come count t words at stack
-      ≡ entry_ends t (events_of count words) e.parent (branch_of e.depth e.mass e.low e.high) ++ shared_to_come count t words (at + 5) stack
+      ≡ entry_ends t (events_of count words) e.parent (branch_of e.branch.depth e.branch.mass e.branch.failing.low e.branch.failing.high) ++ shared_to_come count t words (at + 5) stack
   taken-ends t = rw (words-at stack at inside)
 
   -- and gone down from, to where its "works" path stops
@@ -206,8 +206,8 @@ module _ (count : ℕ) (words : List ℕ) (at : ℕ) (stack : List ℕ) (s : Sha
           parent = e.parent;
           depth = halt.depth;
           mass = halt.mass;
-          low = e.low;
-          high = e.high;
+          low = e.branch.failing.low;
+          high = e.branch.failing.high;
           stop = end.depth;
           last = end.mass;
         }
@@ -222,19 +222,19 @@ module _ (count : ℕ) (words : List ℕ) (at : ℕ) (stack : List ℕ) (s : Sha
         let same : shared_to_come count t words (at + 5) stack ≡ shared_to_come count t words halt.at stack' =
         cancel
         (rw (
-          branch-cut t (events_of count words) (branch_of e.depth e.mass e.low e.high) (omega (arith, taken.lighter)),
-          branch-cut t (events_of count words) (branch_of halt.depth halt.mass e.low e.high) (omega (arith, taken.lighter, d.lighter)),
+          branch-cut t (events_of count words) (branch_of e.branch.depth e.branch.mass e.branch.failing.low e.branch.failing.high) (omega (arith, taken.lighter)),
+          branch-cut t (events_of count words) (branch_of halt.depth halt.mass e.branch.failing.low e.branch.failing.high) (omega (arith, taken.lighter, d.lighter)),
         ) at (d.ends t l)) in
         taken-ends t
         ∙ rw (
-          entry-none e.parent t (events_of count words) (branch_of e.depth e.mass e.low e.high) c,
-          entry-none e.parent t (events_of count words) (branch_of halt.depth halt.mass e.low e.high) c,
+          entry-none e.parent t (events_of count words) (branch_of e.branch.depth e.branch.mass e.branch.failing.low e.branch.failing.high) c,
+          entry-none e.parent t (events_of count words) (branch_of halt.depth halt.mass e.branch.failing.low e.branch.failing.high) c,
         ) same
     ends-both t l (no c) =
         taken-ends t
         ∙ rw (
-          entry-some e.parent t (events_of count words) (branch_of e.depth e.mass e.low e.high) (omega arith),
-          entry-some e.parent t (events_of count words) (branch_of halt.depth halt.mass e.low e.high) (omega arith),
+          entry-some e.parent t (events_of count words) (branch_of e.branch.depth e.branch.mass e.branch.failing.low e.branch.failing.high) (omega arith),
+          entry-some e.parent t (events_of count words) (branch_of halt.depth halt.mass e.branch.failing.low e.branch.failing.high) (omega arith),
         ) (d.ends t l)
 
     ends-all : (t : ℕ) → lowest ≤ t → shared_to_come count t words at stack ≡ path_ends count t words path ++ shared_to_come count t words halt.at stack'
@@ -244,18 +244,18 @@ module _ (count : ℕ) (words : List ℕ) (at : ℕ) (stack : List ℕ) (s : Sha
     some : lowest ≤ e.parent → 0 < length (path_ends count lowest words path)
     some l =
         rw (
-          entry-some e.parent lowest (events_of count words) (branch_of halt.depth halt.mass e.low e.high) l,
-          length-map rest-ends (after (scenario_of halt.depth (joined e.low e.high))),
-        ) (ends_some lowest halt.mass (drop (length (scenario_of halt.depth (joined e.low e.high))) (events_of count words)))
+          entry-some e.parent lowest (events_of count words) (branch_of halt.depth halt.mass e.branch.failing.low e.branch.failing.high) l,
+          length-map rest-ends (after (scenario_of halt.depth (joined e.branch.failing.low e.branch.failing.high))),
+        ) (ends_some lowest halt.mass (drop (length (scenario_of halt.depth (joined e.branch.failing.low e.branch.failing.high))) (events_of count words)))
       where
         rest-ends : List End
-        rest-ends = ends lowest halt.mass (drop (length (scenario_of halt.depth (joined e.low e.high))) (events_of count words))
+        rest-ends = ends lowest halt.mass (drop (length (scenario_of halt.depth (joined e.branch.failing.low e.branch.failing.high))) (events_of count words))
 
     fewer : Dec (e.parent < lowest)
         → left_to_take (shared_walk count lowest words) halt.at stack' < left_to_take (shared_walk count lowest words) at stack
     fewer (yes c) =
         let none : path_ends count lowest words path ≡ [] =
-        entry-none e.parent lowest (events_of count words) (branch_of halt.depth halt.mass e.low e.high) c in
+        entry-none e.parent lowest (events_of count words) (branch_of halt.depth halt.mass e.branch.failing.low e.branch.failing.high) c in
         let same : shared_to_come count lowest words at stack ≡ shared_to_come count lowest words halt.at stack' =
         ends-all lowest (omega arith) ∙ ap (λ (l : List End). l ++ shared_to_come count lowest words halt.at stack') none in
         omega (arith, ap length same, d.still (omega (arith, taken.lighter)), d.held.within)

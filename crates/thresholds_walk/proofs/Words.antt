@@ -3,9 +3,8 @@
 use mathlib.Core.Path.{◌≡◌, ap, ◌∙◌}
 use mathlib.Core.List.{List, [], ◌∷◌, ◌++◌, append_assoc}
 use Prim.Native.Nat.{ℕ, suc, ◌+◌, ◌≤◌}
-use native.Mathlib.Numerals.{add-one, add-two, add-three, add-four}
 use native.Mathlib.Omega.{arith}
-use lib.ListN.{length, get_or, take, drop, set}
+use lib.ListN.{length, get_or, take, drop}
 use lib.Seq.{sets, drop-cons, drop_at, sets-eq, length-sets, length-take-le}
 use Rattle.walk.proofs.Words as walk-words
 
@@ -19,11 +18,6 @@ words-at s at h =
     rw (add_five at)
     (walk-words.words-at s at (omega arith)
     ∙ ap (λ (l : List ℕ). get_or s at 0 ∷ get_or s (at + 1) 0 ∷ get_or s (at + 2) 0 ∷ get_or s (at + 3) 0 ∷ l) (drop-cons s (at + 4) 0 (omega arith)))
-
--- five words stored one by one, from `at` on
-pub words-put : (s : List ℕ) (at a b c d e : ℕ)
-    → set (set (set (set (set s at a) (at + 1) b) (at + 2) c) (at + 3) d) (at + 4) e ≡ sets s at (a ∷ b ∷ c ∷ d ∷ e ∷ [])
-words-put s at a b c d e = rw (add-one at, add-two at, add-three at, add-four at)
 
 -- a stack with five words laid down from `at` on: its length, and what it holds from there on
 module _ (s s' : List ℕ) (at a b c d e : ℕ) (laid : s' ≡ sets s at (a ∷ b ∷ c ∷ d ∷ e ∷ [])) (size : length s ≡ 640) where

@@ -28,8 +28,8 @@ pub record SharedPushed (e : SharedEntry) (at : ℕ) (stack stack' : List ℕ) :
   pub set_low : ℕ
   pub set_high : ℕ
   pub word : set_low < 2 ^ 64
-  pub set : joined set_low set_high ≡ joined e.low e.high + 2 ^ e.depth
-  pub laid : stack' ≡ sets stack at ((e.depth + 1) ∷ e.mass ∷ set_low ∷ set_high ∷ e.parent ∷ [])
+  pub set : joined set_low set_high ≡ joined e.branch.failing.low e.branch.failing.high + 2 ^ e.branch.depth
+  pub laid : stack' ≡ sets stack at ((e.branch.depth + 1) ∷ e.branch.mass ∷ set_low ∷ set_high ∷ e.parent ∷ [])
 
 -- where no "fails" side of a "works" path is left pending any more: its mass is below the threshold, no event is left, or the "fails" side
 -- of the next event is below the threshold
@@ -39,14 +39,14 @@ FailsBelow count threshold words depth mass = threshold ≤ mass → depth < cou
 -- from a branch down to there: for each threshold t that is not below the lowest, the ends to come are the same
 pub record Halted (k : SharedWalk) (at : ℕ) (e : SharedEntry) (stack stack' : List ℕ) (r : Halt) : Type 0 where
   pub ends : (t : ℕ) → k.lowest ≤ t
-      → branch_ends t (events_of k.count k.words) (branch_of e.depth e.mass e.low e.high) ++ shared_to_come k.count t k.words at stack
-      ≡ branch_ends t (events_of k.count k.words) (branch_of r.depth r.mass e.low e.high) ++ shared_to_come k.count t k.words r.at stack'
+      → branch_ends t (events_of k.count k.words) (branch_of e.branch.depth e.branch.mass e.branch.failing.low e.branch.failing.high) ++ shared_to_come k.count t k.words at stack
+      ≡ branch_ends t (events_of k.count k.words) (branch_of r.depth r.mass e.branch.failing.low e.branch.failing.high) ++ shared_to_come k.count t k.words r.at stack'
   pub held : SharedStack k.count r.at stack'
   pub deep : r.depth ≤ k.count
-  pub decided : joined e.low e.high < 2 ^ r.depth
-  pub lighter : r.mass ≤ e.mass
+  pub decided : joined e.branch.failing.low e.branch.failing.high < 2 ^ r.depth
+  pub lighter : r.mass ≤ e.branch.mass
   pub fails-below : FailsBelow k.count k.lowest k.words r.depth r.mass
-  pub still : e.mass < k.lowest → r.at ≡ at
+  pub still : e.branch.mass < k.lowest → r.at ≡ at
 
 -- the ends of a path in the walk with the threshold t
 abbrev pub path_ends : ℕ → ℕ → List ℕ → WorksPath → List End

@@ -36,14 +36,19 @@ example-stack = (refl, refl, refl)
 abbrev pub shared_to_come : ℕ → ℕ → List ℕ → ℕ → List ℕ → List End
 shared_to_come count t words at stack = shared_ends t (events_of count words) (drop at stack)
 
+-- the entry that five words hold
+abbrev pub shared_entry : ℕ → ℕ → ℕ → ℕ → ℕ → SharedEntry
+shared_entry depth mass low high parent =
+    record { branch = record { depth = depth; mass = mass; failing = record { low = low; high = high } }; parent = parent }
+
 -- what holds of a pending branch, and of the words under its five: no more entries lie under a branch than its depth says
 pub record SoundShared (count : ℕ) (e : SharedEntry) (below : ℕ) : Type 0 where
-  pub deep : e.depth ≤ count
-  pub lighter : e.mass ≤ e.parent
+  pub deep : e.branch.depth ≤ count
+  pub lighter : e.branch.mass ≤ e.parent
   pub light : e.parent ≤ whole
-  pub word : e.low < 2 ^ 64
-  pub decided : joined e.low e.high < 2 ^ e.depth
-  pub room : below ≤ 5 * e.depth
+  pub word : e.branch.failing.low < 2 ^ 64
+  pub decided : joined e.branch.failing.low e.branch.failing.high < 2 ^ e.branch.depth
+  pub room : below ≤ 5 * e.branch.depth
 
 -- what holds of each entry of the stack
 abbrev pub AllSoundShared : ℕ → List ℕ → Type 0
@@ -53,7 +58,7 @@ AllSoundShared count (a ∷ b ∷ []) = ⊥
 AllSoundShared count (a ∷ b ∷ c ∷ []) = ⊥
 AllSoundShared count (a ∷ b ∷ c ∷ d ∷ []) = ⊥
 AllSoundShared count (depth ∷ mass ∷ low ∷ high ∷ parent ∷ rest) =
-    SoundShared count (record { depth = depth; mass = mass; low = low; high = high; parent = parent }) (length rest) × AllSoundShared count rest
+    SoundShared count (shared_entry depth mass low high parent) (length rest) × AllSoundShared count rest
 
 -- a stack that the walk may go on with
 pub record SharedStack (count at : ℕ) (stack : List ℕ) : Type 0 where

@@ -12,16 +12,12 @@ ghost use Rattle.plan.specs.Held.{Falling};
 ghost use Rattle.thresholds_walk.specs.Stack.{SoundShared, SharedStack};
 ghost use Rattle.thresholds_walk.specs.Paths.{shared_walk, SharedPushed, Halted, SoundPath, PathTaken, path_ends, own_then_dropped};
 
-use walk::Failing;
+use walk::StackEntry;
 
-// A pending branch, as it stands in five words of the stack: how many events are decided, the mass, the failing events, and the mass before
-// the last event.
+// A pending branch, as it stands in five words of the stack, and the mass before its last event.
 #[derive(Clone, Copy)]
 pub struct SharedEntry {
-    pub depth: u64,
-    pub mass: u64,
-    pub low: u64,
-    pub high: u64,
+    pub branch: StackEntry,
     pub parent: u64,
 }
 
@@ -49,16 +45,14 @@ pub struct WorksPath {
     pub last: u64,
 }
 
-// Lays a pending branch down in five words of the stack.
-fn put(stack: &mut [u64; 640], at: usize, branch: SharedEntry)
-    requires { at + 5 ≤ 640 }
-    ensures { stack.new ≡ sets stack.old at (branch.depth ∷ branch.mass ∷ branch.low ∷ branch.high ∷ branch.parent ∷ []) }
-{
-    stack[at] = branch.depth;
-    stack[at + 1] = branch.mass;
-    stack[at + 2] = branch.low;
-    stack[at + 3] = branch.high;
-    stack[at + 4] = branch.parent;
+impl SharedEntry {
+    // The words of the stack that hold it.
+    fn words(self) -> [u64; 5]
+        ensures { result ≡ self.branch.depth ∷ self.branch.mass ∷ self.branch.failing.low ∷ self.branch.failing.high ∷ self.parent ∷ [] }
+    {
+        let [depth, mass, low, high] = self.branch.words();
+        [depth, mass, low, high, self.parent]
+    }
 }
 
 // Begins a walk at the root: it is the only branch on the stack, and every threshold comes to it. Returns where the stack begins.
@@ -67,37 +61,24 @@ pub fn begin(stack: &mut [u64; 640]) -> usize
 {
     let whole = mass::Mass::WHOLE.units;
     let root = SharedEntry {
-        depth: 0,
-        mass: whole,
-        low: 0,
-        high: 0,
+        branch: StackEntry::ROOT,
         parent: whole,
     };
-    put(stack, 635, root);
+    walk::put(stack, 635, &root.words());
     635
 }
 
 // Lays a branch down with one failing event more, that at its depth.
-fn push(stack: &mut [u64; 640], at: usize, branch: SharedEntry)
-    requires { (branch.depth < 128) × (branch.low < 2 ^ 64) × (joined branch.low branch.high < 2 ^ branch.depth) × (at + 5 ≤ 640) }
-    ensures { SharedPushed branch at stack.old stack.new }
+fn push(stack: &mut [u64; 640], at: usize, entry: SharedEntry)
+    requires { (entry.branch.depth < 128) × (entry.branch.failing.low < 2 ^ 64)
+        × (joined entry.branch.failing.low entry.branch.failing.high < 2 ^ entry.branch.depth) × (at + 5 ≤ 640) }
+    ensures { SharedPushed entry at stack.old stack.new }
 {
-    let before = Failing {
-        low: branch.low,
-        high: branch.high,
+    let pushed = SharedEntry {
+        branch: entry.branch.next_failing(),
+        parent: entry.parent,
     };
-    let failing = walk::with_event(before, branch.depth);
-    put(
-        stack,
-        at,
-        SharedEntry {
-            depth: branch.depth + 1,
-            mass: branch.mass,
-            low: failing.low,
-            high: failing.high,
-            parent: branch.parent,
-        },
-    );
+    walk::put(stack, at, &pushed.words());
 }
 
 // Goes down from a branch, leaving each "fails" side pending, to where a "fails" side falls below the lowest threshold: no later one on the
@@ -108,26 +89,18 @@ fn go_down(
     events: &[u64; 512],
     stack: &mut [u64; 640],
     at: usize,
-    branch: SharedEntry,
+    entry: SharedEntry,
 ) -> Halt
     requires count_bound { (count ≤ 128) × Falling certain (events_of count events.now) }
-    requires sound_shared { SoundShared count branch (length (drop at stack.old)) × SharedStack count at stack.old }
-    ensures { Halted (shared_walk count lowest events.now) at branch stack.old stack.new result }
+    requires sound_shared { SoundShared count entry (length (drop at stack.old)) × SharedStack count at stack.old }
+    ensures { Halted (shared_walk count lowest events.now) at entry stack.old stack.new result }
 {
     let mut top = at;
-    let mut d = branch.depth;
-    let mut m = branch.mass;
+    let mut m = entry.branch.mass;
     // For each threshold that is not below the lowest: the ends of the branch at depth d with mass m, then those of the entries from `top`
-    // on, are the ends to come at the start. Each turn raises d, up to `count`.
-    loop {
+    // on, are the ends to come at the start.
+    for d in entry.branch.depth..count {
         if m < lowest {
-            return Halt {
-                at: top,
-                depth: d,
-                mass: m,
-            };
-        }
-        if d >= count {
             return Halt {
                 at: top,
                 depth: d,
@@ -144,19 +117,25 @@ fn go_down(
             };
         }
         top -= 5;
+        let fails = StackEntry {
+            depth: d,
+            mass: f,
+            failing: entry.branch.failing,
+        };
         push(
             &mut *stack,
             top,
             SharedEntry {
-                depth: d,
-                mass: f,
-                low: branch.low,
-                high: branch.high,
+                branch: fails,
                 parent: m,
             },
         );
         m = parts.works.units;
-        d += 1;
+    }
+    Halt {
+        at: top,
+        depth: count,
+        mass: m,
     }
 }
 
@@ -171,27 +150,24 @@ pub fn next_path(
     requires { (count ≤ 128) × Falling certain (events_of count events.now) × (at < 640) × SharedStack count at stack.old }
     ensures { PathTaken (shared_walk count lowest events.now) at stack.old stack.new result }
 {
-    let depth = stack[at];
-    let mass = stack[at + 1];
-    let low = stack[at + 2];
-    let high = stack[at + 3];
+    let branch = StackEntry::at(&*stack, at);
     let parent = stack[at + 4];
-    let branch = SharedEntry {
-        depth,
-        mass,
-        low,
-        high,
-        parent,
-    };
-    let halt = go_down(count, lowest, events, stack, at + 5, branch);
+    let halt = go_down(
+        count,
+        lowest,
+        events,
+        stack,
+        at + 5,
+        SharedEntry { branch, parent },
+    );
     let end = walk::straight(count, lowest, events, halt.depth, halt.mass);
     WorksPath {
         at: halt.at,
         parent,
         depth: halt.depth,
         mass: halt.mass,
-        low,
-        high,
+        low: branch.failing.low,
+        high: branch.failing.high,
         stop: end.depth,
         last: end.mass,
     }

@@ -9,7 +9,8 @@ use trials_vectors::{WORD, all_words, same_part};
 // Holds a sheet to its number, by the check and by a reading into a list with room for every sheet. A refusal changes nothing.
 pub fn number(rt: &impl Print, label: &[u8], sheet: &[u8], want: u64) -> io::Result<()> {
     let mut events = [WORD; 512];
-    same_part(rt, label, b"checked", sheets::check(sheet) as u64, want)?;
+    let checked = mass::number_in(&sheets::check(sheet));
+    same_part(rt, label, b"checked", checked as u64, want)?;
     let answer = sheets::read(sheet, &mut events);
     same_part(rt, label, b"read", sheets::number_in(answer) as u64, want)?;
     if want != 0 {

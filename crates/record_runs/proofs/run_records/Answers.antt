@@ -22,16 +22,19 @@ concluded c =
     run-concluded a.h a.links.now a.events.now a.lower.now a.upper.now r.result r.new.lower r.new.upper
     (subst (λ (ws : List ℕ). Outcome (in_words a.h a.links.now ws) a.lower.now a.upper.now r.result r.new.lower r.new.upper)
     (ap (λ (ws : List ℕ). take (4 * k) ws) c.flatten.ensures ∙ used-words a.events.now (replicate 512 0) refl)
-    (r.ensures.answer, (r.ensures.lowers, (r.ensures.uppers, r.ensures.demand3))))
+    (r.ensures.number, (r.ensures.totals, (r.ensures.lowers, (r.ensures.uppers, r.ensures.demand3)))))
 
-pub returns-clause-answer : goal.returns-clause-answer
-returns-clause-answer c = (concluded (goal.at.returns-clause-answer c).After-run_words).0
+pub returns-clause-number : goal.returns-clause-number
+returns-clause-number c = (concluded (goal.at.returns-clause-number c).After-run_words).0
+
+pub returns-clause-totals : goal.returns-clause-totals
+returns-clause-totals c = (concluded (goal.at.returns-clause-totals c).After-run_words).1.0
 
 pub returns-clause-lowers : goal.returns-clause-lowers
-returns-clause-lowers c = (concluded (goal.at.returns-clause-lowers c).After-run_words).1.0
+returns-clause-lowers c = (concluded (goal.at.returns-clause-lowers c).After-run_words).1.1.0
 
 pub returns-clause-uppers : goal.returns-clause-uppers
-returns-clause-uppers c = (concluded (goal.at.returns-clause-uppers c).After-run_words).1.1.0
+returns-clause-uppers c = (concluded (goal.at.returns-clause-uppers c).After-run_words).1.1.1.0
 
 pub returns-clause-demand3 : goal.returns-clause-demand3
-returns-clause-demand3 c = (concluded (goal.at.returns-clause-demand3 c).After-run_words).1.1.1
+returns-clause-demand3 c = (concluded (goal.at.returns-clause-demand3 c).After-run_words).1.1.1.1

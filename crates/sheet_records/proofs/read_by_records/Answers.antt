@@ -1,32 +1,41 @@
 -- `sheet_records::read_by_records` meets its contract: the words of the records that were read are handed over. Assumes nothing.
-use mathlib.Core.Path.{◌≡◌, refl, ap}
+use mathlib.Core.Path.{refl, sym, ◌∙◌}
 use Prim.Native.Nat.{◌/◌}
 use lib.ListN.{length, replicate}
-use Rattle.plan.specs.Calls.{filled}
-use Rattle.sheets.specs.SheetCalls.{counts_of, read_sheet_refusal, read_sheet_answer, sheet_words, counts_in}
-use Rattle.sheets.specs.declared.SheetReading.{SheetReading}
-use Rattle.sheet_records.proofs.SheetRecordsLaws.{count-bounds, handed-sheet}
-use Rattle.sheet_records.proofs.read_by_records.Goals.{After-hand_over}
+use Rattle.mass.proofs.RefusalLaws.{number-some, hands-on}
+use Rattle.plan.proofs.FilledLaws.{filled_none}
+use Rattle.sheets.specs.SheetCalls.{read_sheet_number, sheet_words}
+use Rattle.sheet_records.proofs.SheetRecordsLaws.{count-bounds, refused-alike, room-decides, handed-over}
 use Rattle.sheet_records.proofs.read_by_records.Goals as goal
 
+pub returns-in_err-counts-clause-number : goal.returns-in_err-counts-clause-number
+returns-in_err-counts-clause-number c =
+    hands-on _ _ c.from_residual.ensures (refused-alike _ c.args.s.now _ c.in_err-counts.ensures.number)
+
+pub returns-in_err-counts-clause-events : goal.returns-in_err-counts-clause-events
+returns-in_err-counts-clause-events c =
+    let a = c.args in
+    filled_none (read_sheet_number a.s.now a.events.now) (sheet_words a.s.now) a.events.now
+    (λ z. number-some _ (refused-alike (length a.events.now / 4) a.s.now _ c.in_err-counts.ensures.number ∙ z))
+
 pub hand_over-requires : goal.hand_over-requires
-hand_over-requires c =
-    (count-bounds 128 c.args.s.now _ (ap (λ (r : SheetReading). (counts_in r).lines) c.read_records-answer.ensures.answer)).0
+hand_over-requires c = (count-bounds 128 c.args.s.now _ c.in_ok-counts.ensures.counts (sym c.in_ok-counts.ensures.number)).0
 
-handed :
-    (c : After-hand_over)
-    → let b = c.args.s.now in
-    let room = length c.args.events.now / 4 in
-    (c.hand_over.result ≡ read_sheet_answer (read_sheet_refusal room b) (counts_of b))
-    × (c.hand_over.new.events ≡ filled (read_sheet_refusal room b) (sheet_words b) c.args.events.now)
-handed c =
-    let r = c.read_records-answer in
-    let h = c.hand_over in
-    handed-sheet c.args.s.now (length c.args.events.now / 4) r.result h.result r.new.events (replicate 512 0) c.flatten.new.words c.args.events.now h.new.events
-    refl r.ensures.answer r.ensures.events c.flatten.ensures h.ensures.answer h.ensures.events
+pub returns-in_err-hand_over-clause-number : goal.returns-in_err-hand_over-clause-number
+returns-in_err-hand_over-clause-number c =
+    hands-on _ _ c.from_residual-in_err-hand_over.ensures
+    (c.in_err-hand_over.ensures.number ∙ room-decides _ c.args.s.now _ c.in_ok-counts.ensures.counts c.in_ok-counts.ensures.number)
 
-pub returns-clause-answer : goal.returns-clause-answer
-returns-clause-answer c = (handed (goal.at.returns-clause-answer c).After-hand_over).0
+pub returns-in_err-hand_over-clause-events : goal.returns-in_err-hand_over-clause-events
+returns-in_err-hand_over-clause-events c =
+    let r = c.in_ok-counts.ensures in
+    handed-over _ c.args.s.now _ r.counts r.number _ (replicate 512 0) _ c.args.events.now _ refl r.events c.flatten.ensures c.in_err-hand_over.ensures.events
+
+pub returns-clause-number : goal.returns-clause-number
+returns-clause-number c =
+    c.in_ok-hand_over.ensures.number ∙ room-decides _ c.args.s.now _ c.in_ok-counts.ensures.counts c.in_ok-counts.ensures.number
 
 pub returns-clause-events : goal.returns-clause-events
-returns-clause-events c = (handed (goal.at.returns-clause-events c).After-hand_over).1
+returns-clause-events c =
+    let r = c.in_ok-counts.ensures in
+    handed-over _ c.args.s.now _ r.counts r.number _ (replicate 512 0) _ c.args.events.now _ refl r.events c.flatten.ensures c.in_ok-hand_over.ensures.events

@@ -13,31 +13,10 @@ returns-then-path-threshold-2 c =
     let p = c.requires in
     (one_of _ _ _ _ p.1 p.2 _ p.3 c.if-path-threshold.false c.if-path-threshold-2.true, λ z. absurd (omega arith))
 
-pub overflow_sub-result : goal.overflow_sub-result
-overflow_sub-result c =
-    let p = c.requires in
-    omega (arith, p.3.stops.steps)
-
-pub overflow_add-result : goal.overflow_add-result
-overflow_add-result c =
-    let p = c.requires in
-    omega (arith, p.0, p.3.stops.within)
-
 pub returns-then-threshold-path : goal.returns-then-threshold-path
 returns-then-threshold-path c =
     let p = c.requires in
     (all_of _ _ _ _ p.1 p.2 _ p.3 c.if-path-threshold-2.false c.if-threshold-path.true, λ z. absurd (omega arith))
-
-pub straight-end-requires : goal.straight-end-requires
-straight-end-requires c =
-    let p = c.requires in
-    (p.0, p.3.deep, omega (arith, p.3.lighter, p.3.light), p.1)
-
-pub overflow_sub-result-2 : goal.overflow_sub-result-2
-overflow_sub-result-2 c = omega (arith, c.straight-end.ensures.steps)
-
-pub overflow_add-result-2 : goal.overflow_add-result-2
-overflow_add-result-2 c = omega (arith, c.straight-end.ensures.within, c.requires.0)
 
 pub returns : goal.returns
 returns c =

@@ -1,29 +1,20 @@
 -- `network::rows::neighbours` meets its contract: the links of the low word, and then those of the high word. Assumes nothing.
-use mathlib.Core.Path.{refl}
 use native.Mathlib.Omega.{arith}
 use Rattle.network.specs.Code.{outage}
 use Rattle.network.proofs.Adjacent.{low_below, high-below, rows-adjacent}
 use Rattle.network.proofs.rows.neighbours.Goals as goal
 
-pub put_in-requires : goal.put_in-requires
-put_in-requires c =
+pub put_in-requires-clause-by_index : goal.put_in-requires-clause-by_index
+put_in-requires-clause-by_index c =
     let a = c.args in
     let up = c.working_links-up.ensures a.n a.links.now c.requires.links_held c.requires.links_at in
-    record {
-      rows_len = refl;
-      links_held = c.requires.links_held;
-      by_index = low_below a.n a.count a.links.now (outage a.failed) c.working_links-up.result.low c.working_links-up.result.high (omega arith) (omega arith) up;
-    }
+    low_below a.n a.count a.links.now (outage a.failed) c.working_links-up.result.low c.working_links-up.result.high (omega arith) (omega arith) up
 
-pub put_in-requires-2 : goal.put_in-requires-2
-put_in-requires-2 c =
+pub put_in-requires-2-clause-by_index : goal.put_in-requires-2-clause-by_index
+put_in-requires-2-clause-by_index c =
     let a = c.args in
     let up = c.working_links-up.ensures a.n a.links.now c.requires.links_held c.requires.links_at in
-    record {
-      rows_len = c.put_in.ensures.size;
-      links_held = c.requires.links_held;
-      by_index = high-below a.n a.count a.links.now (outage a.failed) c.working_links-up.result.low c.working_links-up.result.high (omega arith) (omega arith) up;
-    }
+    high-below a.n a.count a.links.now (outage a.failed) c.working_links-up.result.low c.working_links-up.result.high (omega arith) (omega arith) up
 
 pub returns : goal.returns
 returns c =

@@ -1,29 +1,17 @@
--- `panel::calls::begin` meets its contract. Assumes nothing.
-use mathlib.Core.Path.{◌≡◌, sym, ap, ◌∙◌}
-use Prim.Native.Nat.{ℕ}
-use Rattle.mass.proofs.RefusalLaws.{refuses}
-use Rattle.plan.specs.LentLists.{in_words, lists_number}
-use Rattle.panel.specs.Walks.{root_walk}
-use Rattle.walk_state.specs.States.{walk_answer, no_walk}
-use Rattle.walk_state.specs.declared.Walk.{Walk}
-use Rattle.panel.proofs.Beginning.{is-root, begun}
+-- `panel::calls::begin` meets its contract: the walk is made from one of zeros. Assumes nothing.
+use borrow.Author.Rules.{rules}
+use Rattle.plan_lists.specs.Taken.{Taken}
+use Rattle.panel.proofs.Beginning.{root_made, begun_made}
 use Rattle.panel.proofs.calls.begin.Goals as goal
 
-pub returns-then-number-ne0 : goal.returns-then-number-ne0
-returns-then-number-ne0 c =
-    let number = c.accept-number.ensures.number in
-    record {
-      answer = rw c.no_walk.ensures (refuses (λ (x : ℕ). record { number = x; walk = no_walk }) _ number c.if-number-ne0.true);
-      begun = λ z. absurd (c.if-number-ne0.true (number ∙ z));
-    }
-
-pub returns : goal.returns
-returns c =
+pub returns-clause-root : goal.returns-clause-root
+returns-clause-root c =
     let a = c.args in
-    let walk = root_walk a.h a.links.now a.events.now in
-    let none : 0 ≡ lists_number (in_words a.h a.links.now a.events.now) = sym (sym c.accept-number.ensures.number ∙ c.if-number-ne0.false) in
-    record {
-      answer = ap (λ (w : Walk). walk_answer 0 w) (is-root a.h a.links.now a.events.now _ _ _ _ c.begin-at.ensures c.accept-number.ensures.bytes c.accept-number.ensures.words)
-          ∙ ap (λ (n : ℕ). walk_answer n walk) none;
-      begun = λ z. begun a.h a.links.now a.events.now _ _ _ _ c.begin-at.ensures (c.accept-number.ensures.taken c.if-number-ne0.false);
-    }
+    let taken = c.accept.ensures in
+    root_made a.h a.links.now a.events.now _ _ _ _ _ c.no_walk-walk.ensures c.begin.ensures taken.bytes taken.words
+
+pub returns-clause-begun : goal.returns-clause-begun
+returns-clause-begun c =
+    let a = c.args in
+    let taken : Taken a.h a.links.now a.events.now c.accept.new.bytes c.accept.new.words = search rules in
+    begun_made a.h a.links.now a.events.now _ _ _ _ _ c.no_walk-walk.ensures c.begin.ensures taken

@@ -1,21 +1,26 @@
 -- `record_runs::copying::copy_plan` meets its contract: a plan that was read into records and is written again is the file that was read.
 -- Assumes nothing.
+use mathlib.Core.Path.{◌∙◌}
 use native.Mathlib.Omega.{arith}
+use Rattle.mass.proofs.RefusalLaws.{stops, hands-on}
 use Rattle.plan_reading.proofs.LoadedLaws.{bytes-each}
-use Rattle.record_runs.proofs.CopyLaws.{Copied, copied-plan}
-use Rattle.record_runs.proofs.copying.copy_plan.Goals.{After-answer_of}
+use Rattle.plan_reading.proofs.ReaderLawsAnswer.{full-rooms}
+use Rattle.record_runs.specs.Copying.{copy_number}
+use Rattle.record_runs.proofs.CopyLaws.{copied-plan}
 use Rattle.record_runs.proofs.copying.copy_plan.Goals as goal
 
-copied : (c : After-answer_of) → Copied c.args.s.now c.args.out.now c.write_records-written.new.out c.answer_of.result
-copied c =
-    let r = c.read_records-answer in
-    let w = c.write_records-written in
-    copied-plan c.args.s.now (bytes-each c.args.s.now (λ i. omega (arith, c.type_inv.s i))) r.result c.header_in-header.result r.new.links r.new.events
-    c.args.out.now w.new.out w.result c.answer_of.result
-    r.ensures.answer r.ensures.links r.ensures.events c.header_in-header.ensures (w.ensures.value, w.ensures.out_after) c.answer_of.ensures
+pub returns-in_err-header-clause-number : goal.returns-in_err-header-clause-number
+unfolding copy_number
+returns-in_err-header-clause-number c =
+    hands-on _ _ c.from_residual.ensures (stops _ _ (c.in_err-header.ensures.number ∙ full-rooms c.args.s.now))
 
-pub returns-clause-answer : goal.returns-clause-answer
-returns-clause-answer c = (copied (goal.at.returns-clause-answer c).After-answer_of).0
-
-pub returns-clause-out : goal.returns-clause-out
-returns-clause-out c = (copied (goal.at.returns-clause-out c).After-answer_of).1
+pub returns : goal.returns
+returns c =
+    let a = c.args in
+    let r = c.in_ok-header.ensures in
+    let w = c.write_records in
+    let done =
+    copied-plan a.s.now (bytes-each a.s.now (λ i. omega (arith, c.type_inv.s i))) _ _ _ a.out.now w.new.out w.result
+    r.number r.header r.links r.events (w.ensures.number, (w.ensures.size, w.ensures.out_after))
+    in
+    record { number = done.0; size = done.1.0; out = done.1.1 }

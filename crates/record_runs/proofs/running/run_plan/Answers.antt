@@ -1,35 +1,25 @@
 -- `record_runs::running::run_plan` meets its contract: a run on a plan that was read into records is the run on the file's plan. Assumes nothing.
+use mathlib.Core.Path.{◌∙◌}
 use native.Mathlib.Omega.{arith}
-use lib.ListN.{length}
-use Rattle.plan.specs.File.{plan_of}
+use Rattle.mass.proofs.RefusalLaws.{stops, hands-on}
 use Rattle.plan_reading.proofs.LoadedLaws.{bytes-each}
+use Rattle.plan_reading.proofs.ReaderLawsAnswer.{full-rooms}
 use Rattle.record_runs.specs.Running.{file_number}
-use Rattle.record_runs.proofs.RunLaws.{Promised}
 use Rattle.record_runs.proofs.FileLaws.{ran-plan}
-use Rattle.record_runs.proofs.running.run_plan.Goals.{After-answer_of}
 use Rattle.record_runs.proofs.running.run_plan.Goals as goal
 
-promised : (c : After-answer_of)
-    → let a = c.args in
-    let w = c.run_records-ran in
-    Promised (file_number a.s.now (length a.lower.now) (length a.upper.now)) (plan_of a.s.now) a.lower.now a.upper.now c.answer_of.result w.new.lower w.new.upper
-promised c =
+pub returns-in_err-header-clause-number : goal.returns-in_err-header-clause-number
+unfolding file_number
+returns-in_err-header-clause-number c =
+    hands-on _ _ c.from_residual.ensures (stops _ _ (c.in_err-header.ensures.number ∙ full-rooms c.args.s.now))
+
+pub returns : goal.returns
+returns c =
     let a = c.args in
-    let r = c.read_records-answer in
-    let w = c.run_records-ran in
-    ran-plan a.s.now (bytes-each a.s.now (λ i. omega (arith, c.type_inv.s i))) r.result c.header_in-header.result r.new.links r.new.events
-    a.lower.now a.upper.now w.new.lower w.new.upper w.result c.answer_of.result
-    r.ensures.answer r.ensures.links r.ensures.events c.header_in-header.ensures
-    (w.ensures.answer, (w.ensures.lowers, (w.ensures.uppers, w.ensures.demand3))) c.answer_of.ensures
-
-pub returns-clause-answer : goal.returns-clause-answer
-returns-clause-answer c = (promised (goal.at.returns-clause-answer c).After-answer_of).0
-
-pub returns-clause-lowers : goal.returns-clause-lowers
-returns-clause-lowers c = (promised (goal.at.returns-clause-lowers c).After-answer_of).1.0
-
-pub returns-clause-uppers : goal.returns-clause-uppers
-returns-clause-uppers c = (promised (goal.at.returns-clause-uppers c).After-answer_of).1.1.0
-
-pub returns-clause-demand3 : goal.returns-clause-demand3
-returns-clause-demand3 c = (promised (goal.at.returns-clause-demand3 c).After-answer_of).1.1.1
+    let r = c.in_ok-header.ensures in
+    let w = c.run_records in
+    let done =
+    ran-plan a.s.now (bytes-each a.s.now (λ i. omega (arith, c.type_inv.s i))) _ _ _ a.lower.now a.upper.now w.new.lower w.new.upper w.result
+    r.number r.header r.links r.events (w.ensures.number, (w.ensures.totals, (w.ensures.lowers, (w.ensures.uppers, w.ensures.demand3))))
+    in
+    record { number = done.0; totals = done.1.0; lowers = done.1.1.0; uppers = done.1.1.1.0; demand3 = done.1.1.1.1 }

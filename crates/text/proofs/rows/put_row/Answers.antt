@@ -11,7 +11,7 @@ use Rattle.text.proofs.rows.put_row.Goals as goal
 inside : (c : In-loop-w) → c.loop-w.place < 2016
 inside c =
     let inv = c.loop-w.invariant in
-    place-fits c.args.n c.args.v c.loop-w.w _ c.requires.listable.0.few inv.0 c.loop-w-test.true inv.1.1.0
+    place-fits c.args.n c.args.v c.loop-w.w _ c.requires.listable.0.few inv.0 c.loop-w-test.true inv.1.0
 
 -- the line of the next pair, and those after it
 abbrev next : In-loop-w → List ℕ
@@ -26,23 +26,23 @@ turned : (c : In-loop-w)
     → Left c.args.out.now c.args.at
     (row_text (sum_line c.args.n c.args.rest c.args.sums.now) c.args.v (c.args.v + 1) (c.args.n - (c.args.v + 1)))
     c.loop-w.out
-    c.loop-w.i
+    c.loop-w.next
     (next c ++ later c)
 turned c =
     let a = c.args in
     let inv = c.loop-w.invariant in
-    left-turn a.n a.rest a.sums.now a.v c.loop-w.w c.loop-w.place _ _ _ _ _ inv.1.1.0 c.loop-w-test.true inv.1.1.1
+    left-turn a.n a.rest a.sums.now a.v c.loop-w.w c.loop-w.place _ _ _ _ _ inv.1.0 c.loop-w-test.true inv.1.1
 
 pub start_of-place-requires : goal.start_of-place-requires
 start_of-place-requires c = (c.requires.listable.0.few, omega (arith, c.requires.listable.1))
 
-pub overflow_add-w : goal.overflow_add-w
-overflow_add-w c = omega (arith, c.requires.listable.1, c.requires.listable.0.few)
+pub overflow_step-w : goal.overflow_step-w
+overflow_step-w c = omega (arith, c.requires.listable.1, c.requires.listable.0.few)
 
 pub loop-w-init : goal.loop-w-init
 loop-w-init c = (
   omega arith,
-  (omega (arith, c.requires.listable.1), (place-first c.args.n c.args.v _ c.start_of-place.ensures, left-start _ _ _)),
+  (place-first c.args.n c.args.v _ c.start_of-place.ensures, left-start _ _ _),
 )
 
 pub offset_bounds-sums-place : goal.offset_bounds-sums-place
@@ -55,39 +55,28 @@ pub overflow_add-rest : goal.overflow_add-rest
 overflow_add-rest c =
     omega (arith, c.requires.listable.0.fits c.loop-w.place)
 
-pub put_line-i-requires : goal.put_line-i-requires
-put_line-i-requires c =
-    left-room _ _ _ _ _ (next (goal.at.put_line-i-requires c).In-loop-w) (later (goal.at.put_line-i-requires c).In-loop-w) (turned (goal.at.put_line-i-requires c).In-loop-w) c.requires.v_in_bounds
+pub put_line-next-requires : goal.put_line-next-requires
+put_line-next-requires c =
+    left-room _ _ _ _ _ (next (goal.at.put_line-next-requires c).In-loop-w) (later (goal.at.put_line-next-requires c).In-loop-w) (turned (goal.at.put_line-next-requires c).In-loop-w) c.requires.v_in_bounds
 
 pub overflow_add-place : goal.overflow_add-place
 overflow_add-place c = omega (arith, inside (goal.at.overflow_add-place c).In-loop-w)
 
-pub overflow_add-w-in-loop-w : goal.overflow_add-w-in-loop-w
-overflow_add-w-in-loop-w c =
-    omega (arith, c.loop-w-test.true, c.requires.listable.0.few)
-
-pub loop-w-smaller : goal.loop-w-smaller
-loop-w-smaller c =
-    omega (arith, c.loop-w-test.true)
-
 pub loop-w-preserved : goal.loop-w-preserved
 loop-w-preserved c =
     let inv = c.loop-w.invariant in
-    let put = c.put_line-i in (
+    let put = c.put_line-next in (
       omega (arith, inv.0),
       (
-        omega (arith, c.loop-w-test.true),
-        (
-          place-next c.args.n c.args.v c.loop-w.w _ inv.0 inv.1.1.0,
-          left-next _ _ _ _ _ (next (goal.at.loop-w-preserved c).In-loop-w) (later (goal.at.loop-w-preserved c).In-loop-w) _ _ (turned (goal.at.loop-w-preserved c).In-loop-w) put.ensures put.auto.out,
-        ),
+        place-next c.args.n c.args.v c.loop-w.w _ inv.0 inv.1.0,
+        left-next _ _ _ _ _ (next (goal.at.loop-w-preserved c).In-loop-w) (later (goal.at.loop-w-preserved c).In-loop-w) _ _ (turned (goal.at.loop-w-preserved c).In-loop-w) put.ensures put.auto.out,
       ),
     )
 
 pub shape_of-out : goal.shape_of-out
-shape_of-out c = c.loop-w.invariant.1.1.1.sized
+shape_of-out c = c.loop-w.invariant.1.1.sized
 
 pub returns : goal.returns
 returns c =
     let a = c.args in
-    left_end _ _ _ _ _ _ (row-end (sum_line a.n a.rest a.sums.now) a.n a.v c.loop-w.w c.loop-w-test.false) c.loop-w.invariant.1.1.1
+    left_end _ _ _ _ _ _ (row-end (sum_line a.n a.rest a.sums.now) a.n a.v c.loop-w.w c.loop-w-test.false) c.loop-w.invariant.1.1

@@ -1,7 +1,6 @@
 -- `text::rows::put_rows` meets its contract: what is left, laid down from the position on, makes the lines of all pairs. Assumes nothing.
 use mathlib.Core.List.{List}
 use Prim.Native.Nat.{ℕ, ◌+◌, ◌-◌}
-use native.Mathlib.Omega.{arith}
 use Rattle.text.specs.Sums.{sum_line, row_text, rows_text}
 use Rattle.text.proofs.RowLaws.{left-room, left-next, left_end, left-row, rows_end, pairs_start}
 use Rattle.text.proofs.rows.put_rows.Goals.{In-loop-v}
@@ -19,38 +18,29 @@ later c = rows_text (lines c) c.args.n (c.loop-v.v + 1) (c.args.n - (c.loop-v.v 
 
 pub loop-v-init : goal.loop-v-init
 loop-v-init c =
-    let a = c.args in (omega arith, pairs_start (sum_line a.n a.rest a.sums.now) a.n _ _)
+    let a = c.args in pairs_start (sum_line a.n a.rest a.sums.now) a.n _ _
 
-pub put_row-i-requires : goal.put_row-i-requires
-put_row-i-requires c =
+pub put_row-next-requires : goal.put_row-next-requires
+put_row-next-requires c =
     record {
       listable = (c.requires.listable, c.loop-v-test.true);
-      v_in_bounds = left-room _ _ _ _ _ (next (goal.at.put_row-i-requires c).In-loop-v) (later (goal.at.put_row-i-requires c).In-loop-v)
-          (left-row (lines (goal.at.put_row-i-requires c).In-loop-v) c.args.n c.loop-v.v _ _ _ _ _ c.loop-v-test.true c.loop-v.invariant.1)
+      v_in_bounds = left-room _ _ _ _ _ (next (goal.at.put_row-next-requires c).In-loop-v) (later (goal.at.put_row-next-requires c).In-loop-v)
+          (left-row (lines (goal.at.put_row-next-requires c).In-loop-v) c.args.n c.loop-v.v _ _ _ _ _ c.loop-v-test.true c.loop-v.invariant)
           c.requires.n_in_bounds;
     }
 
-pub overflow_add-v : goal.overflow_add-v
-overflow_add-v c =
-    omega (arith, c.loop-v-test.true, c.requires.listable.few)
-
-pub loop-v-smaller : goal.loop-v-smaller
-loop-v-smaller c = omega (arith, c.loop-v-test.true)
-
 pub loop-v-preserved : goal.loop-v-preserved
 loop-v-preserved c =
-    let put = c.put_row-i in (
-      omega (arith, c.loop-v-test.true),
-      left-next _ _ _ _ _ (next (goal.at.loop-v-preserved c).In-loop-v) (later (goal.at.loop-v-preserved c).In-loop-v) _ _
-          (left-row (lines (goal.at.loop-v-preserved c).In-loop-v) c.args.n c.loop-v.v _ _ _ _ _ c.loop-v-test.true c.loop-v.invariant.1)
-          put.ensures
-          put.auto.out,
-    )
+    let put = c.put_row-next in
+    left-next _ _ _ _ _ (next (goal.at.loop-v-preserved c).In-loop-v) (later (goal.at.loop-v-preserved c).In-loop-v) _ _
+    (left-row (lines (goal.at.loop-v-preserved c).In-loop-v) c.args.n c.loop-v.v _ _ _ _ _ c.loop-v-test.true c.loop-v.invariant)
+    put.ensures
+    put.auto.out
 
 pub shape_of-out : goal.shape_of-out
-shape_of-out c = c.loop-v.invariant.1.sized
+shape_of-out c = c.loop-v.invariant.sized
 
 pub returns : goal.returns
 returns c =
     let a = c.args in
-    left_end _ _ _ _ _ _ (rows_end (sum_line a.n a.rest a.sums.now) a.n c.loop-v.v c.loop-v-test.false) c.loop-v.invariant.1
+    left_end _ _ _ _ _ _ (rows_end (sum_line a.n a.rest a.sums.now) a.n c.loop-v.v c.loop-v-test.false) c.loop-v.invariant

@@ -1,5 +1,5 @@
 -- `text::rows::put_rows` meets its contract: what is left, laid down from the position on, makes the lines of all pairs. Assumes nothing.
-use Prim.Native.Nat.{◌-◌, ◌≤◌}
+use Prim.Native.Nat.{◌-◌}
 use Rattle.text.specs.Listing.{pairs_text}
 use Rattle.text.specs.Sums.{sum_line, rows_text}
 use Rattle.text.proofs.RowLaws.{Left}
@@ -7,7 +7,4 @@ use Rattle.text.proofs.rows.put_rows.Given as goal
 
 abbrev pub invariant-loop-v : goal.invariant-loop-v
 invariant-loop-v l =
-    (l.v ≤ l.n) × Left l.initial.out l.at (pairs_text (sum_line l.n l.rest l.sums) l.n) l.out l.i (rows_text (sum_line l.n l.rest l.sums) l.n l.v (l.n - l.v))
-
-abbrev pub decreases-loop-v : goal.decreases-loop-v
-decreases-loop-v l = l.n - l.v
+    Left l.initial.out l.at (pairs_text (sum_line l.n l.rest l.sums) l.n) l.out l.next (rows_text (sum_line l.n l.rest l.sums) l.n l.v (l.n - l.v))

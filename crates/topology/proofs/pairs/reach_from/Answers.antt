@@ -5,13 +5,6 @@ use Rattle.network.specs.Code.{outage, network_in}
 use Rattle.topology.proofs.RowLinks.{nodes-shown, reached-is, rounds-are}
 use Rattle.topology.proofs.pairs.reach_from.Goals as goal
 
-pub neighbours-rows-requires : goal.neighbours-rows-requires
-neighbours-rows-requires c =
-    record {
-      links_held = c.requires.links_held;
-      links_at = c.requires.links_at;
-    }
-
 pub returns : goal.returns
 returns c =
     let a = c.args in

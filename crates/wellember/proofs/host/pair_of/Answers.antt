@@ -1,22 +1,31 @@
 -- `wellember::host::pair_of` meets its contract: the arrays denote the plan that the file stands for. Assumes nothing.
 use mathlib.Core.Path.{sym, ◌∙◌}
-use Rattle.wellember.proofs.HostLaws.{file-refused, file-told, loaded-valid}
-use Rattle.plan_reading.proofs.LoadedLaws.{reading-accepted}
+use Rattle.mass.proofs.RefusalLaws.{passes, last, hands-on}
+use Rattle.wellember.specs.Host.{host_refusal}
+use Rattle.wellember.proofs.HostLaws.{pair-same, bounds-are, bounds-enclose}
 use Rattle.wellember.proofs.host.pair_of.Goals as goal
 
-pub returns-in-Refused : goal.returns-in-Refused
-returns-in-Refused c =
-    let a = c.args in
-    let read = c.read_input-answer in let whole = file-refused a.s.now a.room a.v a.w _ _ (sym c.in-Refused.is ∙ read.ensures.answer) in record { answer = whole.0; demand3 = whole.1 }
+pub returns-in_err-pair_test-clause-number : goal.returns-in_err-pair_test-clause-number
+unfolding host_refusal
+returns-in_err-pair_test-clause-number c =
+    hands-on _ _ c.from_residual-in_err-pair_test.ensures
+    (passes _ c.in_ok-h.ensures.number
+    (passes _ c.in_ok-room_test.ensures.number
+    (last (c.in_err-pair_test.ensures.number ∙ pair-same c.args.s.now _ c.in_ok-h.ensures.header c.args.v c.args.w))))
 
-pub pair_with_room-requires : goal.pair_with_room-requires
-pair_with_room-requires c =
-    let read = c.read_input-answer in
-    let h = reading-accepted _ _ _ (sym c.in-Accepted.is ∙ read.ensures.answer) in
-    loaded-valid _ _ _ (read.ensures.loaded h.0) _ h.1
+pub returns-clause-number : goal.returns-clause-number
+unfolding host_refusal
+returns-clause-number c =
+    passes _ c.in_ok-h.ensures.number
+    (passes _ c.in_ok-room_test.ensures.number
+    (last (c.in_ok-pair_test.ensures.number ∙ pair-same c.args.s.now _ c.in_ok-h.ensures.header c.args.v c.args.w)))
 
-pub returns-in-Accepted : goal.returns-in-Accepted
-returns-in-Accepted c =
-    let a = c.args in
-    let read = c.read_input-answer in
-    let h = reading-accepted _ _ _ (sym c.in-Accepted.is ∙ read.ensures.answer) in let whole = file-told a.s.now a.room a.v a.w _ _ h.0 (read.ensures.loaded h.0) _ h.1 _ c.pair_with_room.ensures in record { answer = whole.0; demand3 = whole.1 }
+pub returns-clause-bounds : goal.returns-clause-bounds
+returns-clause-bounds c =
+    let read = c.in_ok-h.ensures in
+    bounds-are c.args.s.now _ _ (read.loaded (sym read.number)) _ read.header c.args.v c.args.w _ c.pair_in.ensures
+
+pub returns-clause-demand3 : goal.returns-clause-demand3
+returns-clause-demand3 c =
+    let read = c.in_ok-h.ensures in
+    bounds-enclose c.args.s.now _ _ (read.loaded (sym read.number)) _ read.header c.args.v c.args.w _ c.pair_in.ensures
