@@ -1,5 +1,6 @@
--- The words of the places, laid down one place after another.
+-- The words of the places, laid down one place after another, and the values that an answer hands out.
 -- Assumes nothing.
+use Rattle.std.specs.Prelude.{Result, Ok, Err, IfOk, MatchResult}
 use mathlib.Core.Path.{◌≡◌, refl, ap, sym, ◌∙◌}
 use mathlib.Core.List.{List, [], ◌∷◌, ◌++◌}
 use Prim.Native.Nat.{ℕ, zero, suc, ◌+◌, ◌*◌, ◌<◌, ◌≤◌}
@@ -9,6 +10,12 @@ use native.Mathlib.Omega.{arith}
 use lib.ListN.{length, get_or, take, set}
 use lib.Seq.{sets, length-sets, take_all}
 use Rattle.plan_lists.proofs.ListLaws.{sets-append}
+use Rattle.mass.specs.Refusal.{number, number_in}
+use Rattle.mass.specs.declared.refusal.Refusal.{Refusal}
+use Rattle.mass.proofs.RefusalLaws.{number-some}
+use Rattle.plan.specs.Plan.{Plan}
+use Rattle.thresholds.specs.Thresholds.{answer_of, no_answer, thresholds_answer}
+use Rattle.thresholds.specs.declared.Answered.{Answered}
 use Rattle.host_thresholds.specs.ThresholdAnswers.{in_turn}
 
 -- three numbers laid down one by one
@@ -61,3 +68,14 @@ module _ (xs ys zs : List ℕ) (x-size : length xs ≡ 16) (y-size : length ys �
         take_all i ys (omega arith),
         take_all i zs (omega arith),
       )
+
+-- the values that an answer hands out follow from its number
+pub handed : (answer : Result Answered Refusal) (plan : ℕ → Plan) (list : List ℕ) (x : Answered)
+    → MatchResult answer (λ a. x ≡ a) (λ r. x ≡ no_answer) → IfOk answer (λ a. a ≡ answer_of plan list)
+    → x ≡ thresholds_answer (number_in answer) plan list
+handed (Ok a) plan list x e p = e ∙ p
+handed (Err r) plan list x e p = e ∙ go (number r) (number-some r)
+  where
+    go : (n : ℕ) → (n ≡ 0 → ⊥) → no_answer ≡ thresholds_answer n plan list
+    go zero some = absurd (some refl)
+    go (suc n) some = refl

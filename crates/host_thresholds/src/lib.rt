@@ -3,16 +3,17 @@
 // Assumes nothing.
 #![tactic(auto)]
 
-ghost use Rattle.std.specs.Prelude.{◌≡◌, length, [], ◌∷◌, ◌<◌};
+ghost use Rattle.std.specs.Prelude.{◌≡◌, length, [], ◌∷◌, ◌<◌, MatchResult};
 ghost use Rattle.std.proofs.lemmas.List.Edits.{sets};
 ghost use Rattle.plan.specs.Calls.{filled};
 ghost use Rattle.network.specs.Outage.{intact};
 ghost use Rattle.bounds.specs.Bounds.{lower_list, upper_list};
-ghost use Rattle.thresholds.specs.Thresholds.{lent_at, plan_at, thresholds_number, thresholds_answer, blocks};
+ghost use Rattle.thresholds.specs.Thresholds.{lent_at, plan_at, thresholds_number, no_answer, thresholds_answer, blocks};
 ghost use Rattle.host_answers.specs.Laid.{laid};
 ghost use Rattle.host_thresholds.specs.ThresholdAnswers.{places_values};
 
 use host_answers::put;
+use mass::Refusal;
 use thresholds::{Answered, CommonHeader};
 
 // Lays three numbers down from a place on.
@@ -25,21 +26,31 @@ fn give_place(list: &mut [u64], at: usize, a: u64, b: u64, c: u64)
     put(list, at + 2, c);
 }
 
+// The values of an answer: all are 0 where it refuses.
+fn answer_in(answer: Result<Answered, Refusal>) -> Answered
+    ensures { MatchResult answer (λ a. result ≡ a) (λ r. result ≡ no_answer) }
+{
+    match answer {
+        Ok(given) => given,
+        Err(_) => Answered {
+            count: [0; 16],
+            complete: [0; 16],
+            mass: [0; 16],
+        },
+    }
+}
+
 // The count, complete and E of each of the 16 places.
-fn give_places(answer: Answered, res: &mut [u64]) -> u32
-    ensures number { result ≡ answer.number }
-    ensures res { res.new ≡ laid (places_values answer) res.old }
+fn give_places(answer: Answered, res: &mut [u64])
+    ensures { res.new ≡ laid (places_values answer) res.old }
 {
     let count = answer.count;
     let complete = answer.complete;
     let mass = answer.mass;
-    let mut i = 0;
-    // The words of the first i places are laid down, and no others. Each turn raises i, up to 16.
-    while i < 16 {
+    // The words of the first i places are laid down, and no others.
+    for i in 0..16 {
         give_place(&mut *res, 3 * i, count[i], complete[i], mass[i]);
-        i += 1;
     }
-    answer.number
 }
 
 // Several thresholds in one walk: fills the blocks of bounds, and lays down the count, complete and E of each of the 16 places.
@@ -61,8 +72,7 @@ pub fn thresholds(
     ensures res { res.new ≡ laid
         (places_values (thresholds_answer result (plan_at h links.now events.now) list.now)) res.old }
 {
-    give_places(
-        thresholds::thresholds(h, links, events, list, lower, upper),
-        res,
-    )
+    let answer = thresholds::thresholds(h, links, events, list, lower, upper);
+    give_places(answer_in(answer), res);
+    mass::number_in(&answer)
 }

@@ -2,6 +2,7 @@
 // Differences are printed on standard output; where that fails, the error is returned.
 #![tactic(auto)]
 
+use mass::Refusal;
 use std::io;
 use thresholds::Answered;
 use trials_vectors::{WORD, same, same_at};
@@ -14,15 +15,17 @@ fn rest(rt: &impl Print, label: &[u8], list: &[u64], from: usize, want: u64) -> 
     Ok(())
 }
 
-// An answer's number, and 0 at the places from `from` on.
+// An answer without a refusal, and 0 at the places from `from` on.
 pub fn answered(
     rt: &impl Print,
     label: &[u8],
-    a: Answered,
-    number: u64,
+    answer: Result<Answered, Refusal>,
     from: usize,
 ) -> io::Result<()> {
-    same(rt, label, a.number as u64, number)?;
+    same(rt, label, mass::number_in(&answer) as u64, 0)?;
+    let Ok(a) = answer else {
+        return Ok(());
+    };
     let counts = a.count;
     let completes = a.complete;
     let masses = a.mass;
@@ -43,15 +46,15 @@ pub fn untouched(
     rest(rt, label, upper, from, WORD)
 }
 
-// A refusal: all 48 numbers are 0, and both lists are untouched.
+// A refusal with its number: both lists are untouched.
 pub fn refused(
     rt: &impl Print,
     label: &[u8],
-    a: Answered,
+    answer: Result<Answered, Refusal>,
     lower: &[u64],
     upper: &[u64],
     number: u64,
 ) -> io::Result<()> {
-    answered(rt, label, a, number, 0)?;
+    same(rt, label, mass::number_in(&answer) as u64, number)?;
     untouched(rt, label, lower, upper, 0)
 }

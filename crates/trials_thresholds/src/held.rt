@@ -23,6 +23,7 @@
 //    8 WFFF     5  0-2, 1-2     16 FFFF     5  all
 ghost use Rattle.std.specs.Prelude.{◌<◌};
 
+use mass::Refusal;
 use std::io;
 use thresholds::Answered;
 use trials_threshold_vectors::{answered, untouched};
@@ -150,13 +151,16 @@ fn row(
 pub fn rows(
     rt: &impl Print,
     label: &[u8],
-    a: Answered,
+    answer: Result<Answered, Refusal>,
     lower: &[u64; 52],
     upper: &[u64; 52],
     text: &[u8],
 ) -> io::Result<()> {
     let thresholds = text.len() / 3;
-    answered(rt, label, a, 0, thresholds)?;
+    answered(rt, label, answer, thresholds)?;
+    let Ok(a) = answer else {
+        return Ok(());
+    };
     let mut past = 0;
     for i in 0..16 {
         if i < thresholds {

@@ -1,6 +1,7 @@
 // Plans without a pair or an event. Masses are in units of 10^-18.
 ghost use Rattle.std.specs.Prelude.{◌<◌};
 
+use mass::Refusal;
 use std::io;
 use thresholds::{Answered, CommonHeader};
 use trials_threshold_vectors::{answered, untouched};
@@ -13,11 +14,11 @@ const TENTH: u64 = 100_000_000_000_000_000;
 // 9/10.
 const REST: u64 = 900_000_000_000_000_000;
 
-// Holds what stands at one place.
+// Holds what stands at one place of an answer. A refusal is told by `answered`.
 fn at(
     rt: &impl Print,
     label: &[u8],
-    a: Answered,
+    answer: Result<Answered, Refusal>,
     place: usize,
     count: u64,
     complete: u64,
@@ -25,6 +26,9 @@ fn at(
 ) -> io::Result<()>
     requires { place < 16 }
 {
+    let Ok(a) = answer else {
+        return Ok(());
+    };
     let counts = a.count;
     let completes = a.complete;
     let masses = a.mass;
@@ -54,7 +58,7 @@ pub fn no_pair(rt: &impl Print, label: &[u8]) -> io::Result<()> {
     let a = thresholds::thresholds(h, &none[0..0], &events, &list, &mut lower, &mut upper);
     at(rt, label, a, 0, 1, 1, REST)?;
     at(rt, label, a, 1, 2, 1, WHOLE)?;
-    answered(rt, label, a, 0, 2)?;
+    answered(rt, label, a, 2)?;
     untouched(rt, label, &lower, &upper, 0)
 }
 
@@ -70,7 +74,7 @@ pub fn no_event(rt: &impl Print, label: &[u8]) -> io::Result<()> {
     let a = thresholds::thresholds(h, &links, &words, &list, &mut lower, &mut upper);
     at(rt, label, a, 0, 1, 1, WHOLE)?;
     at(rt, label, a, 1, 1, 1, WHOLE)?;
-    answered(rt, label, a, 0, 2)?;
+    answered(rt, label, a, 2)?;
     let want = [0u64, WHOLE, WHOLE, 0, WHOLE, WHOLE];
     same_words(rt, label, &lower, &want)?;
     same_words(rt, label, &upper, &want)
