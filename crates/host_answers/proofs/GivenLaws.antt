@@ -28,6 +28,12 @@ given-is f count (Err r) x e = zeros (number r) (number-some r)
     zeros zero n = absurd (n refl)
     zeros (suc k) n = refl
 
+-- law: what is laid down of an answer, by its number n and by what it gives
+pub laid-is : {T : Type 0} (f : T → List ℕ) (count : ℕ) (answer : Result T Refusal) (x : T) (n : ℕ) (list : List ℕ)
+    → IfOk answer (λ y. y ≡ x) → n ≡ number_in answer → laid (given f count answer) list ≡ laid (values_or_zeros count n (f x)) list
+laid-is f count answer x n list e k =
+    ap (λ (values : List ℕ). laid values list) (given-is f count answer x e ∙ ap (λ (i : ℕ). values_or_zeros count i (f x)) (sym k))
+
 -- law: making the values keeps the number
 pub made-number : {T : Type 0} (f : T → List ℕ) (answer : Result T Refusal) (made : Result (List ℕ) Refusal)
     → MatchResult answer (λ x. IsOkAnd made (λ y. y ≡ f x)) (λ e. made ≡ Err e) → number_in made ≡ number_in answer
@@ -40,7 +46,5 @@ pub laid-given : {T : Type 0} (f : T → List ℕ) (count : ℕ) (answer : Resul
     → MatchResult answer (λ y. IsOkAnd made (λ values. values ≡ f y)) (λ e. made ≡ Err e) → IfOk answer (λ y. y ≡ x) → n ≡ number_in made
     → laid (values_in count made) list ≡ laid (values_or_zeros count n (f x)) list
 laid-given f count answer made x n list m e k =
-    ap (λ (values : List ℕ). laid values list)
-    (values-made f count answer made m
-    ∙ given-is f count answer x e
-    ∙ ap (λ (i : ℕ). values_or_zeros count i (f x)) (sym (k ∙ made-number f answer made m)))
+    ap (λ (values : List ℕ). laid values list) (values-made f count answer made m)
+    ∙ laid-is f count answer x n list e (k ∙ made-number f answer made m)

@@ -7,110 +7,78 @@
 
 mod credit_words;
 
-ghost use Rattle.std.specs.Prelude.{not, [], ◌∷◌, ◌≡◌, T};
-ghost use Rattle.std.specs.Float.{binary64};
-ghost use Rattle.std.specs.Float.Ieee.{is_nan, to_bits};
-ghost use Rattle.readings.specs.Figure.{figured_number, floats_in, Numbers};
-ghost use Rattle.readings.specs.Downtime.{downtime_answer, timed_number, downtime_refusal, seconds_of};
-ghost use Rattle.readings.specs.Witness.{witnessed_number};
-ghost use Rattle.topology_list.specs.Calls.{listed_number};
-ghost use Rattle.host_answers.specs.Laid.{laid};
+ghost use Rattle.std.specs.Prelude.{◌≡◌, IfOk};
+ghost use Rattle.mass.specs.Refusal.{number_in};
+ghost use Rattle.readings.specs.Figure.{floats_in, Numbers};
+ghost use Rattle.readings.specs.Downtime.{downtime_refusal, seconds_of};
+ghost use Rattle.host_answers.specs.Laid.{laid, given, values_or_zeros};
 ghost use Rattle.host_readings.specs.FurtherAnswers.{entries_values, figure_values, seconds_values, failing_values};
 
 pub use credit_words::credit;
-use host_answers::{give_three, give_two, put};
-use readings::{Figured, Shares, Timed, Witnessed};
-use topology_list::Listed;
+use host_answers::give;
+use mass::Refusal;
+use readings::{Seconds, Shares};
+use walk::Failing;
 
-// How many entries the topology list has.
-pub fn give_entries(answer: Listed, res: &mut [u64]) -> u32
-    ensures number { result ≡ listed_number answer }
-    ensures res { res.new ≡ laid (entries_values answer) res.old }
+fn entries_values(count: usize) -> [u64; 1]
+    ensures { result ≡ entries_values count }
 {
-    match answer {
-        Listed::Refused(number) => {
-            put(res, 0, 0);
-            number
-        }
-        Listed::Entries(count) => {
-            put(res, 0, count as u64);
-            0
-        }
-    }
+    [count as u64]
 }
 
-// 1 and the bits of the two floats of a figure.
-fn give_bits(bits: &mut [u64], shares: Shares)
-    requires { T (not (is_nan shares.disconnected)) × T (not (is_nan shares.examined)) }
-    ensures { bits.new ≡ laid
-        (1 ∷ to_bits binary64 shares.disconnected ∷ to_bits binary64 shares.examined ∷ []) bits.old }
+// How many entries the topology list has.
+pub fn give_entries(answer: Result<usize, Refusal>, res: &mut [u64]) -> u32
+    ensures number { result ≡ number_in answer }
+    ensures res { res.new ≡ laid (given entries_values 1 answer) res.old }
 {
-    let disconnected = f64::to_bits(shares.disconnected);
-    let examined = f64::to_bits(shares.examined);
-    give_three(bits, 1, disconnected, examined);
+    give(answer.map(entries_values), res)
+}
+
+// 1 and the bits of the two floats of a figure; three zeros where there is none.
+fn figure_values(figure: Option<Shares>) -> [u64; 3]
+    requires { Numbers (floats_in figure) }
+    ensures { result ≡ figure_values figure }
+{
+    match figure {
+        Some(shares) => [1, shares.disconnected.to_bits(), shares.examined.to_bits()],
+        None => [0; 3],
+    }
 }
 
 // A figure as 1 and the bits of its two floats; where there is none, three zeros.
-pub fn give_figure(answer: Figured, bits: &mut [u64]) -> u32
-    requires { Numbers (floats_in answer) }
-    ensures number { result ≡ figured_number answer }
-    ensures bits { bits.new ≡ laid (figure_values answer) bits.old }
+pub fn give_figure(answer: Result<Option<Shares>, Refusal>, bits: &mut [u64]) -> u32
+    requires { IfOk answer (λ f. Numbers (floats_in f)) }
+    ensures number { result ≡ number_in answer }
+    ensures bits { bits.new ≡ laid (given figure_values 3 answer) bits.old }
 {
-    match answer {
-        Figured::Refused(number) => {
-            give_three(bits, 0, 0, 0);
-            number
-        }
-        Figured::NoFigure => {
-            give_three(bits, 0, 0, 0);
-            0
-        }
-        Figured::Given(shares) => {
-            give_bits(bits, shares);
-            0
-        }
-    }
+    give(answer.map(figure_values), bits)
 }
 
-// The seconds of the lower and the upper mass.
-fn give_seconds(answer: Timed, res: &mut [u64]) -> u32
-    ensures number { result ≡ timed_number answer }
-    ensures res { res.new ≡ laid (seconds_values answer) res.old }
+fn seconds_values(seconds: Seconds) -> [u64; 2]
+    ensures { result ≡ seconds_values seconds }
 {
-    match answer {
-        Timed::Refused(number) => {
-            give_two(res, 0, 0);
-            number
-        }
-        Timed::Given(seconds) => {
-            give_two(res, seconds.lower, seconds.upper);
-            0
-        }
-    }
+    [seconds.lower, seconds.upper]
 }
 
 // The downtime of a lower and an upper mass: lays down the seconds of both.
 pub fn downtime(lower: u64, upper: u64, res: &mut [u64]) -> u32
     ensures number { result ≡ downtime_refusal lower upper }
     ensures res { res.new ≡ laid
-        (seconds_values (downtime_answer result (seconds_of lower upper))) res.old }
+        (values_or_zeros 2 result (seconds_values (seconds_of lower upper))) res.old }
 {
-    give_seconds(readings::downtime(lower, upper), res)
+    give(readings::downtime(lower, upper).map(seconds_values), res)
+}
+
+fn failing_values(set: Failing) -> [u64; 2]
+    ensures { result ≡ failing_values set }
+{
+    [set.low, set.high]
 }
 
 // The two words of the set of failing events.
-pub fn give_failing(answer: Witnessed, res: &mut [u64]) -> u32
-    ensures number { result ≡ witnessed_number answer }
-    ensures res { res.new ≡ laid (failing_values answer) res.old }
+pub fn give_failing(answer: Result<Failing, Refusal>, res: &mut [u64]) -> u32
+    ensures number { result ≡ number_in answer }
+    ensures res { res.new ≡ laid (given failing_values 2 answer) res.old }
 {
-    match answer {
-        Witnessed::Refused(number) => {
-            give_two(res, 0, 0);
-            number
-        }
-        Witnessed::Found(set) => {
-            give_two(res, set.low, set.high);
-            0
-        }
-    }
+    give(answer.map(failing_values), res)
 }

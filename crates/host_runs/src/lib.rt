@@ -10,8 +10,8 @@ ghost use Rattle.plan.specs.Calls.{filled};
 ghost use Rattle.network.specs.Outage.{intact};
 ghost use Rattle.windows.specs.Windows.{taken_out};
 ghost use Rattle.bounds.specs.Bounds.{lower_list, upper_list};
-ghost use Rattle.bounds.specs.Calls.{totals_of, ran_answer, run_at_number, bounds_of, pair_answer, pair_number};
-ghost use Rattle.host_answers.specs.Laid.{laid};
+ghost use Rattle.bounds.specs.Calls.{totals_of, run_at_number, bounds_of, pair_number};
+ghost use Rattle.host_answers.specs.Laid.{laid, values_or_zeros};
 ghost use Rattle.host_answers.specs.Answers.{totals_values, bounds_values};
 
 use host_answers::{give_pair, give_totals};
@@ -21,7 +21,7 @@ use plan::Header;
 pub fn check(plan: &[u8]) -> u32
     ensures { result ≡ refusal plan.now }
 {
-    plan::check(plan)
+    mass::number_in(&plan::check(plan))
 }
 
 // Runs with windows at a minute, and lays down the examined count, complete and E.
@@ -44,21 +44,20 @@ pub fn run_at(
         (upper_list (taken_out windows.now minute) (plan_of_lists h links.now events.now))
         upper.old }
     ensures res { res.new ≡ laid
-        (totals_values (ran_answer result (totals_of (plan_of_lists h links.now events.now))))
+        (values_or_zeros 3 result (totals_values (totals_of (plan_of_lists h links.now events.now))))
         res.old }
 {
-    give_totals(
-        bounds::run_at(h, links, events, windows, minute, lower, upper),
-        res,
-    )
+    let answer = bounds::run_at(h, links, events, windows, minute, lower, upper);
+    give_totals(answer, res)
 }
 
 // Gives the bounds of a pair, and lays down the lower and the upper one.
 pub fn pair(h: Header, links: &[u8], events: &[u64], v: u64, w: u64, res: &mut [u64]) -> u32
     ensures number { result ≡ pair_number (in_words h links.now events.now) v w }
     ensures res { res.new ≡ laid
-        (bounds_values (pair_answer result (bounds_of intact (plan_of_lists h links.now events.now) v w)))
+        (values_or_zeros 2 result (bounds_values (bounds_of intact (plan_of_lists h links.now events.now) v w)))
         res.old }
 {
-    give_pair(bounds::pair(h, links, events, v, w), res)
+    let answer = bounds::pair(h, links, events, v, w);
+    give_pair(answer, res)
 }

@@ -4,25 +4,20 @@
 #![tactic(auto)]
 
 ghost use Rattle.std.specs.Prelude.{◌≡◌};
-ghost use Rattle.mass.specs.Refusal.{number_in};
 ghost use Rattle.plan.specs.Calls.{filled};
 ghost use Rattle.sheets.specs.SheetFile.{sheet_refusal};
-ghost use Rattle.sheets.specs.SheetCalls.{counts_in, counts_of, read_sheet_number, sheet_words};
-ghost use Rattle.host_answers.specs.Laid.{laid};
-ghost use Rattle.host_sheets.specs.SheetAnswers.{counts_values, counts_answer};
+ghost use Rattle.sheets.specs.SheetCalls.{counts_of, read_sheet_number, sheet_words};
+ghost use Rattle.host_answers.specs.Laid.{laid, values_or_zeros};
+ghost use Rattle.host_sheets.specs.SheetAnswers.{counts_values};
 
-use host_answers::give_three;
-use mass::Refusal;
+use host_answers::give;
 use sheets::Counts;
 
 // The counts of a sheet: nodes, links and lines.
-fn give_counts(answer: Result<Counts, Refusal>, counts: &mut [u64]) -> u32
-    ensures number { result ≡ number_in answer }
-    ensures counts { counts.new ≡ laid (counts_values (counts_in answer)) counts.old }
+fn counts_values(c: Counts) -> [u64; 3]
+    ensures { result ≡ counts_values c }
 {
-    let c = sheets::counts_in(answer);
-    give_three(counts, c.nodes, c.links, c.lines);
-    sheets::number_in(answer)
+    [c.nodes, c.links, c.lines]
 }
 
 // Checks a sheet.
@@ -36,16 +31,19 @@ pub fn check(sheet: &[u8]) -> u32
 pub fn read(sheet: &[u8], events: &mut [u64], counts: &mut [u64]) -> u32
     ensures number { result ≡ read_sheet_number sheet.now events.old }
     ensures events { events.new ≡ filled result (sheet_words sheet.now) events.old }
-    ensures counts { counts.new ≡ laid (counts_answer result (counts_of sheet.now)) counts.old }
+    ensures counts { counts.new ≡ laid (values_or_zeros 3 result (counts_values (counts_of sheet.now))) counts.old }
 {
-    give_counts(sheets::read(sheet, events), counts)
+    give(sheets::read(sheet, events).map(counts_values), counts)
 }
 
 // The same by way of records.
 pub fn read_by_records(sheet: &[u8], events: &mut [u64], counts: &mut [u64]) -> u32
     ensures number { result ≡ read_sheet_number sheet.now events.old }
     ensures events { events.new ≡ filled result (sheet_words sheet.now) events.old }
-    ensures counts { counts.new ≡ laid (counts_answer result (counts_of sheet.now)) counts.old }
+    ensures counts { counts.new ≡ laid (values_or_zeros 3 result (counts_values (counts_of sheet.now))) counts.old }
 {
-    give_counts(sheet_records::read_by_records(sheet, events), counts)
+    give(
+        sheet_records::read_by_records(sheet, events).map(counts_values),
+        counts,
+    )
 }

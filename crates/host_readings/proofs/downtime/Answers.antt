@@ -1,12 +1,9 @@
--- `host_readings::downtime` meets its contract: the answer of the call is handed out. Assumes nothing.
-use mathlib.Core.Path.{refl}
-use Rattle.readings.proofs.NumberLaws.{timed-number}
+-- `host_readings::downtime` meets its contract. Assumes nothing.
+use mathlib.Core.Path.{◌∙◌}
+use Rattle.host_answers.proofs.GivenLaws.{laid-given}
+use Rattle.host_readings.specs.FurtherAnswers.{seconds_values}
 use Rattle.host_readings.proofs.downtime.Goals as goal
 
-pub returns : goal.returns
-returns c =
-    let e = c.downtime.ensures.answer in
-    let n = rw (e, timed-number) at c.give_seconds.ensures.number in rw n (record {
-      number = refl;
-      res = rw e at c.give_seconds.ensures.res;
-    })
+pub returns-clause-res : goal.returns-clause-res
+returns-clause-res c =
+    c.give.ensures.list ∙ laid-given seconds_values 2 c.downtime.result c.map.result _ _ c.args.res.now c.map.ensures.cases c.downtime.ensures.seconds c.give.ensures.number

@@ -1,15 +1,12 @@
--- `host_readings::give_failing` meets its contract: case by case. Assumes nothing.
-use mathlib.Core.Path.{refl}
+-- `host_readings::give_failing` meets its contract. Assumes nothing.
+use mathlib.Core.Path.{◌∙◌, ap}
+use mathlib.Core.List.{List}
+use Prim.Native.Nat.{ℕ}
+use Rattle.host_answers.specs.Laid.{laid}
+use Rattle.host_answers.proofs.GivenLaws.{values-made}
+use Rattle.host_readings.specs.FurtherAnswers.{failing_values}
 use Rattle.host_readings.proofs.give_failing.Goals as goal
 
-pub returns-in-Refused : goal.returns-in-Refused
-returns-in-Refused c = rw c.in-Refused.is (record {
-  number = refl;
-  res = c.give_two.ensures;
-})
-
-pub returns-in-Found : goal.returns-in-Found
-returns-in-Found c = rw c.in-Found.is (record {
-  number = refl;
-  res = c.give_two-in-Found.ensures;
-})
+pub returns-clause-res : goal.returns-clause-res
+returns-clause-res c =
+    c.give.ensures.list ∙ ap (λ (values : List ℕ). laid values c.args.res.now) (values-made failing_values 2 c.args.answer c.map.result c.map.ensures.cases)

@@ -1,26 +1,12 @@
--- `host_readings::give_figure` meets its contract: a figure that was given has no NaN, so its bits may be taken. Assumes nothing.
-use mathlib.Core.Path.{refl}
-use Rattle.readings.proofs.FigureLaws.{given-numbers}
+-- `host_readings::give_figure` meets its contract. Assumes nothing.
+use mathlib.Core.Path.{◌∙◌, ap}
+use mathlib.Core.List.{List}
+use Prim.Native.Nat.{ℕ}
+use Rattle.host_answers.specs.Laid.{laid}
+use Rattle.host_answers.proofs.GivenLaws.{values-made}
+use Rattle.host_readings.specs.FurtherAnswers.{figure_values}
 use Rattle.host_readings.proofs.give_figure.Goals as goal
 
-pub give_bits-requires : goal.give_bits-requires
-give_bits-requires c =
-    given-numbers _ _ c.in-Given.is c.requires
-
-pub returns-in-Refused : goal.returns-in-Refused
-returns-in-Refused c = rw c.in-Refused.is (record {
-  number = refl;
-  bits = c.give_three.ensures;
-})
-
-pub returns-in-NoFigure : goal.returns-in-NoFigure
-returns-in-NoFigure c = rw c.in-NoFigure.is (record {
-  number = refl;
-  bits = c.give_three-in-NoFigure.ensures;
-})
-
-pub returns-in-Given : goal.returns-in-Given
-returns-in-Given c = rw c.in-Given.is (record {
-  number = refl;
-  bits = c.give_bits.ensures;
-})
+pub returns-clause-bits : goal.returns-clause-bits
+returns-clause-bits c =
+    c.give.ensures.list ∙ ap (λ (values : List ℕ). laid values c.args.bits.now) (values-made figure_values 3 c.args.answer c.map.result c.map.ensures.cases)

@@ -1,22 +1,9 @@
--- `host_sheets::read` meets its contract: the answer of the call is handed out. Assumes nothing.
-use mathlib.Core.Path.{sym, ◌∙◌, ap}
-use mathlib.Core.List.{List}
-use Prim.Native.Nat.{ℕ}
-use Rattle.plan.specs.Calls.{filled}
-use Rattle.host_answers.specs.Laid.{laid}
-use Rattle.sheets.specs.SheetCalls.{counts_of, sheet_words}
-use Rattle.host_sheets.specs.SheetAnswers.{counts_answer}
-use Rattle.host_sheets.proofs.CountLaws.{counts-handed}
+-- `host_sheets::read` meets its contract. Assumes nothing.
+use mathlib.Core.Path.{◌∙◌}
+use Rattle.host_answers.proofs.GivenLaws.{laid-given}
+use Rattle.host_sheets.specs.SheetAnswers.{counts_values}
 use Rattle.host_sheets.proofs.read.Goals as goal
 
-pub returns : goal.returns
-returns c =
-    let a = c.args in
-    let n = c.give_counts.ensures.number in
-    record {
-      number = n ∙ c.read.ensures.number;
-      events = c.read.ensures.events
-          ∙ ap (λ (k : ℕ). filled k (sheet_words a.sheet.now) a.events.now) (sym (n ∙ c.read.ensures.number));
-      counts = c.give_counts.ensures.counts
-          ∙ ap (λ (l : List ℕ). laid l a.counts.now) (counts-handed _ a.sheet.now c.read.ensures.counts ∙ ap (λ (k : ℕ). counts_answer k (counts_of a.sheet.now)) (sym n));
-    }
+pub returns-clause-counts : goal.returns-clause-counts
+returns-clause-counts c =
+    c.give.ensures.list ∙ laid-given counts_values 3 c.read.result c.map.result _ _ c.args.counts.now c.map.ensures.cases c.read.ensures.counts c.give.ensures.number

@@ -1,2 +1,0 @@
--- Laws that the proofs of the crate `host_sheets` share.
-pub mod CountLaws
