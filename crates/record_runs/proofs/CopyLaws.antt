@@ -1,16 +1,16 @@
 -- A plan that was read into records and is written again is the file that was read.
 -- Assumes nothing.
 use Rattle.std.specs.Prelude.{Result, IfOk}
-use mathlib.Core.Path.{◌≡◌, refl, sym, ◌∙◌, ap, subst}
+use mathlib.Core.Path.{◌≡◌, sym, ◌∙◌, ap, subst}
 use mathlib.Core.List.{List}
-use Prim.Native.Nat.{ℕ, zero, suc}
+use Prim.Native.Nat.{ℕ}
 use lib.ListN.{length}
 use Rattle.mass.specs.Refusal.{first, number_in}
 use Rattle.mass.specs.declared.refusal.Refusal.{Refusal}
 use Rattle.plan.specs.Lists.{link_bytes}
 use Rattle.plan.specs.Layout.{layout, Bytes}
 use Rattle.plan.specs.File.{refusal, plan_of}
-use Rattle.plan.specs.LentLists.{Lent, plan_of_lists, plan_lent, lists_number}
+use Rattle.plan.specs.LentLists.{plan_of_lists}
 use Rattle.plan.specs.Calls.{filled, header_of, read_number, write_number}
 use Rattle.plan.specs.declared.Header.{Header}
 use Rattle.plan_layout.proofs.Theorems.{read-writes-again}

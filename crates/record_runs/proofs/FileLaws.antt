@@ -1,10 +1,9 @@
 -- A run on a plan that was read into records is the run on the file's plan.
 -- Assumes nothing.
 use Rattle.std.specs.Prelude.{Result}
-use mathlib.Core.Path.{◌≡◌, refl, sym, ap, subst, ◌∙◌}
+use mathlib.Core.Path.{◌≡◌, sym, ap, subst, ◌∙◌}
 use mathlib.Core.List.{List}
-use Prim.Native.Nat.{ℕ, zero, suc}
-use native.Mathlib.Omega.{arith}
+use Prim.Native.Nat.{ℕ}
 use lib.ListN.{length}
 use Rattle.mass.specs.Refusal.{first}
 use Rattle.mass.specs.declared.refusal.Refusal.{Refusal}
@@ -12,11 +11,8 @@ use Rattle.plan.specs.Plan.{Plan}
 use Rattle.plan.specs.Layout.{Bytes}
 use Rattle.plan.specs.Lists.{link_bytes}
 use Rattle.plan.specs.File.{refusal, plan_of}
-use Rattle.plan.specs.LentLists.{Lent, plan_lent, lists_number}
 use Rattle.plan.specs.Calls.{filled, header_of, read_number}
 use Rattle.plan.specs.declared.Header.{Header}
-use Rattle.network.specs.Outage.{intact}
-use Rattle.bounds.specs.Bounds.{lower_list, upper_list}
 use Rattle.bounds.specs.Calls.{run_number}
 use Rattle.bounds.specs.declared.Totals.{Totals}
 use Rattle.record_lists.specs.Events.{in_records}

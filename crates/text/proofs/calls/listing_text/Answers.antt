@@ -16,11 +16,11 @@ copy_first-requires c =
     let b = c.args.plan.now in
     let room = array-room b (λ i. omega (arith, c.type_inv.plan i)) in
     let put = c.put_listing-size.ensures in
-    (size-kept (replicate {A = ℕ} 92789 0) _ (listing intact b) _ put.0 put.1 room, c.in_ok-room_test.ensures.there)
+    (size-kept (replicate {A = ℕ} 92789 0) _ (listing intact b) _ put.0 put.1 room, omega (arith, c.in_ok-room_test.ensures.there))
 
 pub returns-clause-bytes : goal.returns-clause-bytes
 returns-clause-bytes c =
     let a = c.args in
     let room = array-room a.plan.now (λ i. omega (arith, c.type_inv.plan i)) in
     let put = c.put_listing-size.ensures in
-    text-copied _ _ _ (listing intact a.plan.now) a.out.now _ room put.0 put.1 c.in_ok-room_test.ensures.there c.copy_first.ensures
+    text-copied _ _ _ (listing intact a.plan.now) a.out.now _ room put.0 put.1 (omega (arith, c.in_ok-room_test.ensures.there)) c.copy_first.ensures
