@@ -2,7 +2,6 @@
 -- Assumes nothing.
 use mathlib.Core.Path.{refl}
 use Rattle.mass.specs.Refusal.{first}
-use Rattle.mass.specs.Split.{split_of}
 use Rattle.sets.specs.Sets.{bit, any_below}
 use Rattle.plan.specs.Lists.{link_bytes}
 use Rattle.plan.specs.Layout.{little, value, elements, member_bytes, members, member_count, event_bytes, header_bytes, layout}
@@ -21,7 +20,7 @@ a and b = (a, b)
 
 -- the theorem: every entry is right
 pub marked-right : Each Right marked
-unfolding first split_of
+unfolding first
     link_bytes little value elements member_bytes members member_count event_bytes header_bytes layout
     header_refusal links_refusal member_refusal members_refusal event_refusal events_refusal refusal
     ends table rows row disconnected via node_works link_works joins adjacent any_below union_of bit
@@ -36,6 +35,6 @@ marked-right =
     and (refl, refl, refl, refl, refl)
     and (refl, refl, refl, refl, refl)
     and (refl, refl, refl, refl, refl)
-    and refl
+    and (refl, refl)
     and (refl, refl, refl, refl, refl)
     and tt

@@ -1,8 +1,7 @@
 -- The twelve marked plans of document 01, section "Marked plans", in one list. The theorem about them stands in `proofs/Theorems.antt`.
 -- Assumes nothing.
-use Rattle.std.specs.Prelude.{◌≡◌, Bool, true, false, List, [], ◌∷◌, ℕ}
-use Rattle.mass.specs.Split.{units, split_of}
-use Rattle.mass.specs.declared.Parts.TheVariants.{Split}
+use Rattle.std.specs.Prelude.{◌≡◌, Bool, true, false, List, [], ◌∷◌, ℕ, Option, Some, None}
+use Rattle.mass.specs.Split.{units, split_refusal, both_parts}
 use Rattle.sets.specs.Sets.{digit}
 use Rattle.plan.specs.Plan.{Plan, Link, Event}
 use Rattle.plan.specs.Layout.{layout}
@@ -12,8 +11,7 @@ use Rattle.pairs.specs.Pairs.{table}
 use Rattle.bounds.specs.Bounds.{lower_list, upper_list}
 use Rattle.bounds.specs.Calls.{totals_of}
 use Rattle.readings.specs.Figure.{figure_of}
-use Rattle.readings.specs.declared.Figured.{Figured}
-use Rattle.readings.specs.declared.Figured.TheVariants as figured
+use Rattle.readings.specs.declared.Shares.{Shares}
 
 -- a marked plan, with what the run gives for it: the examined count, complete, E (`mass`) and the bounds of its pairs, in order; and for
 -- each pair, in the same order, whether it has a figure: 1 if it has one, else 0
@@ -38,19 +36,18 @@ pub data MarkedEntry : Type 0 where
   planned : MarkedPlan → MarkedEntry
   parted : MarkedSplit → MarkedEntry
 
--- whether an answer carries a figure
-abbrev pub has_figure : Figured → Bool
-has_figure (figured.Refused number) = false
-has_figure figured.NoFigure = false
-has_figure (figured.Given shares) = true
+-- whether there is a figure
+abbrev pub has_figure : Option Shares → Bool
+has_figure None = false
+has_figure (Some shares) = true
 
--- for each pair of a plan, in order: 1 if the call that is not refused (number 0) gives it a figure, else 0
+-- for each pair of a plan, in order: 1 if the call that is not refused gives it a figure, else 0
 abbrev pub figure_list : Outage → Plan → List ℕ
-figure_list out p = table (λ v w. digit (has_figure (figure_of out 0 p v w))) p.nodes
+figure_list out p = table (λ v w. digit (has_figure (figure_of out p v w))) p.nodes
 
 -- what is said of an entry, by the definitions that the contracts cite. Of a plan: its file meets no refusal (`plan::check`); the run's
 -- count, complete and E, and its two lists of bounds, are those of the entry (`bounds::run`); and so is which pairs have a figure
--- (`readings::figure`). Of a split: its answer has the two parts of the entry (`Mass::split`).
+-- (`readings::figure`). Of a split: no test refuses it, and its parts are the two of the entry (`Mass::split`).
 abbrev pub Right : MarkedEntry → Type 0
 Right (planned m) =
     (refusal (layout m.plan) ≡ 0)
@@ -58,7 +55,9 @@ Right (planned m) =
     × (lower_list intact m.plan ≡ m.lowers)
     × (upper_list intact m.plan ≡ m.uppers)
     × (figure_list intact m.plan ≡ m.figures)
-Right (parted m) = split_of m.mass m.q ≡ Split (units m.fails) (units m.works)
+Right (parted m) =
+    (split_refusal m.mass m.q ≡ 0)
+    × (both_parts m.mass m.q ≡ record { fails = units m.fails; works = units m.works })
 
 -- a property of every entry of a list
 abbrev pub Each : (MarkedEntry → Type 0) → List MarkedEntry → Type 0
