@@ -6,10 +6,9 @@ use Rattle.mass.specs.Refusal.{first}
 use Rattle.refusals.specs.Tests.{room_test}
 use Rattle.plan.specs.LentLists.{Lent, lists_number}
 use Rattle.pairs.specs.Pairs.{pair_test}
-use Rattle.panel.specs.Calls.{WentOn}
+use Rattle.panel.specs.Calls.{GoneOn, WentOn}
 use Rattle.walk_state.specs.declared.Walk.{Walk}
 use Rattle.panel.specs.declared.Quota.{Quota}
-use Rattle.panel.specs.declared.GoneOn.{GoneOn}
 use Rattle.walk_words.specs.WalkWords.{walk_length, walk_words, walk_of}
 use Rattle.host_answers.specs.Laid.{laid}
 

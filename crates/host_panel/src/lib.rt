@@ -3,19 +3,21 @@
 // Assumes nothing.
 #![tactic(auto)]
 
-ghost use Rattle.std.specs.Prelude.{◌≡◌, ◌≤◌, ◌<◌, length, get_or};
+ghost use Rattle.std.specs.Prelude.{◌≡◌, ◌≤◌, ◌<◌, length, get_or, IfOk};
+ghost use Rattle.mass.specs.Refusal.{number_in};
 ghost use Rattle.plan.specs.LentLists.{plan_of_lists, in_words};
 ghost use Rattle.plan.specs.Calls.{filled};
 ghost use Rattle.network.specs.Outage.{intact};
-ghost use Rattle.bounds.specs.Calls.{ran_answer, pair_answer};
 ghost use Rattle.panel.specs.Walks.{WalkAt, root_walk};
 ghost use Rattle.panel.specs.Calls.{look_of, look_pair_of};
 ghost use Rattle.walk_words.specs.WalkWords.{walk_length, walk_words, walk_of};
-ghost use Rattle.host_answers.specs.Laid.{laid};
+ghost use Rattle.host_answers.specs.Laid.{laid, values_or_zeros};
 ghost use Rattle.host_answers.specs.Answers.{totals_values, bounds_values};
 ghost use Rattle.host_panel.specs.WordCalls.{begin_number, moved_words, ShortState, WordsWent, look_number, look_pair_number};
 
-use host_answers::{give_pair, give_three, give_two, put};
+use bounds::{PairBounds, Totals};
+use host_answers::{give_pair, give_totals, put};
+use mass::{Refusal, number_in};
 use panel::Quota;
 use plan::Header;
 use refusals::room_test;
@@ -24,7 +26,7 @@ use walk_words::{WORDS, lay, pack, walk_of};
 
 // Begins the walk of a plan in lent lists, and lays it down in the state. Refused as the lists are, then with 12 where the state is too
 // short for a walk.
-#[tactic(auto, using(crate::proofs::WordLaws::begins))]
+#[tactic(auto, using(mass::proofs::RefusalLaws::refuses), unfolding(crate::specs::WordCalls::begin_number))]
 pub fn begin(h: Header, links: &[u8], events: &[u64], state: &mut [u64]) -> u32
     ensures number { result ≡ begin_number (in_words h links.now events.now) (length state.old) }
     ensures state { state.new ≡ filled result (walk_words
@@ -32,13 +34,10 @@ pub fn begin(h: Header, links: &[u8], events: &[u64], state: &mut [u64]) -> u32
     ensures begun { result ≡ 0
         → WalkAt intact (plan_of_lists h links.now events.now) 0 (walk_of state.new) }
 {
-    let r = panel::begin(h, links, events);
-    let number = r.number;
-    if number != 0 {
-        return number;
+    match panel::begin(h, links, events) {
+        Ok(walk) => number_in(&pack(walk, state)),
+        Err(refused) => u32::from(refused),
     }
-    let walk = r.walk;
-    pack(walk, state)
 }
 
 // The first word of a list: 0 where it is empty.
@@ -70,46 +69,54 @@ pub fn go_on(state: &mut [u64], quota: &mut [u64], k: u64, reached: &mut [u64]) 
     ensures went { walk_length ≤ length state.old → WordsWent state.old quota.old k
         reached.old result state.new quota.new reached.new }
 {
-    let room = room_test(state.len(), WORDS);
-    if room != 0 {
+    if let Err(refused) = room_test(state.len(), WORDS) {
         put(reached, 0, 0);
-        return room;
+        return u32::from(refused);
     }
-    let left = first_word(quota);
-    let r = panel::go_on(walk_of(state), Quota { left }, k);
-    let walk = r.walk;
-    keep(r.reached, walk, state);
-    put(quota, 0, r.quota.left);
-    put(reached, 0, r.reached);
-    r.number
+    let mut walk = walk_of(state);
+    let before = first_word(quota);
+    let mut rest = Quota { left: before };
+    let answer = panel::go_on(&mut walk, &mut rest, k);
+    let ends = answer.unwrap_or(0);
+    keep(ends, walk, state);
+    put(quota, 0, rest.left);
+    put(reached, 0, ends);
+    number_in(&answer)
+}
+
+// What a look at the walk in the state shows. Refused with 12 where the state is too short for a walk.
+fn looked(state: &[u64]) -> Result<Totals, Refusal>
+    ensures number { number_in result ≡ look_number state.now }
+    ensures totals { IfOk result (λ t. t ≡ look_of (walk_of state.now)) }
+{
+    room_test(state.len(), WORDS)?;
+    Ok(panel::look(walk_of(state)))
 }
 
 // Count, complete and E of the walk in the state. Refused with 12 where the state is too short for a walk.
 pub fn look(state: &[u64], res: &mut [u64]) -> u32
     ensures number { result ≡ look_number state.now }
     ensures res { res.new ≡ laid
-        (totals_values (ran_answer result (look_of (walk_of state.now)))) res.old }
+        (values_or_zeros 3 result (totals_values (look_of (walk_of state.now)))) res.old }
 {
-    let room = room_test(state.len(), WORDS);
-    if room != 0 {
-        give_three(res, 0, 0, 0);
-        return room;
-    }
-    let t = panel::look(walk_of(state));
-    give_three(res, t.count, t.complete, t.mass);
-    0
+    give_totals(looked(state), res)
+}
+
+// What a look at a pair of the walk in the state shows. Refused with 12 where the state is too short for a walk, then with 13.
+#[tactic(auto, using(mass::proofs::RefusalLaws::refuses), unfolding(crate::specs::WordCalls::look_pair_number))]
+fn pair_looked(state: &[u64], v: u64, w: u64) -> Result<PairBounds, Refusal>
+    ensures number { number_in result ≡ look_pair_number state.now v w }
+    ensures bounds { IfOk result (λ b. b ≡ look_pair_of (walk_of state.now) v w) }
+{
+    room_test(state.len(), WORDS)?;
+    panel::look_pair(walk_of(state), v, w)
 }
 
 // The bounds of a pair of the walk in the state. Refused with 12 where the state is too short for a walk, then with 13.
 pub fn look_pair(state: &[u64], v: u64, w: u64, res: &mut [u64]) -> u32
     ensures number { result ≡ look_pair_number state.now v w }
     ensures res { res.new ≡ laid
-        (bounds_values (pair_answer result (look_pair_of (walk_of state.now) v w))) res.old }
+        (values_or_zeros 2 result (bounds_values (look_pair_of (walk_of state.now) v w))) res.old }
 {
-    let room = room_test(state.len(), WORDS);
-    if room != 0 {
-        give_two(res, 0, 0);
-        return room;
-    }
-    give_pair(panel::look_pair(walk_of(state), v, w), res)
+    give_pair(pair_looked(state, v, w), res)
 }
