@@ -43,6 +43,10 @@ count-pass lines h = rw (le-ltb 128 lines h)
 pub inside : (k at : ℕ) (s : List ℕ) {r : ℕ} → r ≡ value (take 4 (drop (at + k) s)) → r ≡ value (take 4 (drop k (drop at s)))
 inside k at s e = e ∙ ap (λ (l : List ℕ). value (take 4 l)) (sym (drop-drop k at s))
 
+-- a function of three numbers
+pub on3 : (f : ℕ → ℕ → ℕ → ℕ) {x x' y y' z z' : ℕ} → x ≡ x' → y ≡ y' → z ≡ z' → f x y z ≡ f x' y' z'
+on3 f p q r i = f (p i) (q i) (r i)
+
 pub line_step : (nodes links at : ℕ) (s : List ℕ)
     → line_refusal nodes links (drop at s)
     ≡ first

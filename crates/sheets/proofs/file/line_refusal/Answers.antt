@@ -1,12 +1,12 @@
 -- `sheets::file::line_refusal` meets its contract: the tests of the line, on its bytes. Assumes nothing.
-use mathlib.Core.Path.{◌≡◌, sym, ◌∙◌, ap}
+use mathlib.Core.Path.{sym, ◌∙◌, ap}
 use Prim.Native.Nat.{ℕ, ◌+◌}
 use lib.ListN.{drop}
 use Rattle.mass.proofs.RefusalLaws.{stops, passes, last, hands-on}
 use Rattle.refusals.specs.Tests.{short_test}
 use Rattle.plan.specs.File.{members_refusal}
 use Rattle.sheets.specs.SheetFile.{product_test}
-use Rattle.sheets.proofs.CheckLaws.{line_step, inside}
+use Rattle.sheets.proofs.CheckLaws.{on3, line_step, inside}
 use Rattle.sheets.proofs.file.line_refusal.Goals as goal
 
 pub returns-in_err-members_refusal-clause-number : goal.returns-in_err-members_refusal-clause-number
@@ -26,6 +26,3 @@ returns-clause-number c =
     (inside 4 a.at a.s.now c.number_at-2.ensures)
     (inside 8 a.at a.s.now c.number_at-3.ensures))))
     ∙ sym (line_step _ _ a.at a.s.now)
-  where
-    on3 : (f : ℕ → ℕ → ℕ → ℕ) {x x' y y' z z' : ℕ} → x ≡ x' → y ≡ y' → z ≡ z' → f x y z ≡ f x' y' z'
-    on3 f p q r i = f (p i) (q i) (r i)
