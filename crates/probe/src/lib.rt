@@ -18,11 +18,11 @@ ghost use Rattle.plan.specs.File.{refusal, plan_of};
 ghost use Rattle.plan.specs.Layout.{layout};
 ghost use Rattle.plan.specs.Lists.{link_bytes, event_words};
 ghost use Rattle.plan.specs.LentLists.{plan_of_lists, in_words};
-ghost use Rattle.plan.specs.Calls.{filled, header_of, read_number, read_answer, write_number, write_answer};
+ghost use Rattle.plan.specs.Calls.{filled, header_of, read_number, write_number};
 ghost use Rattle.network.specs.Outage.{intact};
 ghost use Rattle.bounds.specs.Bounds.{lower_list, upper_list};
-ghost use Rattle.bounds.specs.Calls.{totals_of, ran_answer, run_number, bounds_of, pair_answer, pair_number};
-ghost use Rattle.host_answers.specs.Laid.{laid};
+ghost use Rattle.bounds.specs.Calls.{totals_of, run_number, bounds_of, pair_number};
+ghost use Rattle.host_answers.specs.Laid.{laid, values_or_zeros};
 ghost use Rattle.host_answers.specs.Answers.{header_with, header_values, size_values, totals_values, bounds_values};
 
 use plan::Header;
@@ -44,7 +44,7 @@ pub extern "C" fn probe_read(
     ensures number { result ≡ read_number
         (length links.old) (length events.old / 4) plan.now }
     ensures numbers { numbers.new ≡ laid
-        (header_values (read_answer result (header_of plan.now))) numbers.old }
+        (values_or_zeros 5 result (header_values (header_of plan.now))) numbers.old }
     ensures links { links.new ≡ filled result (link_bytes (plan_of plan.now).links) links.old }
     ensures events { events.new ≡ filled result (event_words (plan_of plan.now).events) events.old }
 {
@@ -80,7 +80,7 @@ pub extern "C" fn probe_write(
     ensures out { out.new ≡ filled result (layout
         (plan_of_lists (header_with nodes links_count events_count threshold cap) links.now events.now))
         out.old }
-    ensures size { size.new ≡ laid (size_values (write_answer result (length (layout
+    ensures size { size.new ≡ laid (values_or_zeros 1 result (size_values (length (layout
         (plan_of_lists (header_with nodes links_count events_count threshold cap) links.now events.now)))))
         size.old }
 {
@@ -109,7 +109,7 @@ pub extern "C" fn probe_run(
     ensures uppers { upper.new ≡ filled result (upper_list intact
         (plan_of_lists (header_with nodes links_count events_count threshold cap) links.now events.now))
         upper.old }
-    ensures res { res.new ≡ laid (totals_values (ran_answer result (totals_of
+    ensures res { res.new ≡ laid (values_or_zeros 3 result (totals_values (totals_of
         (plan_of_lists (header_with nodes links_count events_count threshold cap) links.now events.now))))
         res.old }
 {
@@ -132,7 +132,7 @@ pub extern "C" fn probe_pair(
 ) -> u32
     ensures number { result ≡ pair_number (in_words (header_with nodes links_count events_count threshold cap)
         links.now events.now) v w }
-    ensures res { res.new ≡ laid (bounds_values (pair_answer result (bounds_of intact
+    ensures res { res.new ≡ laid (values_or_zeros 2 result (bounds_values (bounds_of intact
         (plan_of_lists (header_with nodes links_count events_count threshold cap) links.now events.now) v w)))
         res.old }
 {

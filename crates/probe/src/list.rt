@@ -1,8 +1,8 @@
 // The topology list, for the tests in Rust.
 ghost use Rattle.std.specs.Prelude.{◌≡◌, ◌/◌, length};
 ghost use Rattle.plan.specs.LentLists.{in_words};
-ghost use Rattle.topology_list.specs.Calls.{topology_list_in, topologies_number, listed_answer, list_after};
-ghost use Rattle.host_answers.specs.Laid.{laid};
+ghost use Rattle.topology_list.specs.Calls.{topology_list_in, topologies_number, list_after};
+ghost use Rattle.host_answers.specs.Laid.{laid, values_or_zeros};
 ghost use Rattle.host_answers.specs.Answers.{header_with};
 ghost use Rattle.host_readings.specs.FurtherAnswers.{entries_values};
 ghost use Rattle.network.specs.Outage.{intact};
@@ -25,7 +25,7 @@ pub extern "C" fn probe_topologies(
         links.now events.now) list.old }
     ensures list { list.new ≡ list_after intact (in_words (header_with nodes links_count events_count threshold cap)
         links.now events.now) list.old }
-    ensures res { res.new ≡ laid (entries_values (listed_answer result (length (topology_list_in intact
+    ensures res { res.new ≡ laid (values_or_zeros 1 result (entries_values (length (topology_list_in intact
         (in_words (header_with nodes links_count events_count threshold cap) links.now events.now)
         list.old).entries))) res.old }
 {

@@ -1,6 +1,6 @@
 // What a node reaches, and in how many rounds, for the tests in Rust.
 ghost use Rattle.std.specs.Prelude.{◌≡◌};
-ghost use Rattle.host_answers.specs.Laid.{laid};
+ghost use Rattle.host_answers.specs.Laid.{laid, values_or_zeros};
 ghost use Rattle.host_reach.specs.NodeReach.{reach_number, reach_in, reach_values};
 
 #[unsafe(no_mangle)]
@@ -15,8 +15,8 @@ pub extern "C" fn probe_reach(
     res: &mut [u64],
 ) -> u32
     ensures number { result ≡ reach_number nodes links_count links.now v }
-    ensures res { res.new ≡ laid (reach_values result (reach_in nodes links_count links.now
-        (record { nodes = failed_nodes; low = failed_low; high = failed_high }) v)) res.old }
+    ensures res { res.new ≡ laid (values_or_zeros 2 result (reach_values (reach_in nodes links_count links.now
+        (record { nodes = failed_nodes; low = failed_low; high = failed_high }) v))) res.old }
 {
     host_reach::reach(
         nodes,

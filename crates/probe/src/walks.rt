@@ -3,11 +3,10 @@ ghost use Rattle.std.specs.Prelude.{◌≡◌, ◌≤◌, ◌<◌, length};
 ghost use Rattle.plan.specs.LentLists.{plan_of_lists, in_words};
 ghost use Rattle.plan.specs.Calls.{filled};
 ghost use Rattle.network.specs.Outage.{intact};
-ghost use Rattle.bounds.specs.Calls.{ran_answer, pair_answer};
 ghost use Rattle.panel.specs.Walks.{WalkAt, root_walk};
 ghost use Rattle.panel.specs.Calls.{look_of, look_pair_of};
 ghost use Rattle.walk_words.specs.WalkWords.{walk_length, walk_words, walk_of};
-ghost use Rattle.host_answers.specs.Laid.{laid};
+ghost use Rattle.host_answers.specs.Laid.{laid, values_or_zeros};
 ghost use Rattle.host_answers.specs.Answers.{header_with, totals_values, bounds_values};
 ghost use Rattle.host_panel.specs.WordCalls.{begin_number, ShortState, WordsWent, look_number, look_pair_number};
 
@@ -63,7 +62,7 @@ pub extern "C" fn probe_go_on(
 pub extern "C" fn probe_look(state: &[u64], res: &mut [u64]) -> u32
     ensures number { result ≡ look_number state.now }
     ensures res { res.new ≡ laid
-        (totals_values (ran_answer result (look_of (walk_of state.now)))) res.old }
+        (values_or_zeros 3 result (totals_values (look_of (walk_of state.now)))) res.old }
 {
     host_panel::look(state, res)
 }
@@ -72,7 +71,7 @@ pub extern "C" fn probe_look(state: &[u64], res: &mut [u64]) -> u32
 pub extern "C" fn probe_look_pair(state: &[u64], v: u64, w: u64, res: &mut [u64]) -> u32
     ensures number { result ≡ look_pair_number state.now v w }
     ensures res { res.new ≡ laid
-        (bounds_values (pair_answer result (look_pair_of (walk_of state.now) v w))) res.old }
+        (values_or_zeros 2 result (bounds_values (look_pair_of (walk_of state.now) v w))) res.old }
 {
     host_panel::look_pair(state, v, w, res)
 }

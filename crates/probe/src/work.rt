@@ -4,8 +4,8 @@ ghost use Rattle.plan.specs.LentLists.{plan_of_lists, in_words};
 ghost use Rattle.plan.specs.Calls.{filled};
 ghost use Rattle.windows.specs.Windows.{taken_out};
 ghost use Rattle.bounds.specs.Bounds.{lower_list, upper_list};
-ghost use Rattle.bounds.specs.Calls.{totals_of, ran_answer, run_at_number};
-ghost use Rattle.host_answers.specs.Laid.{laid};
+ghost use Rattle.bounds.specs.Calls.{totals_of, run_at_number};
+ghost use Rattle.host_answers.specs.Laid.{laid, values_or_zeros};
 ghost use Rattle.host_answers.specs.Answers.{header_with, totals_values};
 
 use crate::header;
@@ -34,7 +34,7 @@ pub extern "C" fn probe_run_at(
     ensures uppers { upper.new ≡ filled result (upper_list (taken_out windows.now minute)
         (plan_of_lists (header_with nodes links_count events_count threshold cap) links.now events.now))
         upper.old }
-    ensures res { res.new ≡ laid (totals_values (ran_answer result (totals_of
+    ensures res { res.new ≡ laid (values_or_zeros 3 result (totals_values (totals_of
         (plan_of_lists (header_with nodes links_count events_count threshold cap) links.now events.now))))
         res.old }
 {

@@ -1,14 +1,13 @@
 -- `probe::probe_write` meets its contract: the answer of the call is handed out. Assumes nothing.
-use mathlib.Core.Path.{refl}
-use Rattle.plan.proofs.AnswerLaws.{written-number}
+use mathlib.Core.Path.{◌∙◌, sym}
+use Rattle.host_answers.specs.Answers.{size_values}
+use Rattle.host_answers.proofs.GivenLaws.{laid-is}
 use Rattle.probe.proofs.probe_write.Goals as goal
 
 pub returns : goal.returns
 returns c =
-    let same = c.header-h.ensures in
-    let e = rw same at c.write.ensures.value in
-    let n = rw (e, written-number) at c.give_size.ensures.number in rw n (record {
-      number = refl;
-      out = rw (same, e, written-number) at c.write.ensures.out_after;
-      size = rw e at c.give_size.ensures.size;
-    })
+    record {
+      number = c.give_size.ensures.number ∙ (rw c.header-h.ensures at c.write.ensures.number);
+      out = rw c.give_size.ensures.number (rw c.header-h.ensures at c.write.ensures.out_after);
+      size = c.give_size.ensures.size ∙ laid-is size_values 1 c.write.result _ _ c.args.size.now (rw c.header-h.ensures at c.write.ensures.size) c.give_size.ensures.number;
+    }

@@ -1,14 +1,14 @@
 -- `probe::by_records::probe_run_plan` meets its contract: the answer of the call is handed out. Assumes nothing.
-use mathlib.Core.Path.{refl}
-use Rattle.bounds.proofs.Answers.{ran-number}
+use mathlib.Core.Path.{◌∙◌, sym}
+use Rattle.host_answers.specs.Answers.{totals_values}
+use Rattle.host_answers.proofs.GivenLaws.{laid-is}
 use Rattle.probe.proofs.by_records.probe_run_plan.Goals as goal
 
 pub returns : goal.returns
 returns c =
-    let e = c.run_plan.ensures.answer in
-    let n = rw (e, ran-number) at c.give_totals.ensures.number in rw n (record {
-      number = refl;
-      lowers = rw (e, ran-number) at c.run_plan.ensures.lowers;
-      uppers = rw (e, ran-number) at c.run_plan.ensures.uppers;
-      res = rw e at c.give_totals.ensures.res;
-    })
+    record {
+      number = c.give_totals.ensures.number ∙ c.run_plan.ensures.number;
+      lowers = rw c.give_totals.ensures.number (c.run_plan.ensures.lowers);
+      uppers = rw c.give_totals.ensures.number (c.run_plan.ensures.uppers);
+      res = c.give_totals.ensures.res ∙ laid-is totals_values 3 c.run_plan.result _ _ c.args.res.now (c.run_plan.ensures.totals) c.give_totals.ensures.number;
+    }

@@ -1,12 +1,12 @@
 -- `probe::further::probe_witness` meets its contract: the answer of the call is handed out. Assumes nothing.
-use Rattle.readings.proofs.NumberLaws.{witnessed-number}
+use mathlib.Core.Path.{◌∙◌, sym}
+use Rattle.host_readings.specs.FurtherAnswers.{failing_values}
+use Rattle.host_answers.proofs.GivenLaws.{laid-is}
 use Rattle.probe.proofs.further.probe_witness.Goals as goal
 
 pub returns : goal.returns
 returns c =
-    let same = c.header-h.ensures in
-    let e = rw same at c.witness.ensures.answer in
     record {
-      number = rw (e, witnessed-number) at c.give_failing.ensures.number;
-      res = rw e at c.give_failing.ensures.res;
+      number = c.give_failing.ensures.number ∙ (rw c.header-h.ensures at c.witness.ensures.number);
+      res = c.give_failing.ensures.res ∙ laid-is failing_values 2 c.witness.result _ _ c.args.res.now (rw c.header-h.ensures at c.witness.ensures.set) c.give_failing.ensures.number;
     }
