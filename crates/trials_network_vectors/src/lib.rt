@@ -28,11 +28,7 @@ pub fn links(bytes: &[u8]) -> [u8; 256]
 pub fn failed(nodes: u64, low: u64, high: u64) -> Failed
     ensures { result ≡ record { nodes = nodes; low = low; high = high } }
 {
-    Failed {
-        nodes: nodes,
-        low: low,
-        high: high,
-    }
+    Failed { nodes, low, high }
 }
 
 // Whether no test of a plan refuses the counts and the links.
@@ -47,5 +43,5 @@ pub fn held(n: usize, links: &[u8; 256], count: usize) -> bool
         threshold: 1,
         cap: 1,
     };
-    plan_lists::lists_refusal(h, links, &words) == 0
+    plan_lists::lists_refusal(h, links, &words).is_ok()
 }
