@@ -62,7 +62,7 @@ fn reach_values(found: Reach) -> [u64; 2]
 }
 
 // The set that node v reaches and the number of rounds, laid down in a lent list as far as it has room: 0, 0 where the call refuses. What has
-// failed is lent as three words: a set of nodes, and a set of links in two.
+// failed is three words: a set of nodes, and a set of links in two.
 pub fn reach(
     nodes: u64,
     count: u64,

@@ -17,8 +17,8 @@ pub struct CommonHeader {
     pub cap: u64,
 }
 
-// What the call answers: for each of 16 places, the examined count, complete (1 or 0) and E. Three arrays, since the export and the
-// computed example list the counts, the flags and the masses each by itself.
+// What the call answers: for each of 16 places, the examined count, complete (1 or 0) and E. Three arrays, since the definition `answer_of`
+// has a list of the counts, one of the flags and one of the masses.
 #[derive(Clone, Copy)]
 pub struct Answered {
     pub count: [u64; 16],

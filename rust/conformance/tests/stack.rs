@@ -1,6 +1,5 @@
 //! Every call on a thread with three quarters of the stack that the header for C names, so that the size is at least a third
-//! above what a call takes; `go_on`, which the archive for C does not have, with four fifths, a quarter above. A call that takes
-//! more ends the program, with the name of the call.
+//! above what a call takes. A call that takes more ends the program, with the name of the call.
 
 use account::credit::Contract;
 use account::file::layout;
@@ -21,14 +20,9 @@ fn stack() -> usize {
 
 /// Makes a call, which is to be accepted, on a thread of its own.
 fn accepted(call: &str, make: impl FnOnce() -> u32 + Send) {
-    accepted_within(stack() / 4 * 3, call, make);
-}
-
-/// Makes a call, which is to be accepted, on a thread of its own with a stack of that size.
-fn accepted_within(size: usize, call: &str, make: impl FnOnce() -> u32 + Send) {
     std::thread::scope(|scope| {
         let thread = Builder::new().name(call.to_owned());
-        let thread = thread.stack_size(size).spawn_scoped(scope, make);
+        let thread = thread.stack_size(stack() / 4 * 3).spawn_scoped(scope, make);
         let answer = thread.expect("a thread").join();
         assert_eq!(answer.expect("an answer"), 0, "{call}");
     });
@@ -96,7 +90,7 @@ fn a_walk_in_steps() {
     let mut state = vec![0; panel::walk_words()];
     let (mut quota, mut reached, mut numbers) = ([10_000_000], [0], [0; 3]);
     accepted("begin", || panel::begin(&lent, &mut state));
-    accepted_within(stack() / 5 * 4, "go_on", || {
+    accepted("go_on", || {
         panel::go_on(&mut state, &mut quota, 100, &mut reached)
     });
     assert_eq!(reached, [100]);
