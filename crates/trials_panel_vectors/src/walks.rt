@@ -1,6 +1,6 @@
 // Holding a walk to another in every field.
 use std::io;
-use trials_vectors::{same_bytes, same_part, same_words};
+use trials_vectors::{same_list, same_part};
 use walk_state::Walk;
 
 // Holds the numbers of a walk's header to those of another.
@@ -15,15 +15,15 @@ fn same_header(rt: &impl Print, label: &[u8], got: Walk, want: Walk) -> io::Resu
 }
 
 fn same_links(rt: &impl Print, label: &[u8], got: [u8; 256], want: [u8; 256]) -> io::Result<()> {
-    same_bytes(rt, label, &got, &want)
+    same_list(rt, label, &got, &want)
 }
 
 fn same_events(rt: &impl Print, label: &[u8], got: [u64; 512], want: [u64; 512]) -> io::Result<()> {
-    same_words(rt, label, &got, &want)
+    same_list(rt, label, &got, &want)
 }
 
 fn same_sums(rt: &impl Print, label: &[u8], got: [u64; 2016], want: [u64; 2016]) -> io::Result<()> {
-    same_words(rt, label, &got, &want)
+    same_list(rt, label, &got, &want)
 }
 
 // Holds the lists of a plan that a walk has to those of another.

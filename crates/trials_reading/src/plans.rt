@@ -1,7 +1,7 @@
 // Plans that are read: document 01, "Plan file".
 use std::io;
 use trials_vectors::{
-    BYTE, WORD, accepted, header, large_events, large_file, many_links, same_bytes, same_words,
+    BYTE, WORD, accepted, header, large_events, large_file, many_links, same_list,
 };
 
 // The triangle of document 01: links 0-1, 0-2, 1-2, and an event with q = 1 for each. The lists are longer by two bytes and by five words.
@@ -14,13 +14,13 @@ pub fn triangle(rt: &impl Print) -> io::Result<()> {
         &mut events,
     );
     accepted(rt, b"read the triangle", answer, header(3, 3, 3, 1, 100))?;
-    same_bytes(
+    same_list(
         rt,
         b"read the triangle: links",
         &links,
         b"\x00\x01\x00\x02\x01\x02\xaa\xaa",
     )?;
-    same_words(
+    same_list(
         rt,
         b"read the triangle: events",
         &events,
@@ -57,8 +57,8 @@ pub fn wide_numbers(rt: &impl Print) -> io::Result<()> {
         answer,
         header(2, 1, 2, 72_623_859_790_382_856, 658_188),
     )?;
-    same_bytes(rt, b"read wide numbers: links", &links, b"\x00\x01")?;
-    same_words(
+    same_list(rt, b"read wide numbers: links", &links, b"\x00\x01")?;
+    same_list(
         rt,
         b"read wide numbers: events",
         &events,
@@ -77,25 +77,25 @@ pub fn large(rt: &impl Print) -> io::Result<()> {
         answer,
         header(64, 128, 2, 1_000_000_000_000_000_000, 1_000_000),
     )?;
-    same_bytes(
+    same_list(
         rt,
         b"read the large plan: links",
         &links[0..256],
         &many_links(),
     )?;
-    same_bytes(
+    same_list(
         rt,
         b"read the large plan: past the links",
         &links[256..258],
         b"\xaa\xaa",
     )?;
-    same_words(
+    same_list(
         rt,
         b"read the large plan: events",
         &events[0..8],
         &large_events(),
     )?;
-    same_words(
+    same_list(
         rt,
         b"read the large plan: past the events",
         &events[8..9],

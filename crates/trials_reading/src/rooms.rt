@@ -1,6 +1,6 @@
 // The room that the reader asks for: document 01, "Refused", 12 and its place.
 use std::io;
-use trials_vectors::{BYTE, WORD, all_bytes, all_words, refused};
+use trials_vectors::{BYTE, WORD, all_same, refused};
 
 // The triangle with lists that it is held to: 6 bytes and 12 words are due.
 fn into(
@@ -29,8 +29,8 @@ pub fn short_links(rt: &impl Print) -> io::Result<()> {
         &mut events,
         12,
     )?;
-    all_bytes(rt, b"read: 5 bytes for 3 links", &links, BYTE)?;
-    all_words(rt, b"read: the events beside 5 bytes", &events, WORD)
+    all_same(rt, b"read: 5 bytes for 3 links", &links, BYTE)?;
+    all_same(rt, b"read: the events beside 5 bytes", &events, WORD)
 }
 
 // 11 words for 3 events, which take 12.
@@ -44,8 +44,8 @@ pub fn short_events(rt: &impl Print) -> io::Result<()> {
         &mut events,
         12,
     )?;
-    all_bytes(rt, b"read: the links beside 11 words", &links, BYTE)?;
-    all_words(rt, b"read: 11 words for 3 events", &events, WORD)
+    all_same(rt, b"read: the links beside 11 words", &links, BYTE)?;
+    all_same(rt, b"read: 11 words for 3 events", &events, WORD)
 }
 
 pub fn exact_lists(rt: &impl Print) -> io::Result<()> {

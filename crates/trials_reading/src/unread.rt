@@ -1,6 +1,6 @@
 // What the reader refuses: document 01, "Plan file" and "Refused".
 use std::io;
-use trials_vectors::{BYTE, WORD, all_bytes, all_words, refused};
+use trials_vectors::{BYTE, WORD, all_same, refused};
 
 // A file that is refused with lists that have room for every plan: they are left as they were.
 fn kept(rt: &impl Print, label: &[u8], file: &[u8], want: u64) -> io::Result<()> {
@@ -12,8 +12,8 @@ fn kept(rt: &impl Print, label: &[u8], file: &[u8], want: u64) -> io::Result<()>
         plan_reading::read(file, &mut links, &mut events),
         want,
     )?;
-    all_bytes(rt, label, &links, BYTE)?;
-    all_words(rt, label, &events, WORD)
+    all_same(rt, label, &links, BYTE)?;
+    all_same(rt, label, &events, WORD)
 }
 
 pub fn refused_headers(rt: &impl Print) -> io::Result<()> {

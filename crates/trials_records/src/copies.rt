@@ -1,6 +1,6 @@
 // Copying a plan by way of records: what is accepted is copied byte for byte, and a refusal changes nothing.
 use std::io;
-use trials_vectors::{BYTE, all_bytes, large_file, same_bytes, written};
+use trials_vectors::{BYTE, all_same, large_file, same_list, written};
 
 // The triangle of document 01: 20 bytes, 6 for the links and 7 for each event. Three bytes are left over.
 pub fn triangle(rt: &impl Print) -> io::Result<()> {
@@ -10,7 +10,7 @@ pub fn triangle(rt: &impl Print) -> io::Result<()> {
         &mut out,
     );
     written(rt, b"copy the triangle", answer, 47)?;
-    same_bytes(
+    same_list(
         rt,
         b"the copied triangle",
         &out,
@@ -23,8 +23,8 @@ pub fn large(rt: &impl Print) -> io::Result<()> {
     let mut out = [BYTE; 304];
     let answer = record_runs::copy_plan(&large_file(), &mut out);
     written(rt, b"copy the large plan", answer, 302)?;
-    same_bytes(rt, b"the copied large plan", &out[0..302], &large_file())?;
-    same_bytes(
+    same_list(rt, b"the copied large plan", &out[0..302], &large_file())?;
+    same_list(
         rt,
         b"past the copied large plan",
         &out[302..304],
@@ -40,7 +40,7 @@ pub fn header_alone(rt: &impl Print) -> io::Result<()> {
         &mut out,
     );
     written(rt, b"copy a header", answer, 20)?;
-    same_bytes(
+    same_list(
         rt,
         b"the copied header",
         &out,
@@ -66,7 +66,7 @@ pub fn refused(rt: &impl Print) -> io::Result<()> {
         &mut out,
     );
     trials_vectors::refused(rt, b"copy a file with a byte too many", after, 11)?;
-    all_bytes(rt, b"after refused copies", &out, BYTE)
+    all_same(rt, b"after refused copies", &out, BYTE)
 }
 
 // 46 bytes of room for the 47 of the triangle.
@@ -77,5 +77,5 @@ pub fn short_output(rt: &impl Print) -> io::Result<()> {
         &mut out,
     );
     trials_vectors::refused(rt, b"copy the triangle into 46 bytes", answer, 12)?;
-    all_bytes(rt, b"after a copy without room", &out, BYTE)
+    all_same(rt, b"after a copy without room", &out, BYTE)
 }

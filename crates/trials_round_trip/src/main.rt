@@ -5,8 +5,7 @@
 
 use std::io;
 use trials_vectors::{
-    BYTE, WORD, accepted, full_events, header, large_file, many_links, same, same_bytes,
-    same_words, written,
+    BYTE, WORD, accepted, full_events, header, large_file, many_links, same, same_list, written,
 };
 
 fn main(rt: HostRuntime) -> io::Result<()> {
@@ -33,7 +32,7 @@ fn read_then_written(rt: &impl Print) -> io::Result<()> {
         plan_writing::write(h, &links, &events, &mut out),
         302,
     )?;
-    same_bytes(rt, b"what was read and written again", &out, &large_file())
+    same_list(rt, b"what was read and written again", &out, &large_file())
 }
 
 // The longest plan, 50,068 bytes (document 01): 20, 256 for the links, and 128 events of 5 bytes and 192 members. What is written reads
@@ -47,7 +46,7 @@ fn longest(rt: &impl Print) -> io::Result<()> {
         &mut out,
     );
     written(rt, b"write the longest plan", answer, 50_068)?;
-    same_bytes(rt, b"past the longest plan", &out[50_068..50_069], b"\xaa")?;
+    same_list(rt, b"past the longest plan", &out[50_068..50_069], b"\xaa")?;
     longest_read(rt, &out[0..50_068])
 }
 
@@ -61,6 +60,6 @@ fn longest_read(rt: &impl Print, file: &[u8]) -> io::Result<()> {
         answer,
         header(64, 128, 128, 1, 1),
     )?;
-    same_bytes(rt, b"the longest plan: links", &links, &many_links())?;
-    same_words(rt, b"the longest plan: events", &events, &full_events())
+    same_list(rt, b"the longest plan: links", &links, &many_links())?;
+    same_list(rt, b"the longest plan: events", &events, &full_events())
 }

@@ -7,7 +7,7 @@ mod with_windows;
 use bounds::Totals;
 use mass::Refusal;
 use std::io;
-use trials_vectors::{all_words, header, many_links, same, same_part};
+use trials_vectors::{all_same, header, many_links, same, same_part};
 
 fn main(rt: HostRuntime) -> io::Result<()> {
     halves(&rt, b"128 events of 1/2 at cap 1", 1)?;
@@ -57,8 +57,8 @@ fn halves(rt: &impl Print, label: &[u8], cap: u64) -> io::Result<()> {
         0,
         0,
     )?;
-    all_words(rt, label, &lower[0..2016], 0)?;
-    all_words(rt, label, &upper[0..2016], 1_000_000_000_000_000_000)?;
+    all_same(rt, label, &lower[0..2016], 0)?;
+    all_same(rt, label, &upper[0..2016], 1_000_000_000_000_000_000)?;
     same_part(rt, label, b"past the last pair", lower[2016], 7)?;
     same_part(rt, label, b"past the last pair", upper[2016], 7)
 }
@@ -113,6 +113,6 @@ fn short(rt: &impl Print) -> io::Result<()> {
         0,
         0,
     )?;
-    all_words(rt, b"12 leaves the short list", &two, 7)?;
-    all_words(rt, b"12 leaves the other list", &three, 7)
+    all_same(rt, b"12 leaves the short list", &two, 7)?;
+    all_same(rt, b"12 leaves the other list", &three, 7)
 }

@@ -1,7 +1,7 @@
 // The run with windows: document 02, request U7. A window is five words: start, end, nodes, links 0 to 63, links 64 to 127.
 use crate::totals;
 use std::io;
-use trials_vectors::{header, same_words};
+use trials_vectors::{header, same_list};
 
 const WHOLE: u64 = 1_000_000_000_000_000_000;
 
@@ -45,8 +45,8 @@ fn at(
         WHOLE,
     )?;
     let bounds = [first, second, third, 7];
-    same_words(rt, label, &lower, &bounds)?;
-    same_words(rt, label, &upper, &bounds)
+    same_list(rt, label, &lower, &bounds)?;
+    same_list(rt, label, &upper, &bounds)
 }
 
 // Nothing is out: no pair is ever cut off.

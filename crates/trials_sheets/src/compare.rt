@@ -4,7 +4,7 @@ ghost use Rattle.plan.specs.Calls.{filled};
 ghost use Rattle.sheets.specs.SheetCalls.{read_sheet_number, sheet_words};
 
 use std::io;
-use trials_vectors::{WORD, all_words, same_part};
+use trials_vectors::{WORD, all_same, same_part};
 
 // Holds a sheet to its number, by the check and by a reading into a list with room for every sheet. A refusal changes nothing.
 pub fn number(rt: &impl Print, label: &[u8], sheet: &[u8], want: u64) -> io::Result<()> {
@@ -14,7 +14,7 @@ pub fn number(rt: &impl Print, label: &[u8], sheet: &[u8], want: u64) -> io::Res
     let answer = sheets::read(sheet, &mut events);
     same_part(rt, label, b"read", sheets::number_in(answer) as u64, want)?;
     if want != 0 {
-        all_words(rt, label, &events, WORD)?;
+        all_same(rt, label, &events, WORD)?;
     }
     Ok(())
 }

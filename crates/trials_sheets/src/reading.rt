@@ -1,7 +1,7 @@
 // Sheets that are read: their events in order, wide numbers, and the room of a lent list.
 use crate::compare::counts;
 use std::io;
-use trials_vectors::{WORD, all_words, same_part, same_words};
+use trials_vectors::{WORD, all_same, same_list, same_part};
 
 // Three lines: 10 FIT, 2 hours, 3 km for link 0; 100, 1, 1 for node 2; 60, 1, 1 for node 0 and link 1. The products are 60, 100, 60: the
 // second comes first, and the first stays before the third. The list is longer by five words.
@@ -16,7 +16,7 @@ pub fn in_order(rt: &impl Print) -> io::Result<()> {
         2,
         3,
     )?;
-    same_words(
+    same_list(
         rt,
         b"in order",
         &events,
@@ -36,7 +36,7 @@ pub fn wide_numbers(rt: &impl Print) -> io::Result<()> {
         128,
         2,
     )?;
-    same_words(
+    same_list(
         rt,
         b"wide numbers",
         &events,
@@ -68,7 +68,7 @@ pub fn rooms(rt: &impl Print) -> io::Result<()> {
         sheets::number_in(answer) as u64,
         12,
     )?;
-    all_words(rt, b"7 words for 2 lines", &short, WORD)?;
+    all_same(rt, b"7 words for 2 lines", &short, WORD)?;
     let mut exact = [WORD; 8];
     counts(
         rt,
@@ -79,7 +79,7 @@ pub fn rooms(rt: &impl Print) -> io::Result<()> {
         0,
         2,
     )?;
-    same_words(
+    same_list(
         rt,
         b"8 words for 2 lines",
         &exact,

@@ -5,7 +5,7 @@ use mass::Refusal;
 use std::io;
 use thresholds::{Answered, CommonHeader};
 use trials_threshold_vectors::{answered, untouched};
-use trials_vectors::{WORD, same_part, same_words};
+use trials_vectors::{WORD, same_list, same_part};
 
 const WHOLE: u64 = 1_000_000_000_000_000_000;
 
@@ -76,6 +76,6 @@ pub fn no_event(rt: &impl Print, label: &[u8]) -> io::Result<()> {
     at(rt, label, a, 1, 1, 1, WHOLE)?;
     answered(rt, label, a, 2)?;
     let want = [0u64, WHOLE, WHOLE, 0, WHOLE, WHOLE];
-    same_words(rt, label, &lower, &want)?;
-    same_words(rt, label, &upper, &want)
+    same_list(rt, label, &lower, &want)?;
+    same_list(rt, label, &upper, &want)
 }

@@ -5,7 +5,7 @@
 use mass::Refusal;
 use plan::Header;
 use std::io;
-use trials_vectors::{header, many_links, same, same_part, same_words};
+use trials_vectors::{header, many_links, same, same_list, same_part};
 
 fn main(rt: HostRuntime) -> io::Result<()> {
     equal(&rt)?;
@@ -51,7 +51,7 @@ fn listed(
 ) -> io::Result<()> {
     let answer = topology_list::topologies(h, links, events, list);
     answered(rt, label, answer, number, count)?;
-    same_words(rt, label, list, want)
+    same_list(rt, label, list, want)
 }
 
 // One link, an event of 1/2 on it, and an event of 1/2 without members. Both work, or only the second fails: the link works, 1/4 and 1/4.

@@ -1,5 +1,6 @@
 // Comparing a result with what it should be.
 
+use std::fmt::Display;
 use std::io;
 
 // Prints the label and both numbers where they differ.
@@ -28,12 +29,17 @@ pub fn same_part(
     Ok(())
 }
 
-// The same for the element of a list at a position.
-pub fn same_at(rt: &impl Print, label: &[u8], at: usize, got: u64, want: u64) -> io::Result<()> {
+// The same for the item of a list at a position.
+pub fn same_at<T: Copy + PartialEq + Display>(
+    rt: &impl Print,
+    label: &[u8],
+    at: usize,
+    got: T,
+    want: T,
+) -> io::Result<()> {
     if got != want {
         rt.write_all(label)?;
-        print!(rt; ", at {at}")?;
-        differ(rt, got, want)?;
+        println!(rt; ", at {at}: got {got}, expected {want}")?;
     }
     Ok(())
 }
@@ -42,21 +48,13 @@ fn differ(rt: &impl Print, got: u64, want: u64) -> io::Result<()> {
     println!(rt; ": got {got}, expected {want}")
 }
 
-fn wide(x: u8) -> u64 {
-    x as u64
-}
-
-// Holds a list of bytes to another, the lengths too.
-pub fn same_bytes(rt: &impl Print, label: &[u8], got: &[u8], want: &[u8]) -> io::Result<()> {
-    same_part(rt, label, b"length", got.len() as u64, want.len() as u64)?;
-    for (i, (found, wanted)) in got.iter().zip(want).enumerate() {
-        same_at(rt, label, i, wide(*found), wide(*wanted))?;
-    }
-    Ok(())
-}
-
-// Holds a list of words to another, the lengths too.
-pub fn same_words(rt: &impl Print, label: &[u8], got: &[u64], want: &[u64]) -> io::Result<()> {
+// Holds a list to another, the lengths too.
+pub fn same_list<T: Copy + PartialEq + Display>(
+    rt: &impl Print,
+    label: &[u8],
+    got: &[T],
+    want: &[T],
+) -> io::Result<()> {
     same_part(rt, label, b"length", got.len() as u64, want.len() as u64)?;
     for (i, (found, wanted)) in got.iter().zip(want).enumerate() {
         same_at(rt, label, i, *found, *wanted)?;
@@ -64,16 +62,13 @@ pub fn same_words(rt: &impl Print, label: &[u8], got: &[u64], want: &[u64]) -> i
     Ok(())
 }
 
-// Holds every byte of a list to one value.
-pub fn all_bytes(rt: &impl Print, label: &[u8], got: &[u8], want: u8) -> io::Result<()> {
-    for (i, found) in got.iter().enumerate() {
-        same_at(rt, label, i, wide(*found), wide(want))?;
-    }
-    Ok(())
-}
-
-// Holds every word of a list to one value.
-pub fn all_words(rt: &impl Print, label: &[u8], got: &[u64], want: u64) -> io::Result<()> {
+// Holds every item of a list to one value.
+pub fn all_same<T: Copy + PartialEq + Display>(
+    rt: &impl Print,
+    label: &[u8],
+    got: &[T],
+    want: T,
+) -> io::Result<()> {
     for (i, found) in got.iter().enumerate() {
         same_at(rt, label, i, *found, want)?;
     }

@@ -18,11 +18,11 @@ pub fn header(nodes: u64, links: u64, events: u64, threshold: u64, cap: u64) -> 
     ensures { result ≡ record { nodes = nodes; links = links; events = events; threshold = threshold; cap = cap } }
 {
     Header {
-        nodes: nodes,
-        links: links,
-        events: events,
-        threshold: threshold,
-        cap: cap,
+        nodes,
+        links,
+        events,
+        threshold,
+        cap,
     }
 }
 

@@ -5,7 +5,7 @@
 mod compare;
 mod data;
 
-pub use compare::{all_bytes, all_words, same, same_at, same_bytes, same_part, same_words};
+pub use compare::{all_same, same, same_at, same_list, same_part};
 pub use data::{
     BYTE, WORD, accepted, full_events, header, large_events, large_file, many_links, refused,
     written,

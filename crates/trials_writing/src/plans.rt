@@ -1,6 +1,6 @@
 // Plans that are written: document 01, "Plan file".
 use std::io;
-use trials_vectors::{BYTE, header, large_events, large_file, many_links, same_bytes, written};
+use trials_vectors::{BYTE, header, large_events, large_file, many_links, same_list, written};
 
 // The triangle of document 01: 20 bytes, 6 for the links and 7 for each event. Three bytes are left over.
 pub fn triangle(rt: &impl Print) -> io::Result<()> {
@@ -12,7 +12,7 @@ pub fn triangle(rt: &impl Print) -> io::Result<()> {
         &mut out,
     );
     written(rt, b"write the triangle", answer, 47)?;
-    same_bytes(
+    same_list(
         rt,
         b"the written triangle",
         &out,
@@ -30,8 +30,8 @@ pub fn large(rt: &impl Print) -> io::Result<()> {
         &mut out,
     );
     written(rt, b"write the large plan", answer, 302)?;
-    same_bytes(rt, b"the written large plan", &out[0..302], &large_file())?;
-    same_bytes(
+    same_list(rt, b"the written large plan", &out[0..302], &large_file())?;
+    same_list(
         rt,
         b"past the written large plan",
         &out[302..304],
@@ -62,7 +62,7 @@ pub fn past_the_counts(rt: &impl Print) -> io::Result<()> {
     );
     // the event has q = 5, node 0 and link 0
     written(rt, b"write one link and one event of more", answer, 31)?;
-    same_bytes(
+    same_list(
         rt,
         b"the written one link and one event",
         &out,
@@ -80,7 +80,7 @@ pub fn header_alone(rt: &impl Print) -> io::Result<()> {
         &mut out,
     );
     written(rt, b"write a header alone", answer, 20)?;
-    same_bytes(
+    same_list(
         rt,
         b"the written header alone",
         &out,

@@ -1,7 +1,7 @@
 // What the writer refuses: document 01, "Refused". The output is left as it was.
 use plan::Header;
 use std::io;
-use trials_vectors::{BYTE, all_bytes, header, large_events, many_links};
+use trials_vectors::{BYTE, all_same, header, large_events, many_links};
 
 // Holds the answer of a writing to the number of a refusal, and the output to the pattern.
 fn refused_into(
@@ -15,7 +15,7 @@ fn refused_into(
 ) -> io::Result<()> {
     let answer = plan_writing::write(h, links, events, out);
     trials_vectors::refused(rt, label, answer, want)?;
-    all_bytes(rt, label, out, BYTE)
+    all_same(rt, label, out, BYTE)
 }
 
 // The same with an output that has room for each of these plans.
