@@ -4,9 +4,10 @@ use mathlib.Core.Path.{◌≡◌, refl, sym, ap, ◌∙◌}
 use mathlib.Core.List.{List, [], ◌∷◌, ◌++◌, append-nil, append_assoc}
 use Prim.Native.Nat.{ℕ, zero, suc, ◌+◌, ◌-◌, ◌≤◌, ◌<◌}
 use native.Mathlib.Nat.{add-zero, zero-add}
+use native.Mathlib.Numerals.{add-one}
 use native.Mathlib.Omega.{arith}
 use lib.ListN.{length, get_or, take, drop, set, length-drop}
-use lib.Seq.{sets, sets-eq, take_all, drop-length, length-take-le, get_or-drop, drop-drop}
+use lib.Seq.{sets, sets-eq, take_all, drop-length, length-take-le, get_or-drop, drop-drop, take-suc}
 use Rattle.mass.specs.Refusal.{first}
 use Rattle.mass.specs.Refusal.{number}
 use Rattle.mass.specs.declared.refusal.Refusal.{Refusal}
@@ -19,16 +20,23 @@ use Rattle.refusals.specs.Tests.{ends_test, order_test, sets_test}
 use Rattle.plan.specs.LentLists.{link_list_refusal, event_list_refusal}
 
 -- storing a, then b after it
-pub sets-append : (a b l : List ℕ) (i : ℕ) → sets l i (a ++ b) ≡ sets (sets l i a) (i + length a) b
-sets-append [] b l i = rw add-zero
-sets-append (x ∷ a) b l i =
-    sets-append a b (set l i x) (suc i) ∙ ap (λ (n : ℕ). sets (sets (set l i x) (suc i) a) n b) (shift i (length a))
+pub sets-append : {A : Type 0} (a b l : List A) (i : ℕ) → sets l i (a ++ b) ≡ sets (sets l i a) (i + length a) b
+sets-append {A = A} [] b l i = rw add-zero
+sets-append {A = A} (x ∷ a) b l i =
+    sets-append {A = A} a b (set l i x) (suc i) ∙ ap (λ (n : ℕ). sets (sets (set l i x) (suc i) a) n b) (shift i (length a))
   where
     shift : (n m : ℕ) → suc n + m ≡ n + suc m
     shift n m = omega arith
 
 pub sets_then : (a b l l' : List ℕ) (i i' : ℕ) → l' ≡ sets l i a → i' ≡ i + length a → sets l' i' b ≡ sets l i (a ++ b)
 sets_then a b l l' i i' e n = rw (e, n) (sym (sets-append a b l i))
+
+-- the next of the first elements of a list, stored where the elements before it end
+pub copy-item : {A : Type 0} (from to out : List A) (at i : ℕ) (x : A) → out ≡ sets to at (take i from) → x ≡ get_or from i x → i < length from
+    → set out (at + i) x ≡ sets to at (take (i + 1) from)
+copy-item {A = A} from to out at i x e r h =
+    let n : length (take i from) ≡ i = length-take-le i from (omega arith) in
+    rw (e, add-one, take-suc from i x h, sets-append, n) (ap (λ (y : A). set (sets to at (take i from)) (at + i) y) r)
 
 -- a part of a list, with the first elements of another in its place
 pub part-laid : {A : Type 0} (from to new : List A) (at count : ℕ) → count ≤ length from → at + count ≤ length to → new ≡ take count from

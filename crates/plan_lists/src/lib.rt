@@ -14,12 +14,15 @@ ghost use Rattle.plan_lists.specs.Taken.{Taken};
 use mass::Refusal;
 use plan::{Header, byte_at};
 
-// Lays the first `count` items of a list down from a position on.
+// Lays the first `count` items of a list down from a position on. By a loop: with `copy_from_slice` the probe's archive asks for `memmove`.
 pub fn copy_first<T: Copy>(from: &[T], to: &mut [T], at: usize, count: usize)
     requires { (count ≤ length from.now) × (at + count ≤ length to.old) }
     ensures { to.new ≡ sets to.old at (take count from.now) }
 {
-    to[at..at + count].copy_from_slice(&from[..count]);
+    // The first i items are laid down, and no others.
+    for i in 0..count {
+        to[at + i] = from[i];
+    }
 }
 
 // Takes the first bytes and words of lent lists into the arrays, and says how long the arrays are.

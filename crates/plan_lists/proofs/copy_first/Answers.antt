@@ -1,6 +1,12 @@
--- `plan_lists::copy_first` meets its contract. Assumes nothing.
-use Rattle.plan_lists.proofs.ListLaws.{part-laid}
+-- `plan_lists::copy_first` meets its contract: the loop has laid down the items before i. Assumes nothing.
+use native.Mathlib.Omega.{arith}
+use Prim.Native.Nat.{◌<◌}
+use lib.ListN.{length}
+use Rattle.plan_lists.proofs.ListLaws.{copy-item}
 use Rattle.plan_lists.proofs.copy_first.Goals as goal
 
-pub returns : goal.returns
-returns g c = part-laid c.args.from.now c.args.to.now _ c.args.at c.args.count c.requires.0 c.requires.1 c.copy_from_slice.ensures.after
+pub loop-i-preserved : goal.loop-i-preserved
+loop-i-preserved g c =
+    let a = c.args in
+    let h : c.loop-i.i < length a.from.now = omega (arith, c.requires.0) in
+    copy-item a.from.now a.to.now c.loop-i.to a.at c.loop-i.i c.index-from-i.result c.loop-i.invariant c.index-from-i.is h
