@@ -66,6 +66,10 @@ pub fn straight(count: u64, threshold: u64, events: &[u64; 512], depth: u64, mas
     requires { (count ≤ 128) × (depth ≤ count) × (mass ≤ whole) × Falling certain (events_of count events.now) }
     ensures { Stopped count threshold events.now depth mass result }
 {
+    // A path that stops at once needs no parts.
+    if mass < threshold {
+        return Stop { depth, mass };
+    }
     let mut m = parted(mass);
     // From depth d and mass m the "works" path stops where it stops from the start, and m is in two parts.
     for d in depth..count {

@@ -131,7 +131,10 @@ pub fn put(stack: &mut [u64], at: usize, words: &[u64])
     requires { at + length words.now ≤ length stack.old }
     ensures { stack.new ≡ sets stack.old at words.now }
 {
-    stack[at..at + words.len()].copy_from_slice(words);
+    // The first i words are laid down, and no others.
+    for i in 0..words.len() {
+        stack[at + i] = words[i];
+    }
 }
 
 // Begins a walk at the root, with no event decided and one whole: the only branch on the stack. Returns where the stack begins.

@@ -2,8 +2,12 @@
 -- is in two parts. Assumes nothing.
 use mathlib.Core.Path.{refl}
 use native.Mathlib.Omega.{arith}
-use Rattle.walk.proofs.Descents.{probable, path-stopped, path-ended, path-further}
+use Rattle.walk.proofs.Descents.{probable, path-begun, path-stopped, path-ended, path-further}
 use Rattle.walk.proofs.ahead.straight.Goals as goal
+
+pub returns-then-mass-threshold : goal.returns-then-mass-threshold
+returns-then-mass-threshold c =
+    path-stopped _ _ c.requires.3 _ _ _ _ _ (path-begun _ _ _ _ _ _ refl c.requires.1 c.requires.2) c.if-mass-threshold.true
 
 pub returns-then-m-threshold : goal.returns-then-m-threshold
 returns-then-m-threshold c = path-stopped _ _ c.requires.3 _ _ _ _ _ c.loop-d.invariant.0 c.if-m-threshold.true
