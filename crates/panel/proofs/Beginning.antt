@@ -1,6 +1,6 @@
 -- A walk that begins: it has reached no end of its plan.
 -- Assumes nothing.
-use mathlib.Core.Path.{◌≡◌, refl, sym, ap, subst, ◌∙◌}
+use mathlib.Core.Path.{◌≡◌, refl, ap, ◌∙◌}
 use mathlib.Core.List.{List, [], ◌∷◌}
 use Prim.Native.Nat.{ℕ, min}
 use native.Mathlib.Omega.{arith}
@@ -17,7 +17,6 @@ use Rattle.walk.proofs.Resume.{Alone, begun-alone, begun-stack, begun-whole, beg
 use Rattle.pairs.specs.Pairs.{place}
 use Rattle.bounds.proofs.Zeros.{cleared}
 use Rattle.panel.specs.Walks.{WalkAt, root_walk}
-use Rattle.walk_state.specs.States.{no_walk}
 use Rattle.walk_state.specs.declared.Walk.{Walk}
 
 -- an array of zeros
@@ -57,30 +56,3 @@ module _ (h : Header) (links events bytes words : List ℕ) (at : ℕ) (stack : 
         sums = record { sized = cleared.sized; below = λ i. omega (arith, cleared.zeros i); each = λ v w l k. cleared.zeros (place h.nodes v w) };
         pending = omega (arith, begun-mass 0 whole 0 0 at stack alone (omega arith));
       }
-
--- the same of a walk that was made from a walk of zeros
-module _ (h : Header) (links events bytes words : List ℕ) (at : ℕ) (stack : List ℕ) (zero : Walk) (z : zero ≡ no_walk) (b : Begun at zero.stack stack) where
-  abbrev made_from : Walk → Walk
-  made_from w =
-      record { header = h; links = bytes; events = words; stack = stack; sums = w.sums; at = at; reached = w.reached; count = w.count; mass = w.mass }
-
-  pub root_made : bytes ≡ sets zero.links 0 (take (min (length links) 256) links) → words ≡ sets zero.events 0 (take (min (length events) 512) events)
-      → made_from zero ≡ root_walk h links events
-  unfolding no_walk
-  root_made =
-      subst
-      (λ (w : Walk). Begun at w.stack stack → bytes ≡ sets w.links 0 (take (min (length links) 256) links)
-      → words ≡ sets w.events 0 (take (min (length events) 512) events)
-      → made_from w ≡ root_walk h links events)
-      (sym z)
-      (λ (x : Begun at (zeros 512) stack). is-root h links events bytes words at stack x)
-      b
-
-  pub begun_made : Taken h links events bytes words → WalkAt intact (plan_of_lists h links events) 0 (made_from zero)
-  unfolding no_walk
-  begun_made =
-      subst
-      (λ (w : Walk). Begun at w.stack stack → Taken h links events bytes words → WalkAt intact (plan_of_lists h links events) 0 (made_from w))
-      (sym z)
-      (λ (x : Begun at (zeros 512) stack). begun h links events bytes words at stack x)
-      b

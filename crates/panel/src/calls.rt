@@ -12,7 +12,7 @@ use crate::Quota;
 use bounds::Tally;
 use mass::Refusal;
 use plan::Header;
-use walk_state::{Walk, is_sound, no_walk};
+use walk_state::{Walk, is_sound};
 
 // Begins the walk of a plan in lent lists.
 pub fn begin(h: Header, links: &[u8], events: &[u64]) -> Result<Walk, Refusal>
@@ -21,11 +21,22 @@ pub fn begin(h: Header, links: &[u8], events: &[u64]) -> Result<Walk, Refusal>
     ensures begun { IfOk result (λ w.
         WalkAt intact (plan_of_lists h links.now events.now) 0 w) }
 {
-    let mut walk = no_walk();
-    walk.header = h;
-    plan_lists::accept(h, links, events, &mut walk.links, &mut walk.events)?;
-    walk.at = walk::begin(&mut walk.stack);
-    Ok(walk)
+    let mut bytes = [0u8; 256];
+    let mut words = [0u64; 512];
+    plan_lists::accept(h, links, events, &mut bytes, &mut words)?;
+    let mut stack = [0u64; 512];
+    let at = walk::begin(&mut stack);
+    Ok(Walk {
+        header: h,
+        links: bytes,
+        events: words,
+        stack,
+        sums: [0u64; 2016],
+        at,
+        reached: 0,
+        count: 0,
+        mass: 0,
+    })
 }
 
 // The quota at power-up: 10,000,000 ends.
