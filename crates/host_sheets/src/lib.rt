@@ -4,13 +4,15 @@
 #![tactic(auto)]
 
 ghost use Rattle.std.specs.Prelude.{◌≡◌};
+ghost use Rattle.mass.specs.Refusal.{number_in};
 ghost use Rattle.plan.specs.Calls.{filled};
 ghost use Rattle.sheets.specs.SheetFile.{sheet_refusal};
 ghost use Rattle.sheets.specs.SheetCalls.{counts_of, read_sheet_number, sheet_words};
-ghost use Rattle.host_answers.specs.Laid.{laid, values_or_zeros};
+ghost use Rattle.host_answers.specs.Laid.{laid, given, values_or_zeros};
 ghost use Rattle.host_sheets.specs.SheetAnswers.{counts_values};
 
 use host_answers::give;
+use mass::Refusal;
 use sheets::Counts;
 
 // The counts of a sheet: nodes, links and lines.
@@ -18,6 +20,15 @@ fn counts_values(c: Counts) -> [u64; 3]
     ensures { result ≡ counts_values c }
 {
     [c.nodes, c.links, c.lines]
+}
+
+// The counts of an answer, zeros where it is a refusal, and its number.
+fn give_counts(answer: Result<Counts, Refusal>, counts: &mut [u64]) -> u32
+    ensures number { result ≡ number_in answer }
+    ensures counts { counts.new ≡ laid (given counts_values 3 answer) counts.old }
+{
+    give(Ok(counts_values(sheets::counts_in(answer))), counts);
+    sheets::number_in(answer)
 }
 
 // Checks a sheet.
@@ -33,7 +44,7 @@ pub fn read(sheet: &[u8], events: &mut [u64], counts: &mut [u64]) -> u32
     ensures events { events.new ≡ filled result (sheet_words sheet.now) events.old }
     ensures counts { counts.new ≡ laid (values_or_zeros 3 result (counts_values (counts_of sheet.now))) counts.old }
 {
-    give(sheets::read(sheet, events).map(counts_values), counts)
+    give_counts(sheets::read(sheet, events), counts)
 }
 
 // The same by way of records.
@@ -42,8 +53,5 @@ pub fn read_by_records(sheet: &[u8], events: &mut [u64], counts: &mut [u64]) -> 
     ensures events { events.new ≡ filled result (sheet_words sheet.now) events.old }
     ensures counts { counts.new ≡ laid (values_or_zeros 3 result (counts_values (counts_of sheet.now))) counts.old }
 {
-    give(
-        sheet_records::read_by_records(sheet, events).map(counts_values),
-        counts,
-    )
+    give_counts(sheet_records::read_by_records(sheet, events), counts)
 }
