@@ -1,10 +1,11 @@
--- Laws of the check of a sheet: the tests 17 and 18, one step of the loop over lines from a position on, and what acceptance says of
--- the bytes that are there.
+-- Laws of the check of a sheet: the product of three numbers, the tests 17 and 18, one step of the loop over lines from a position on, and
+-- what acceptance says of the bytes that are there.
 -- Assumes nothing.
 use mathlib.Core.Path.{◌≡◌, refl, sym, ◌∙◌, ap}
 use mathlib.Core.List.{List, [], ◌∷◌}
-use Prim.Native.Nat.{ℕ, zero, suc, ◌+◌, ◌-◌, ◌*◌, ◌≤◌, ◌<◌}
-use native.Mathlib.Nat.{not-suc-le-zero}
+use Prim.Native.Nat.{ℕ, zero, suc, ◌+◌, ◌-◌, ◌*◌, ◌≤◌, ◌<◌, min}
+use native.Mathlib.Nat.{not-suc-le-zero, min-eq_left, min-eq_right, mul-le-mul_right, mul-zero}
+use native.Mathlib.Decide.{dec_le}
 use native.Mathlib.Omega.{arith}
 use borrow.Author.Tests.{ltb-false, le-ltb}
 use lib.ListN.{length, get_or, take, drop}
@@ -21,6 +22,22 @@ use Rattle.plan.proofs.FileLawsAccepted.{enough, short-fits, members-fit}
 use Rattle.sheets.specs.Sheet.{unavailability}
 use Rattle.sheets.specs.SheetFile.{product_test, lines_test, lines_in, sheet_header_refusal, fit_in, hours_in, extent_in, line_size, line_refusal}
 use Rattle.sheets.specs.SheetFile.{lines_refusal, line_in, sheet_refusal}
+
+-- ---- the product
+
+-- a product that is cut at 10^9 + 1 after its first factor is cut there as a whole
+pub bounded-again : (x e : ℕ) → min (min x (certain + 1) * e) (certain + 1) ≡ min (x * e) (certain + 1)
+bounded-again x e = go (dec_le x (certain + 1)) e
+  where
+    go : Dec (x ≤ certain + 1) → (e : ℕ) → min (min x (certain + 1) * e) (certain + 1) ≡ min (x * e) (certain + 1)
+    go (yes h) e = ap (λ (y : ℕ). min (y * e) (certain + 1)) (min-eq_left h)
+    go (no h) zero =
+        ap (λ (y : ℕ). min y (certain + 1)) (mul-zero (min x (certain + 1)) ∙ sym (mul-zero x))
+    go (no h) (suc e) =
+        let m : min x (certain + 1) ≡ certain + 1 = min-eq_right (omega arith) in
+        ap (λ (y : ℕ). min (y * suc e) (certain + 1)) m
+        ∙ min-eq_right (omega arith)
+        ∙ sym (min-eq_right (omega (arith, mul-le-mul_right {m = certain + 1} {n = x} (suc e) (omega arith))))
 
 -- ---- the tests 17 and 18
 
