@@ -12,11 +12,11 @@ use Rattle.mass.proofs.RefusalLaws.{number-some}
 use Rattle.host_answers.specs.Laid.{laid, given, values_in, values_or_zeros}
 
 -- law: an answer whose values are made by a function has the values of that function
-pub values-made : {T : Type 0} (f : T → List ℕ) (count : ℕ) (answer : Result T Refusal) (made : Result (List ℕ) Refusal)
+pub values_made : {T : Type 0} (f : T → List ℕ) (count : ℕ) (answer : Result T Refusal) (made : Result (List ℕ) Refusal)
     → MatchResult answer (λ x. IsOkAnd made (λ y. y ≡ f x)) (λ e. made ≡ Err e) → values_in count made ≡ given f count answer
-values-made f count (Ok x) (Ok y) e = e
-values-made f count (Ok x) (Err r) e = absurd e
-values-made f count (Err r) made e = ap (values_in count) e
+values_made f count (Ok x) (Ok y) e = e
+values_made f count (Ok x) (Err r) e = absurd e
+values_made f count (Err r) made e = ap (values_in count) e
 
 -- law: the values of an answer by its number, and by what it gives
 pub given-is : {T : Type 0} (f : T → List ℕ) (count : ℕ) (answer : Result T Refusal) (x : T) → IfOk answer (λ y. y ≡ x)
@@ -46,5 +46,5 @@ pub laid-given : {T : Type 0} (f : T → List ℕ) (count : ℕ) (answer : Resul
     → MatchResult answer (λ y. IsOkAnd made (λ values. values ≡ f y)) (λ e. made ≡ Err e) → IfOk answer (λ y. y ≡ x) → n ≡ number_in made
     → laid (values_in count made) list ≡ laid (values_or_zeros count n (f x)) list
 laid-given f count answer made x n list m e k =
-    ap (λ (values : List ℕ). laid values list) (values-made f count answer made m)
+    ap (λ (values : List ℕ). laid values list) (values_made f count answer made m)
     ∙ laid-is f count answer x n list e (k ∙ made-number f answer made m)

@@ -1,4 +1,6 @@
 // The answers of reading, writing, the run and the bounds of a pair.
+#![tactic(auto, using(crate::proofs::GivenLaws::values_made))]
+
 ghost use Rattle.std.specs.Prelude.{◌≡◌};
 ghost use Rattle.mass.specs.Refusal.{number_in};
 ghost use Rattle.host_answers.specs.Laid.{laid, given};

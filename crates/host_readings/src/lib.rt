@@ -27,6 +27,7 @@ fn entries_values(count: usize) -> [u64; 1]
 }
 
 // How many entries the topology list has.
+#[tactic(auto, using(host_answers::proofs::GivenLaws::values_made))]
 pub fn give_entries(answer: Result<usize, Refusal>, res: &mut [u64]) -> u32
     ensures number { result ≡ number_in answer }
     ensures res { res.new ≡ laid (given entries_values 1 answer) res.old }
@@ -46,6 +47,7 @@ fn figure_values(figure: Option<Shares>) -> [u64; 3]
 }
 
 // A figure as 1 and the bits of its two floats; where there is none, three zeros.
+#[tactic(auto, using(host_answers::proofs::GivenLaws::values_made))]
 pub fn give_figure(answer: Result<Option<Shares>, Refusal>, bits: &mut [u64]) -> u32
     requires { IfOk answer (λ f. Numbers (floats_in f)) }
     ensures number { result ≡ number_in answer }
@@ -76,6 +78,7 @@ fn failing_values(set: Failing) -> [u64; 2]
 }
 
 // The two words of the set of failing events.
+#[tactic(auto, using(host_answers::proofs::GivenLaws::values_made))]
 pub fn give_failing(answer: Result<Failing, Refusal>, res: &mut [u64]) -> u32
     ensures number { result ≡ number_in answer }
     ensures res { res.new ≡ laid (given failing_values 2 answer) res.old }

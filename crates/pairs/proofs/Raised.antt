@@ -30,9 +30,9 @@ raise-at from to out start rest i h l e =
     rw (here, more) at (raise-next from to out start rest (i - start) e (omega arith))
 
 -- a part filled with zeros
-pub zeros-laid : (list zeros : List ℕ) (count : ℕ) → count ≤ length list → zeros ≡ replicate (length (take count list)) 0
+pub zeros_laid : (list zeros : List ℕ) (count : ℕ) → count ≤ length list → zeros ≡ replicate (length (take count list)) 0
     → zeros ++ drop count list ≡ sets list 0 (replicate count 0)
-zeros-laid list zeros count h e =
+zeros_laid list zeros count h e =
     let n = length-replicate {A = ℕ} count 0 in
     let room : 0 + length (replicate {A = ℕ} count 0) ≤ length list = omega (arith, n) in
     rw (sets-eq (replicate count 0) list 0 room, n, zero-add, e, length-take-le count list h)

@@ -8,6 +8,7 @@ ghost use Rattle.pairs.specs.BoundsFit.{BoundsFit};
 use crate::places::pair_count;
 
 // Lays zeros down in the first `count` entries.
+#[tactic(auto, using(crate::proofs::Raised::zeros_laid))]
 pub fn clear(list: &mut [u64], count: usize)
     requires { count ≤ length list.old }
     ensures { list.new ≡ sets list.old 0 (replicate count 0) }

@@ -1,6 +1,6 @@
 -- Laws of the reader's steps: where the position stays, the rank of a member, and one turn of the loop that reads members by steps.
 -- Assumes nothing.
-use mathlib.Core.Path.{◌≡◌, refl}
+use mathlib.Core.Path.{◌≡◌, refl, ◌∙◌}
 use mathlib.Core.List.{List, [], ◌∷◌}
 use Prim.Native.Nat.{ℕ, zero, suc, ◌+◌, ◌-◌, ◌*◌, ◌≤◌, ◌<◌}
 use native.Mathlib.Nat.{add-zero, not-suc-le-zero}
@@ -10,19 +10,27 @@ use lib.ListN.{length, get_or, drop, set}
 use lib.Seq.{drop-drop, get_or-drop, sets}
 use Rattle.mass.specs.Refusal.{number}
 use Rattle.mass.specs.declared.refusal.Refusal.{Refusal}
-use Rattle.mass.proofs.RefusalLaws.{number-some}
+use Rattle.mass.proofs.RefusalLaws.{number-some, first-stop}
 use Rattle.refusals.specs.Tests.{rank, count_of_kind}
-use Rattle.plan.specs.File.{member_refusal}
+use Rattle.plan.specs.File.{member_refusal, members_refusal}
 use Rattle.plan.proofs.FileLaws.{suc-sub-one}
 use Rattle.plan.proofs.FileLawsAccepted.{member-accepted}
+use Rattle.plan.proofs.FileLawsSteps.{members_step}
 use Rattle.record_reading.specs.Steps.{position_after, unless_refused, ranks_given}
 
 -- ---- a step
 
 -- where a member is refused the position stays
-pub stays : (r : Refusal) (n at : ℕ) → number r ≡ n → position_after n at ≡ at
-stays r zero at e = absurd (number-some r e)
-stays r (suc n) at e = refl
+pub stays : (n at : ℕ) → 0 < n → position_after n at ≡ at
+stays zero at h = absurd (not-suc-le-zero h)
+stays (suc n) at h = refl
+
+pub number_positive : (r : Refusal) → 0 < number r
+number_positive r = go (number r) (number-some r)
+  where
+    go : (n : ℕ) → (n ≡ 0 → ⊥) → 0 < n
+    go zero h = absurd (h refl)
+    go (suc n) h = omega arith
 
 -- the rank of a member that is given: no less than what is asked, and below 512
 pub rank-bounds : (nodes links least at : ℕ) (s : List ℕ) → member_refusal nodes links least (drop at s) ≡ 0 → get_or s (at + 1) 0 < 256
@@ -72,3 +80,20 @@ laid_none list ranks done e = rw e
 
 pub moved_none : (at : ℕ) (ranks : List ℕ) → ranks ≡ [] → at ≡ at + 2 * length ranks
 moved_none at ranks e = rw e (omega arith)
+
+-- ---- a member is refused: those from it on are refused with its number, and no rank of them is given
+
+module _ (nodes links least left at : ℕ) (s : List ℕ) (h : 0 < member_refusal nodes links least (drop at s)) where
+  some : member_refusal nodes links least (drop at s) ≡ 0 → ⊥
+  some z = omega (arith, z, h)
+
+  pub refused_there : 0 < left → members_refusal nodes links least left (drop at s) ≡ member_refusal nodes links least (drop at s)
+  refused_there more = members_step nodes links least left at s more ∙ first-stop _ _ some
+
+  pub none_laid : (list : List ℕ) (done : ℕ) → sets list done (ranks_given nodes links least left (drop at s)) ≡ list
+  none_laid list done = rw (ranks-stop nodes links least left (drop at s) some)
+
+  pub none_passed : length (ranks_given nodes links least left (drop at s)) ≡ 0
+  none_passed = rw (ranks-stop nodes links least left (drop at s) some)
+
+pub ruleset member_refused = (number_positive, stays, refused_there, none_laid, none_passed)

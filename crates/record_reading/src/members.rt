@@ -11,6 +11,7 @@ use mass::Refusal;
 // Reads `count` members by steps of the reader from a position on: each, 1 then 10. The ranks of those that are given, up to the first that
 // is refused, are laid down from the start. A refusal leaves them, and the position after them. Ranks rise and are below 512, so there is
 // room for all. For the test program: no call of the instrument uses it.
+#[tactic(auto, using(crate::proofs::StepLaws::member_refused))]
 pub fn read_members(
     s: &[u8],
     at: &mut usize,

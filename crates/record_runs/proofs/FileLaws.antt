@@ -7,6 +7,7 @@ use Prim.Native.Nat.{ℕ}
 use lib.ListN.{length}
 use Rattle.mass.specs.Refusal.{first}
 use Rattle.mass.specs.declared.refusal.Refusal.{Refusal}
+use Rattle.mass.proofs.RefusalLaws.{stops}
 use Rattle.plan.specs.Plan.{Plan}
 use Rattle.plan.specs.Layout.{Bytes}
 use Rattle.plan.specs.Lists.{link_bytes}
@@ -48,3 +49,6 @@ ran-plan b bytes h ks vs lo up lo' up' t z eh el ev o =
     let v = ev ∙ ap (λ (n : ℕ). filled_records n (event_records (plan_of b).events) no-events) (sym z) in
     ran-file b bytes (sym (full-rooms b) ∙ sym z) lo up t lo' up'
     (subst (λ (x : Header × (List ℕ × List Event)). Outcome (in_records x.0 x.1.0 x.1.1) lo up t lo' up') (λ i. (eh i, (l i, v i))) o)
+
+-- what closes the goals of a reading that is refused: its number decides, and with room for every link and event it is the file's
+pub ruleset file_refused = (stops, full-rooms)

@@ -9,6 +9,7 @@ use record_lists::{Event, write_records};
 use record_reading::read_records;
 
 // Reads a plan into a list of records of its own, and writes it again: the bytes that are accepted are copied. A refusal changes nothing.
+#[tactic(auto, using(crate::proofs::FileLaws::file_refused), unfolding(crate::specs::Copying::copy_number))]
 pub fn copy_plan(s: &[u8], out: &mut [u8]) -> Result<usize, Refusal>
     ensures number { number_in result ≡ copy_number s.now (length out.old) }
     ensures size { IfOk result (λ n. n ≡ length s.now) }

@@ -16,6 +16,7 @@ use record_reading::read_records;
 
 // Reads a plan into a list of records of its own, and runs over all its pairs: fills the two lists with the bounds of the pairs, in order,
 // and answers the examined count, complete and E. A refusal changes nothing.
+#[tactic(auto, using(crate::proofs::FileLaws::file_refused), unfolding(crate::specs::Running::file_number))]
 pub fn run_plan(s: &[u8], lower: &mut [u64], upper: &mut [u64]) -> Result<Totals, Refusal>
     ensures number { number_in result ≡ file_number s.now (length lower.old) (length upper.old) }
     ensures totals { IfOk result (λ t. t ≡ totals_of (plan_of s.now)) }

@@ -9,11 +9,12 @@ use lib.ListN.{length, take, drop}
 use lib.Seq.{sets, sets-eq, take_at, take_all, length-sets}
 use Rattle.mass.specs.Refusal.{first, number}
 use Rattle.mass.specs.declared.refusal.Refusal.{Refusal}
-use Rattle.mass.proofs.RefusalLaws.{stops, passes, last}
+use Rattle.mass.proofs.RefusalLaws.{stops, passes, last, number-some}
 use Rattle.refusals.specs.Tests.{room_test}
 use Rattle.refusals.proofs.TestLaws.{room-pass}
 use Rattle.plan.specs.Plan as plan
 use Rattle.plan.specs.Calls.{filled}
+use Rattle.plan.proofs.FilledLaws.{filled_none}
 use Rattle.record_lists.specs.Events.{words_of, records_of}
 use Rattle.record_lists.specs.declared.Event.{Event}
 use Rattle.record_lists.proofs.EventLaws.{length-words, words_append}
@@ -50,26 +51,33 @@ module _ (room : ℕ) (b : List ℕ) (c : Counts) (p : c ≡ counts_of b) (e : r
 -- ---- a sheet read into 128 records, and their words handed over
 
 -- with room for 128 events, a reading refuses what the check refuses
-full-room : (b : List ℕ) → read_sheet_refusal 128 b ≡ sheet_refusal b
+pub full_room : (b : List ℕ) → read_sheet_refusal 128 b ≡ sheet_refusal b
 unfolding read_sheet_refusal first
-full-room b = go (sheet_refusal b) refl
+full_room b = go (sheet_refusal b) refl
   where
     go : (n : ℕ) → sheet_refusal b ≡ n → first (n ∷ room_test 128 (lines_in b) ∷ []) ≡ n
     go zero e = rw (room-pass 128 (lines_in b) (accepted-counts b e).2)
     go (suc n) e = refl
 
--- what it refuses, every reading refuses
-pub refused-alike : (room : ℕ) (b : List ℕ) (r : Refusal) → number r ≡ read_sheet_refusal 128 b → number r ≡ read_sheet_refusal room b
+-- what the check refuses, every reading refuses, and hands nothing over
+pub refused_alike : (room : ℕ) (b : List ℕ) (r : Refusal) → number r ≡ sheet_refusal b → read_sheet_refusal room b ≡ number r
 unfolding read_sheet_refusal
-refused-alike room b r e = stops r _ (e ∙ full-room b)
+refused_alike room b r e = sym (stops r _ e)
+
+pub left_alone : (room : ℕ) (b : List ℕ) (r : Refusal) (words list : List ℕ) → number r ≡ sheet_refusal b
+    → filled (read_sheet_refusal room b) words list ≡ list
+left_alone room b r words list e =
+    sym (filled_none (read_sheet_refusal room b) words list (λ z. number-some r (sym (refused_alike room b r e) ∙ z)))
+
+pub ruleset sheet_refused = (full_room, refused_alike, left_alone)
 
 pub accepted : (b : List ℕ) → 0 ≡ read_sheet_refusal 128 b → sheet_refusal b ≡ 0
-accepted b e = sym (e ∙ full-room b)
+accepted b e = sym (e ∙ full_room b)
 
 -- an accepted sheet is refused with 12 alone
 pub room-decides : (room : ℕ) (b : List ℕ) (c : Counts) → c ≡ counts_of b → 0 ≡ read_sheet_refusal 128 b → room_test room c.lines ≡ read_sheet_refusal room b
 unfolding read_sheet_refusal counts_of
-room-decides room b c p e = rw p (passes _ (e ∙ full-room b) (last refl))
+room-decides room b c p e = rw p (passes _ (e ∙ full_room b) (last refl))
 
 -- the words of the events, out of the array in which the words of the records were laid down
 module _ (b : List ℕ) (e : sheet_refusal b ≡ 0) (words : List ℕ) (long : length words ≡ 512) where

@@ -31,6 +31,7 @@ pub fn read_records(s: &[u8], events: &mut [Event]) -> Result<Counts, Refusal>
 
 // Reads a sheet into a list of records of its own, and hands their words over to a lent list, four to an event. A refusal changes
 // nothing.
+#[tactic(auto, using(crate::proofs::SheetRecordsLaws::sheet_refused))]
 pub fn read_by_records(s: &[u8], events: &mut [u64]) -> Result<Counts, Refusal>
     ensures number { number_in result ≡ read_sheet_number s.now events.old }
     ensures counts { IfOk result (λ c. c ≡ counts_of s.now) }

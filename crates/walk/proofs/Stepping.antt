@@ -38,8 +38,8 @@ starts count threshold words allowed at stack s = record { passed = 0; ends = re
 module _ (count threshold : ℕ) (words : List ℕ) (at₀ : ℕ) (stack₀ : List ℕ) (allowed at left : ℕ) (stack : List ℕ)
     (g : Passing count threshold words at₀ stack₀ allowed at left stack) where
   -- none is handed out: no more may be reached, or none is to come
-  pub none-found : (at < 512 → 0 < left → ⊥) → StepTaken count threshold words at₀ stack₀ allowed stack (record { at = at; left = left; found = None })
-  none-found over =
+  pub none_found : (at < 512 → 0 < left → ⊥) → StepTaken count threshold words at₀ stack₀ allowed stack (record { at = at; left = left; found = None })
+  none_found over =
       record {
         passed = g.passed;
         ends = g.ends;

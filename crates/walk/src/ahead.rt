@@ -208,6 +208,7 @@ fn delay(stack: &mut [u64; 512], at: usize, run: u64) -> usize
 
 // The next relevant scenario among the ends that may still be reached: passes over dropped ends, counting each. Those of a descent's
 // dropped ends that may not be reached are laid down again.
+#[tactic(auto, using(crate::proofs::Stepping::none_found))]
 pub fn next_relevant(
     count: u64,
     threshold: u64,

@@ -1,22 +1,9 @@
 -- `sheet_records::read_by_records` meets its contract: the words of the records that were read are handed over. Assumes nothing.
 use mathlib.Core.Path.{refl, sym, ◌∙◌}
-use Prim.Native.Nat.{◌/◌}
-use lib.ListN.{length, replicate}
-use Rattle.mass.proofs.RefusalLaws.{number-some, hands-on}
-use Rattle.plan.proofs.FilledLaws.{filled_none}
-use Rattle.sheets.specs.SheetCalls.{read_sheet_number, sheet_words}
-use Rattle.sheet_records.proofs.SheetRecordsLaws.{count-bounds, refused-alike, room-decides, handed-over}
+use lib.ListN.{replicate}
+use Rattle.mass.proofs.RefusalLaws.{hands-on}
+use Rattle.sheet_records.proofs.SheetRecordsLaws.{count-bounds, room-decides, handed-over}
 use Rattle.sheet_records.proofs.read_by_records.Goals as goal
-
-pub returns-in_err-counts-clause-number : goal.returns-in_err-counts-clause-number
-returns-in_err-counts-clause-number c =
-    hands-on _ _ c.from_residual.ensures (refused-alike _ c.args.s.now _ c.in_err-counts.ensures.number)
-
-pub returns-in_err-counts-clause-events : goal.returns-in_err-counts-clause-events
-returns-in_err-counts-clause-events c =
-    let a = c.args in
-    filled_none (read_sheet_number a.s.now a.events.now) (sheet_words a.s.now) a.events.now
-    (λ z. number-some _ (refused-alike (length a.events.now / 4) a.s.now _ c.in_err-counts.ensures.number ∙ z))
 
 pub hand_over-requires : goal.hand_over-requires
 hand_over-requires c = (count-bounds 128 c.args.s.now _ c.in_ok-counts.ensures.counts (sym c.in_ok-counts.ensures.number)).0

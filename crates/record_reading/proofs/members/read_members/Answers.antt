@@ -3,38 +3,12 @@ use mathlib.Core.Path.{◌≡◌, refl, sym, ◌∙◌, ap}
 use Prim.Native.Nat.{ℕ, ◌+◌, ◌-◌}
 use native.Mathlib.Omega.{arith}
 use lib.ListN.{drop}
-use Rattle.mass.proofs.RefusalLaws.{stops, passes, last, hands-on, number-some}
+use Rattle.mass.proofs.RefusalLaws.{passes, last}
 use Rattle.plan.proofs.FileLawsSteps.{members_step, members-none}
 use Rattle.record_reading.specs.Steps.{position_after}
-use Rattle.record_reading.proofs.StepLaws.{stays, rank-bounds, ranks-more, ranks-stop, ranks-none}
+use Rattle.record_reading.proofs.StepLaws.{rank-bounds, ranks-more, ranks-none}
 use Rattle.record_reading.proofs.StepLaws.{laid_more, moved_more, laid_none, moved_none}
 use Rattle.record_reading.proofs.members.read_members.Goals as goal
-
--- the step is refused: no rank is given, and the members are refused with its number
-pub returns-in_err-read_member-clause-number : goal.returns-in_err-read_member-clause-number
-returns-in_err-read_member-clause-number c =
-    let a = c.args in
-    let l = c.loop-i in
-    hands-on _ _ c.from_residual.ensures
-    (stops _ _ c.in_err-read_member.ensures.number
-    ∙ sym (members_step a.nodes a.links l.least (a.count - l.i) l.at a.s.now (omega arith))
-    ∙ l.invariant.refused)
-
-pub returns-in_err-read_member-clause-position : goal.returns-in_err-read_member-clause-position
-returns-in_err-read_member-clause-position c =
-    let a = c.args in
-    let l = c.loop-i in
-    let m = c.in_err-read_member.ensures in
-    m.position ∙ stays _ _ l.at m.number
-    ∙ moved_none l.at _ (ranks-stop a.nodes a.links l.least (a.count - l.i) (drop l.at a.s.now) (λ z. number-some _ (m.number ∙ z)))
-    ∙ l.invariant.moved
-
-pub returns-in_err-read_member-clause-out : goal.returns-in_err-read_member-clause-out
-returns-in_err-read_member-clause-out c =
-    let a = c.args in
-    let l = c.loop-i in
-    let m = c.in_err-read_member.ensures in
-    laid_none l.out _ l.i (ranks-stop a.nodes a.links l.least (a.count - l.i) (drop l.at a.s.now) (λ z. number-some _ (m.number ∙ z))) ∙ l.invariant.laid
 
 -- the step gives a member
 pub bounds-out-i : goal.bounds-out-i

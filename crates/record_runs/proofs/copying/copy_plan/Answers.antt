@@ -1,18 +1,9 @@
 -- `record_runs::copying::copy_plan` meets its contract: a plan that was read into records and is written again is the file that was read.
 -- Assumes nothing.
-use mathlib.Core.Path.{◌∙◌}
 use native.Mathlib.Omega.{arith}
-use Rattle.mass.proofs.RefusalLaws.{stops, hands-on}
 use Rattle.plan_reading.proofs.LoadedLaws.{bytes-each}
-use Rattle.plan_reading.proofs.ReaderLawsAnswer.{full-rooms}
-use Rattle.record_runs.specs.Copying.{copy_number}
 use Rattle.record_runs.proofs.CopyLaws.{copied-plan}
 use Rattle.record_runs.proofs.copying.copy_plan.Goals as goal
-
-pub returns-in_err-header-clause-number : goal.returns-in_err-header-clause-number
-unfolding copy_number
-returns-in_err-header-clause-number c =
-    hands-on _ _ c.from_residual.ensures (stops _ _ (c.in_err-header.ensures.number ∙ full-rooms c.args.s.now))
 
 pub returns : goal.returns
 returns c =

@@ -2,13 +2,10 @@
 -- come. The measure is how many ends are to come. Assumes nothing.
 use mathlib.Core.Path.{sym}
 use native.Mathlib.Omega.{arith}
-use Rattle.walk.proofs.Stepping.{none-found, further}
+use Rattle.walk.proofs.Stepping.{further}
 use Rattle.walk.proofs.ahead.next_relevant.Goals as goal
 
 pub loop-top-preserved : goal.loop-top-preserved
 loop-top-preserved c =
-    further _ _ _ c.args.at c.args.stack.now _ _ _ _ c.loop-top.invariant c.if-left-gt0.true _ _ c.descend-r.ensures (sym c.if-is_some.ensures)
+    further _ _ _ c.args.at c.args.stack.now _ _ _ _ c.loop-top.invariant (omega arith) _ _ c.descend-r.ensures (sym c.if-is_some.ensures)
     _ (omega arith) _ _ c.delay-top.ensures
-
-pub returns-after-loop-top : goal.returns-after-loop-top
-returns-after-loop-top c = none-found _ _ _ _ _ _ _ _ _ c.loop-top.invariant (λ some left. omega (arith, c.loop-top-test.false))
