@@ -1,5 +1,5 @@
--- Laws of the reader's steps: where the position stays, the rank of a member, and one turn of the loop that reads members by steps.
--- Assumes nothing.
+-- Laws of the reader's steps: where the position stays, the rank of a member, one turn of the loop that reads members by steps, and what a
+-- refused member leaves. Assumes nothing.
 use mathlib.Core.Path.{◌≡◌, refl, ◌∙◌}
 use mathlib.Core.List.{List, [], ◌∷◌}
 use Prim.Native.Nat.{ℕ, zero, suc, ◌+◌, ◌-◌, ◌*◌, ◌≤◌, ◌<◌}
@@ -25,6 +25,7 @@ pub stays : (n at : ℕ) → 0 < n → position_after n at ≡ at
 stays zero at h = absurd (not-suc-le-zero h)
 stays (suc n) at h = refl
 
+-- a refusal's number, as an order
 pub number_positive : (r : Refusal) → 0 < number r
 number_positive r = go (number r) (number-some r)
   where
@@ -81,19 +82,22 @@ laid_none list ranks done e = rw e
 pub moved_none : (at : ℕ) (ranks : List ℕ) → ranks ≡ [] → at ≡ at + 2 * length ranks
 moved_none at ranks e = rw e (omega arith)
 
--- ---- a member is refused: those from it on are refused with its number, and no rank of them is given
+-- ---- a member is refused
 
 module _ (nodes links least left at : ℕ) (s : List ℕ) (h : 0 < member_refusal nodes links least (drop at s)) where
   some : member_refusal nodes links least (drop at s) ≡ 0 → ⊥
   some z = omega (arith, z, h)
 
+  -- the members from it on are refused with its number
   pub refused_there : 0 < left → members_refusal nodes links least left (drop at s) ≡ member_refusal nodes links least (drop at s)
   refused_there more = members_step nodes links least left at s more ∙ first-stop _ _ some
 
-  pub none_laid : (list : List ℕ) (done : ℕ) → sets list done (ranks_given nodes links least left (drop at s)) ≡ list
-  none_laid list done = rw (ranks-stop nodes links least left (drop at s) some)
+  -- no rank of them is laid down, and the position moves past none
+  pub refused_laid : (list : List ℕ) (done : ℕ) → sets list done (ranks_given nodes links least left (drop at s)) ≡ list
+  refused_laid list done = rw (ranks-stop nodes links least left (drop at s) some)
 
-  pub none_passed : length (ranks_given nodes links least left (drop at s)) ≡ 0
-  none_passed = rw (ranks-stop nodes links least left (drop at s) some)
+  pub refused_passed : length (ranks_given nodes links least left (drop at s)) ≡ 0
+  refused_passed = rw (ranks-stop nodes links least left (drop at s) some)
 
-pub ruleset member_refused = (number_positive, stays, refused_there, none_laid, none_passed)
+-- what closes the goals of members of which one is refused
+pub ruleset member_refused = (number_positive, stays, refused_there, refused_laid, refused_passed)

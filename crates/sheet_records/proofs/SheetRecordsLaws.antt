@@ -59,16 +59,18 @@ full_room b = go (sheet_refusal b) refl
     go zero e = rw (room-pass 128 (lines_in b) (accepted-counts b e).2)
     go (suc n) e = refl
 
--- what the check refuses, every reading refuses, and hands nothing over
+-- what the check refuses, every reading refuses
 pub refused_alike : (room : ℕ) (b : List ℕ) (r : Refusal) → number r ≡ sheet_refusal b → read_sheet_refusal room b ≡ number r
 unfolding read_sheet_refusal
 refused_alike room b r e = sym (stops r _ e)
 
+-- and hands nothing over
 pub left_alone : (room : ℕ) (b : List ℕ) (r : Refusal) (words list : List ℕ) → number r ≡ sheet_refusal b
     → filled (read_sheet_refusal room b) words list ≡ list
 left_alone room b r words list e =
     sym (filled_none (read_sheet_refusal room b) words list (λ z. number-some r (sym (refused_alike room b r e) ∙ z)))
 
+-- what closes the goals of a reading whose sheet is refused
 pub ruleset sheet_refused = (full_room, refused_alike, left_alone)
 
 pub accepted : (b : List ℕ) → 0 ≡ read_sheet_refusal 128 b → sheet_refusal b ≡ 0
